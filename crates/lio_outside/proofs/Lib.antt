@@ -1,0 +1,5 @@
+pub mod FileMapLemmas
+pub mod CountLemmas
+pub mod KeepLemmas
+mod EntriesLemmas
+mod PiecesLemmas

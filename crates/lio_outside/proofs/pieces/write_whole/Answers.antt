@@ -1,0 +1,7 @@
+use Rattle.lio_outside.proofs.PiecesLemmas.{Appends-more}
+use Rattle.lio_outside.proofs.pieces.write_whole.Goals as goal
+
+pub loop-rest-preserved : goal.loop-rest-preserved
+loop-rest-preserved g c =
+    let (done, split, appended) = c.loop-rest.invariant in
+    Appends-more _ _ _ _ done c.loop-rest.rest.now c.in_ok-count.count split appended c.in_ok-count.ensures.bytes

@@ -1,0 +1,151 @@
+//! A store in memory whose calls can be made to fail.
+ghost use Rattle.std.specs.Prelude.{◌≡◌, ◌↔◌, ◌+◌, ◌≤◌, None, Some, IfOk, OnOk, OnErr, IsErrOf, IsOkUnless, IsTrue, vec_len};
+ghost use Rattle.std.specs.Option.{option_copied};
+ghost use Rattle.lio_outside.specs.FileMap.{bytes_of};
+ghost use Rattle.lio_outside.specs.Fetch.{given};
+ghost use Rattle.lio_outside.specs.MemState.{fresh, fails_next, with_mem_file, after_call, after_failure};
+
+use crate::files::NamedFiles;
+use crate::store::{FetchFault, KeepFault, Store};
+use std::alloc::Global;
+use std::marker::Model;
+
+/// A store in memory that tells its files. It numbers its calls of `fetch` and `keep` from 0, and
+/// fails those in its list. A call that fails changes no file, and raises the count of faults by one.
+/// A call that is refused for want of memory is not numbered.
+#[derive(Debug, Drop)]
+pub struct MemStore {
+    files: NamedFiles,
+    failing: Vec<u64>,
+    calls: u64,
+    faults: u64,
+}
+
+impl Model for MemStore {
+    ghost use Rattle.lio_outside.specs.MemState.{MemState, mem_state_code};
+
+    ghost Value = { MemState };
+
+    ghost coded = { mem_state_code };
+
+    ghost view = { λ a. record { files = a.files; failing = a.failing.items; calls = a.calls; faults = a.faults } };
+}
+
+impl MemStore {
+    /// A store without files, whose calls with the numbers `failing` are to fail.
+    pub fn new(alloc: Global, failing: Vec<u64>) -> Self
+        ensures { result ≡ fresh failing.items }
+    {
+        MemStore {
+            files: NamedFiles::new(alloc),
+            failing,
+            calls: 0,
+            faults: 0,
+        }
+    }
+
+    /// Puts a file in, in place of what was under its name. This is no numbered call.
+    pub fn put(&mut self, alloc: Global, name: &[u8], bytes: &[u8]) -> Result<(), KeepFault>
+        ensures ok { OnOk result (self.new ≡ with_mem_file self.old name.now bytes.now) }
+        ensures err { OnErr result (self.new ≡ self.old) }
+        ensures only_error { IsOkUnless result KeepFault.NoMemory }
+    {
+        self.files.put(alloc, name, bytes)
+    }
+
+    /// The bytes of a file, `None` where no file has that name.
+    pub fn get(&self, name: &[u8]) -> Option<&[u8]>
+        ensures { option_copied result ≡ bytes_of self.now.files name.now }
+    {
+        self.files.get(name)
+    }
+
+    /// How many calls were answered. It stands still at the greatest number.
+    pub fn call_count(&self) -> u64
+        ensures { result ≡ self.now.calls }
+    {
+        self.calls
+    }
+
+    /// How many faults were counted. It stands still at the greatest number.
+    pub fn fault_count(&self) -> u64
+        ensures { result ≡ self.now.faults }
+    {
+        self.faults
+    }
+
+    /// Whether the next call is to fail.
+    fn fails_next(&self) -> bool
+        ensures { result ≡ fails_next self.now }
+    {
+        self.failing.contains(&self.calls)
+    }
+
+    /// Counts a call that was carried out.
+    fn count_call(&mut self)
+        ensures { self.new ≡ after_call self.old }
+    {
+        self.calls = self.calls.saturating_add(1);
+    }
+
+    /// Counts a call that failed.
+    fn count_failure(&mut self)
+        ensures counted { self.new ≡ after_failure self.old }
+        ensures never_falls { self.old.faults ≤ self.new.faults }
+    {
+        self.count_call();
+        self.faults = self.faults.saturating_add(1);
+    }
+}
+
+impl Store for MemStore {
+    ghost holds = { λ s. Some s.files };
+
+    ghost faults = { λ s. s.faults };
+
+    fn fetch(&mut self, alloc: Global, name: &[u8], limit: u32) -> Result<Vec<u8>, FetchFault>
+        // When each answer comes.
+        ensures ok { IfOk result (λ v. given self.old.files name.now limit ≡ Some v.items) }
+        ensures ok_within_limit { IfOk result (λ v. vec_len v ≤ limit + 1) }
+        ensures missing { IsErrOf result FetchFault.Missing → bytes_of self.old.files name.now ≡ None }
+        ensures failed { IsErrOf result FetchFault.Failed ↔ IsTrue (fails_next self.old) }
+
+        // The store after each answer.
+        ensures after_ok { OnOk result (self.new ≡ after_call self.old) }
+        ensures after_missing { IsErrOf result FetchFault.Missing → self.new ≡ after_call self.old }
+        ensures after_failed { IsErrOf result FetchFault.Failed → self.new ≡ after_failure self.old }
+        ensures after_no_memory { IsErrOf result FetchFault.NoMemory → self.new ≡ self.old }
+        ensures count_never_falls { self.old.faults ≤ self.new.faults }
+    {
+        if self.fails_next() {
+            self.count_failure();
+            return Err(FetchFault::Failed);
+        }
+        match self.files.fetch(alloc, name, limit) {
+            Err(FetchFault::NoMemory) => Err(FetchFault::NoMemory),
+            answer => {
+                self.count_call();
+                answer
+            }
+        }
+    }
+
+    fn keep(&mut self, alloc: Global, name: &[u8], bytes: &[u8]) -> Result<(), KeepFault>
+        // When it fails.
+        ensures failed { IsErrOf result KeepFault.Failed ↔ IsTrue (fails_next self.old) }
+
+        // The store after each answer.
+        ensures after_ok { OnOk result (self.new ≡ after_call (with_mem_file self.old name.now bytes.now)) }
+        ensures after_failed { IsErrOf result KeepFault.Failed → self.new ≡ after_failure self.old }
+        ensures after_no_memory { IsErrOf result KeepFault.NoMemory → self.new ≡ self.old }
+        ensures count_never_falls { self.old.faults ≤ self.new.faults }
+    {
+        if self.fails_next() {
+            self.count_failure();
+            return Err(KeepFault::Failed);
+        }
+        self.files.put(alloc, name, bytes)?;
+        self.count_call();
+        Ok(())
+    }
+}

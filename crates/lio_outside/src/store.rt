@@ -1,0 +1,67 @@
+//! A store of named bytes.
+ghost use Rattle.std.specs.Prelude.{◌≡◌, ℕ, ◌+◌, ◌≤◌, Option, IfOk, OnOk, IsErrOf, vec_len};
+ghost use Rattle.lio_outside.specs.FileMap.{FileMap};
+ghost use Rattle.lio_outside.specs.Count.{Rose};
+ghost use Rattle.lio_outside.specs.Fetch.{IsGiven, IsMissing};
+ghost use Rattle.lio_outside.specs.Keep.{told_with, PartlyKept};
+
+use std::alloc::Global;
+use thiserror::Error;
+
+/// Why a file was not fetched.
+#[derive(Clone, Copy, Debug, PartialEq, Eq, Error)]
+pub enum FetchFault {
+    /// No file has that name.
+    #[error("no file has that name")]
+    Missing,
+    /// The file could not be read.
+    #[error("the file could not be read")]
+    Failed,
+    /// No memory was left. The store is as before the call.
+    #[error("out of memory")]
+    NoMemory,
+}
+
+/// Why bytes were not kept.
+#[derive(Clone, Copy, Debug, PartialEq, Eq, Error)]
+pub enum KeepFault {
+    /// The file could not be written. It may hold a first part of the bytes.
+    #[error("the file could not be written")]
+    Failed,
+    /// No memory was left. The store is as before the call.
+    #[error("out of memory")]
+    NoMemory,
+}
+
+/// A store of named bytes. Its meanings are `holds`, the files that it tells of, or `None` where it
+/// tells nothing of them, and `faults`, a count that never falls.
+pub trait Store {
+    ghost holds: { Self → Option FileMap };
+
+    ghost faults: { Self → ℕ };
+
+    /// The first `limit + 1` bytes under `name`, or all where there are fewer.
+    fn fetch(&mut self, alloc: Global, name: &[u8], limit: u32) -> Result<Vec<u8>, FetchFault>
+        // Whatever the answer.
+        ensures files_stay { holds self.new ≡ holds self.old }
+        ensures count_never_falls { faults self.old ≤ faults self.new }
+
+        // When each answer comes.
+        ensures ok { IfOk result (λ v. IsGiven (holds self.old) name.now limit v.items) }
+        ensures ok_within_limit { IfOk result (λ v. vec_len v ≤ limit + 1) }
+        ensures missing { IsErrOf result FetchFault.Missing → IsMissing (holds self.old) name.now (faults self.old) (faults self.new) }
+        ensures failed_counted { IsErrOf result FetchFault.Failed → Rose (faults self.old) (faults self.new) }
+        ensures no_memory { IsErrOf result FetchFault.NoMemory → faults self.new ≡ faults self.old };
+
+    /// Puts `bytes` under `name`, in place of what was there.
+    fn keep(&mut self, alloc: Global, name: &[u8], bytes: &[u8]) -> Result<(), KeepFault>
+        // Whatever the answer.
+        ensures count_never_falls { faults self.old ≤ faults self.new }
+
+        // What the store holds after each answer, and when `Failed` comes.
+        ensures ok { OnOk result (holds self.new ≡ told_with (holds self.old) name.now bytes.now) }
+        ensures failed_partly { IsErrOf result KeepFault.Failed → PartlyKept (holds self.old) (holds self.new) name.now bytes.now }
+        ensures failed_counted { IsErrOf result KeepFault.Failed → Rose (faults self.old) (faults self.new) }
+        ensures no_memory { IsErrOf result KeepFault.NoMemory → holds self.new ≡ holds self.old }
+        ensures no_memory_count { IsErrOf result KeepFault.NoMemory → faults self.new ≡ faults self.old };
+}

@@ -1,0 +1,10 @@
+pub mod Node
+pub mod Task
+pub mod Step
+pub mod Run
+pub mod Rounds
+pub mod ChannelBytes
+pub mod Start
+pub mod StateOf
+pub mod Took
+pub mod MachineState

@@ -1,0 +1,47 @@
+//! Journals.
+
+ghost use Rattle.std.specs.Prelude.{◌≡◌, []};
+
+use lio_values::Entry;
+use std::alloc::Global;
+use std::marker::Model;
+
+/// The entries of a run, in order.
+#[derive(Debug, Drop)]
+pub struct Journal {
+    entries: Vec<Entry>,
+}
+
+impl Model for Journal {
+    ghost use Rattle.std.specs.Prelude.{List};
+    ghost use Rattle.lio_values.specs.declared.entry.Entry.{Entry};
+
+    ghost Value = { List Entry };
+
+    ghost view = { λ journal. journal.entries.items };
+}
+
+impl Journal {
+    /// The journal of these entries.
+    pub fn of(entries: Vec<Entry>) -> Journal
+        ensures { result ≡ entries.items }
+    {
+        Journal { entries }
+    }
+
+    /// No entries.
+    pub fn new(alloc: Global) -> Journal
+        ensures { result ≡ [] }
+    {
+        Journal {
+            entries: Vec::new(alloc),
+        }
+    }
+
+    /// The entries in order.
+    pub fn entries(&self) -> &[Entry]
+        ensures { result.now ≡ self.now }
+    {
+        self.entries.as_slice()
+    }
+}
