@@ -14,7 +14,8 @@ use std::{fs, io};
 /// A store over files, whose names are paths in UTF-8. It tells nothing of what they hold, and counts
 /// a fault at each answer `Missing` and `Failed`. It is seen as that count.
 ///
-/// `Missing` is the answer for a name that isn't UTF-8 or under which there is no file. What is kept
+/// `Missing` is the answer for a name that isn't UTF-8 or under which there is no file; `keep` answers
+/// `Failed` for a name that isn't UTF-8. What is kept
 /// goes into a new file beside the old one, named with `.part` at the end, which then takes the name,
 /// so that a failure loses nothing. Where the name is no plain file, as a device or a link, or where
 /// that neighbour can't be made, it is written in place.

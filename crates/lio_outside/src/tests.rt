@@ -9,7 +9,8 @@ use std::alloc::{Allocator, Global};
 use std::cell::Cell;
 use std::fs::{Metadata, OpenFile, OpenOptions, Permissions};
 use std::io::{ErrorKind, Read, Seek, SeekFrom, Write};
-use std::rt::Files;
+use std::process::{Abort, Process};
+use std::rt::{Env, Files};
 use std::test::Fail;
 use std::{env, fs, io, process};
 
@@ -39,21 +40,49 @@ fn copy_file<S: Store>(
         .map_err(CopyFault::Keep)
 }
 
+/// Fetches from any store and compares the answer.
+fn check_fetch<S: Store>(
+    rt: &impl Abort,
+    store: &mut S,
+    alloc: Global,
+    (name, limit): (&[u8], u32),
+    want: Result<&[u8], FetchFault>,
+) {
+    match store.fetch(alloc, name, limit) {
+        Ok(bytes) => assert_eq!(rt; Ok(bytes.as_slice()), want),
+        Err(fault) => assert_eq!(rt; Err(fault), want),
+    }
+}
+
+/// Keeps in any store and compares the answer.
+fn check_keep<S: Store>(
+    rt: &impl Abort,
+    store: &mut S,
+    alloc: Global,
+    (name, bytes): (&[u8], &[u8]),
+    want: Result<(), KeepFault>,
+) {
+    assert_eq!(rt; store.keep(alloc, name, bytes), want);
+}
+
 #[test]
 fn mem_store_fails_by_list(rt: HostRuntime) -> Result<(), Fail> {
     let alloc = rt.alloc();
     let mut store = MemStore::new(alloc, vec![in alloc; 2, 4]?);
     store.put(alloc, b"a", b"hello")?;
-    assert_eq!(rt; store.fetch(alloc, b"a", 2)?.as_slice(), b"hel".as_slice());
-    assert_eq!(rt; store.keep(alloc, b"b", b"new"), Ok(()));
-    assert_eq!(rt; store.keep(alloc, b"a", b"lost"), Err(KeepFault::Failed));
-    assert_eq!(rt; store.get(b"a"), Some(b"hello".as_slice()));
-    assert_eq!(rt;
-        store.fetch(alloc, b"c", 9).err(),
-        Some(FetchFault::Missing)
+    check_fetch(&rt, &mut store, alloc, (b"a", 2), Ok(b"hel"));
+    check_keep(&rt, &mut store, alloc, (b"b", b"new"), Ok(()));
+    check_keep(
+        &rt,
+        &mut store,
+        alloc,
+        (b"a", b"lost"),
+        Err(KeepFault::Failed),
     );
-    assert_eq!(rt; store.fetch(alloc, b"b", 9).err(), Some(FetchFault::Failed));
-    assert_eq!(rt; store.fetch(alloc, b"b", 9)?.as_slice(), b"new".as_slice());
+    check_fetch(&rt, &mut store, alloc, (b"c", 9), Err(FetchFault::Missing));
+    check_fetch(&rt, &mut store, alloc, (b"b", 9), Err(FetchFault::Failed));
+    check_fetch(&rt, &mut store, alloc, (b"b", 9), Ok(b"new"));
+    assert_eq!(rt; store.get(b"a"), Some(b"hello".as_slice()));
     assert_eq!(rt; (store.call_count(), store.fault_count()), (6, 2));
     Ok(())
 }
@@ -62,72 +91,75 @@ fn mem_store_fails_by_list(rt: HostRuntime) -> Result<(), Fail> {
 fn sure_store_keeps(rt: HostRuntime) -> Result<(), Fail> {
     let alloc = rt.alloc();
     let mut store = SureStore::new(alloc);
-    store.keep(alloc, b"a", b"hello")?;
+    check_keep(&rt, &mut store, alloc, (b"a", b"hello"), Ok(()));
     copy_file(alloc, &mut store, b"a", b"b", 3)?;
     assert_eq!(rt; store.get(b"b"), Some(b"hell".as_slice()));
-    assert_eq!(rt;
-        store.fetch(alloc, b"b", u32::MAX)?.as_slice(),
-        b"hell".as_slice()
-    );
-    assert_eq!(rt; store.fetch(alloc, b"", 0).err(), Some(FetchFault::Missing));
+    check_fetch(&rt, &mut store, alloc, (b"b", u32::MAX), Ok(b"hell"));
+    check_fetch(&rt, &mut store, alloc, (b"", 0), Err(FetchFault::Missing));
     Ok(())
+}
+
+/// A new folder of the system for this process.
+fn new_folder<R: Env + Files + Alloc>(rt: &R, process: Process) -> io::Result<String<R::A>> {
+    let temporary = env::temp_dir(rt)?;
+    let number = process::id(process);
+    let folder = format!(in rt.alloc(); "{}/lio_outside_{number}", temporary.as_str())?;
+    fs::create_dir(rt, folder.as_str())?;
+    Ok(folder)
 }
 
 #[test]
 fn real_store_over_a_folder(rt: HostRuntime) -> Result<(), Fail> {
     let alloc = rt.alloc();
-    let number = process::id(rt.process());
-    let name = format!(in alloc; "lio_outside_{number}")?;
-    let folder = env::temp_dir(&rt)?.join(alloc, name.as_str())?;
-    let folder = folder.as_str();
-    fs::create_dir(&rt, folder)?;
-    let in_folder = format!(in alloc; "{folder}/a.txt")?;
-    let part = format!(in alloc; "{folder}/a.txt.part")?;
-    let no_folder = format!(in alloc; "{folder}/none/a.txt")?;
-    let path = in_folder.as_bytes();
-
+    let folder = new_folder(&rt, rt.process())?;
+    let file = format!(in alloc; "{folder}/a.txt")?;
+    let part = format!(in alloc; "{file}.part")?;
+    let (path, part_path) = (file.as_bytes(), part.as_bytes());
     let mut store = RealStore::new(&rt);
-    assert_eq!(rt;
-        store.fetch(alloc, path, 9).err(),
-        Some(FetchFault::Missing)
-    );
-    assert_eq!(rt;
-        store.fetch(alloc, b"\xff", 9).err(),
-        Some(FetchFault::Missing)
-    );
-    assert_eq!(rt;
-        store.fetch(alloc, folder.as_bytes(), 9).err(),
-        Some(FetchFault::Failed)
-    );
-    assert_eq!(rt;
-        store.keep(alloc, folder.as_bytes(), b"x"),
-        Err(KeepFault::Failed)
-    );
-    assert_eq!(rt;
-        store.keep(alloc, no_folder.as_bytes(), b"x"),
-        Err(KeepFault::Failed)
-    );
-    assert_eq!(rt; store.fault_count(), 5);
 
-    assert_eq!(rt; store.keep(alloc, path, b"a first text"), Ok(()));
-    assert_eq!(rt; store.keep(alloc, path, b"hello"), Ok(()));
-    assert_eq!(rt;
-        store.fetch(alloc, path, 9)?.as_slice(),
-        b"hello".as_slice()
+    check_fetch(&rt, &mut store, alloc, (path, 9), Err(FetchFault::Missing));
+    check_fetch(
+        &rt,
+        &mut store,
+        alloc,
+        (b"\xff", 9),
+        Err(FetchFault::Missing),
     );
-    assert_eq!(rt; store.fetch(alloc, path, 2)?.as_slice(), b"hel".as_slice());
-    assert!(rt; !fs::exists(&rt, part.as_str())?);
+    check_fetch(
+        &rt,
+        &mut store,
+        alloc,
+        (folder.as_bytes(), 9),
+        Err(FetchFault::Failed),
+    );
+    check_keep(
+        &rt,
+        &mut store,
+        alloc,
+        (folder.as_bytes(), b"x"),
+        Err(KeepFault::Failed),
+    );
+    assert_eq!(rt; store.fault_count(), 4);
+
+    check_keep(&rt, &mut store, alloc, (path, b"a first text"), Ok(()));
+    check_keep(&rt, &mut store, alloc, (path, b"hello"), Ok(()));
+    check_fetch(&rt, &mut store, alloc, (path, 9), Ok(b"hello"));
+    check_fetch(&rt, &mut store, alloc, (path, 2), Ok(b"hel"));
+    check_fetch(
+        &rt,
+        &mut store,
+        alloc,
+        (part_path, 9),
+        Err(FetchFault::Missing),
+    );
 
     // Where the neighbour's name is taken, that file stays and the bytes are written in place.
     fs::write(&rt, part.as_str(), "mine")?;
-    assert_eq!(rt; store.keep(alloc, path, b"bye"), Ok(()));
-    assert_eq!(rt; store.fetch(alloc, path, 9)?.as_slice(), b"bye".as_slice());
-    assert_eq!(rt;
-        store.fetch(alloc, part.as_bytes(), 9)?.as_slice(),
-        b"mine".as_slice()
-    );
+    check_keep(&rt, &mut store, alloc, (path, b"bye"), Ok(()));
+    check_fetch(&rt, &mut store, alloc, (path, 9), Ok(b"bye"));
+    check_fetch(&rt, &mut store, alloc, (part_path, 9), Ok(b"mine"));
     assert_eq!(rt; store.fault_count(), 5);
-    fs::remove_dir_all(&rt, folder)?;
+    fs::remove_dir_all(&rt, folder.as_str())?;
     Ok(())
 }
 
@@ -279,41 +311,35 @@ fn real_store_over_failing_files(rt: HostRuntime) -> Result<(), Fail> {
         removed: Cell::new(0),
     };
     let mut store = RealStore::new(&files);
+
     // Short reads are joined, and a failure is met only past the bytes that were asked for.
-    assert_eq!(rt;
-        store.fetch(alloc, b"slow", 9)?.as_slice(),
-        b"xxxxx".as_slice()
-    );
-    assert_eq!(rt;
-        store.fetch(alloc, b"slow", 2)?.as_slice(),
-        b"xxx".as_slice()
-    );
-    assert_eq!(rt;
-        store.fetch(alloc, b"broken", 2)?.as_slice(),
-        b"xxx".as_slice()
-    );
-    assert_eq!(rt;
-        store.fetch(alloc, b"broken", 3).err(),
-        Some(FetchFault::Failed)
-    );
-    assert_eq!(rt;
-        store.fetch(alloc, b"busy", 3).err(),
-        Some(FetchFault::Failed)
-    );
+    for (name, limit, want) in [
+        ("slow", 9, Ok("xxxxx")),
+        ("slow", 2, Ok("xxx")),
+        ("broken", 2, Ok("xxx")),
+        ("broken", 3, Err(FetchFault::Failed)),
+        ("busy", 3, Err(FetchFault::Failed)),
+    ] {
+        let want = want.map(|text| text.as_bytes());
+        check_fetch(&rt, &mut store, alloc, (name.as_bytes(), limit), want);
+    }
     assert_eq!(rt; store.fault_count(), 2);
 
     // Short writes are joined, and a piece that writes nothing is a failure, which leaves no neighbour.
-    assert_eq!(rt; store.keep(alloc, b"slow", b"five!"), Ok(()));
-    assert_eq!(rt; (files.renamed.get(), files.removed.get()), (1, 0));
-    assert_eq!(rt;
-        store.keep(alloc, b"slow", b"sixth!"),
-        Err(KeepFault::Failed)
-    );
-    assert_eq!(rt;
-        store.keep(alloc, b"broken", b"four"),
-        Err(KeepFault::Failed)
-    );
-    assert_eq!(rt; store.keep(alloc, b"busy", b"four"), Err(KeepFault::Failed));
+    for (name, text, want) in [
+        ("slow", "five!", Ok(())),
+        ("slow", "sixth!", Err(KeepFault::Failed)),
+        ("broken", "four", Err(KeepFault::Failed)),
+        ("busy", "four", Err(KeepFault::Failed)),
+    ] {
+        check_keep(
+            &rt,
+            &mut store,
+            alloc,
+            (name.as_bytes(), text.as_bytes()),
+            want,
+        );
+    }
     assert_eq!(rt; (files.renamed.get(), files.removed.get()), (1, 3));
     assert_eq!(rt; store.fault_count(), 5);
     Ok(())

@@ -3,7 +3,7 @@ use Rattle.std.proofs.Common.{◌≡◌, ℕ, zero, suc, ◌+◌, ◌<◌, ◌�
 use Rattle.std.proofs.lemmas.List.{take_more}
 use Rattle.lio_values.specs.declared.entry.Entry.{Entry}
 use Rattle.lio_rounds.specs.Step.{Configuration, Turn, step, can}
-use Rattle.lio_rounds.specs.Run.{Run, run_from, IsComplete}
+use Rattle.lio_rounds.specs.Run.{Run, run_from, IsComplete, actors}
 use Rattle.lio_rounds.specs.Rounds.{Round, round, rounds, moved_first, tasks}
 use Rattle.lio_rounds.specs.MachineState.{MachineState, HasRun, RunsByRounds}
 use Rattle.lio_rounds.proofs.Runs.{first, run_from-append}
@@ -167,6 +167,13 @@ rounds-more old s new n before last =
       same_tasks = last.same_tasks ∙ before.same_tasks;
     }
 
+-- the entries of a run are those of its actors
+actors-run : (ticket : ℕ) (c : Configuration) (ks : List ℕ) (run : Run) → run_from ticket c ks ≡ Some run → actors run.entries ≡ ks
+actors-run ticket c [] run is = let e : record { entries = []; last = c } ≡ run = cc in subst (λ (r : Run). actors r.entries ≡ []) e refl
+actors-run ticket c (k ∷ ks) run is =
+    let f = first ticket c k ks run is in
+    subst (λ (r : Run). actors r.entries ≡ k ∷ ks) (sym f.is_run) (ap (λ (js : List ℕ). k ∷ js) (actors-run (ticket + 1) f.turn.after ks f.rest f.is_rest))
+
 no_items : (ks : List ℕ) → length ks ≡ 0 → ks ≡ []
 no_items [] is = refl
 no_items (k ∷ ks) is = absurd (omega arith)
@@ -179,11 +186,16 @@ rounds-end old s new n before last none =
     let same : round order (rounds n order old.configuration).after ≡ round (tasks s.configuration) s.configuration = rw (before.same_tasks, before.after) refl in
     let stays : s.configuration ≡ new.configuration = sym (round-nothing (tasks s.configuration) s.configuration still) ∙ last.after in
     let all = has_run-append old s new (rounds n order old.configuration).moved (round (tasks s.configuration) s.configuration).moved before.has_run last.has_run in
-    let actors : (rounds n order old.configuration).moved ++ (round (tasks s.configuration) s.configuration).moved ≡ (rounds n order old.configuration).moved = rw still (append-nil (rounds n order old.configuration).moved) in (
+    let none_more : (rounds n order old.configuration).moved ++ (round (tasks s.configuration) s.configuration).moved ≡ (rounds n order old.configuration).moved = rw still (append-nil (rounds n order old.configuration).moved) in
+    let ks : List ℕ = (rounds n order old.configuration).moved in
+    let has : HasRun old new ks = subst (λ (js : List ℕ). HasRun old new js) none_more all in
+    let took : actors has.added ≡ ks = actors-run (length old.entries) old.configuration ks (record { entries = has.added; last = new.configuration }) has.is_run in (
       record {
-        actors = (rounds n order old.configuration).moved;
-        has_run = subst (λ (ks : List ℕ). HasRun old new ks) actors all;
-        by_rounds = record { count = n; in_order = refl; last = ap (λ (r : Round). r.moved) same ∙ still };
+        added = has.added;
+        is_run = subst (λ (js : List ℕ). run_from (length old.entries) old.configuration js ≡ Some (record { entries = has.added; last = new.configuration })) (sym took) has.is_run;
+        entries = has.entries;
+        script = has.script;
+        by_rounds = record { count = n; in_order = took; last = ap (λ (r : Round). r.moved) same ∙ still };
       },
       subst (λ (c : Configuration). IsComplete c) stays (complete s.configuration still),
     )

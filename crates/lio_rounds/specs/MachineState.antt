@@ -3,7 +3,7 @@ use Rattle.std.specs.Prelude.{◌≡◌, ℕ, List, ◌++◌, length, Some}
 use Rattle.lio_values.specs.declared.entry.Entry.{Entry}
 use Rattle.lio_syntax.specs.declared.script.Stmt.{Stmt}
 use Rattle.lio_rounds.specs.Step.{Configuration}
-use Rattle.lio_rounds.specs.Run.{run_from}
+use Rattle.lio_rounds.specs.Run.{run_from, actors}
 use Rattle.lio_rounds.specs.Rounds.{IsByRounds}
 use Rattle.lio_rounds.specs.Took.{Took}
 
@@ -27,6 +27,8 @@ pub record HasRun (old new : MachineState) (ks : List ℕ) : Type 0 where
 
 -- a machine has run by rounds until one moved nothing
 pub record RunsByRounds (old new : MachineState) : Type 0 where
-  pub actors : List ℕ
-  pub has_run : HasRun old new actors
-  pub by_rounds : IsByRounds old.configuration actors
+  pub added : List Entry
+  pub is_run : run_from (length old.entries) old.configuration (actors added) ≡ Some (record { entries = added; last = new.configuration })
+  pub entries : new.entries ≡ old.entries ++ added
+  pub script : new.script ≡ old.script
+  pub by_rounds : IsByRounds old.configuration (actors added)

@@ -1,5 +1,5 @@
 -- Runs of a configuration, and when one is complete.
-use Rattle.std.specs.Prelude.{◌≡◌, ℕ, ◌+◌, false, List, [], ◌∷◌, Option, Some, None, option_and_then}
+use Rattle.std.specs.Prelude.{◌≡◌, ℕ, ◌+◌, false, map, List, [], ◌∷◌, Option, Some, None, option_and_then}
 use Rattle.lio_values.specs.declared.entry.Entry.{Entry}
 use Rattle.lio_rounds.specs.Step.{Configuration, step, can, entry_of}
 
@@ -23,6 +23,10 @@ run_from ticket c (k ∷ ks) =
 -- a run with tickets 0, 1, 2 and so on
 abbrev pub run : Configuration → List ℕ → Option Run
 run c ks = run_from 0 c ks
+
+-- the tasks that took the turns, in order
+abbrev pub actors : List Entry → List ℕ
+actors entries = map (λ entry. entry.actor) entries
 
 -- no task can take a turn
 abbrev pub IsComplete : Configuration → Type 0

@@ -25,7 +25,7 @@ pub struct Config {
 }
 
 impl Config {
-    ghost use Rattle.std.specs.Prelude.{◌≡◌, List, false, IfOk, IfErr, OnOk, OnErr, Err, option_map};
+    ghost use Rattle.std.specs.Prelude.{◌≡◌, List, false, vec_len, IfOk, IfErr, OnOk, OnErr, Err, option_map};
     ghost use Rattle.lio_syntax.specs.declared.script.Stmt.{Stmt};
     ghost use Rattle.lio_rounds.specs.Node.{is_ready, is_channel};
     ghost use Rattle.lio_rounds.specs.Task.{plan, act_of};
@@ -36,7 +36,8 @@ impl Config {
 
     /// The first configuration: a public channel with number 0, and a public task with number 1 that has `turns` turns.
     pub fn start(alloc: Global, turns: u32, longest: u32) -> Result<Config, NoMemory>
-        ensures { IfOk result (λ config. (script : List Stmt) → configuration_of script config ≡ start script turns longest) }
+        ensures first { IfOk result (λ config. (script : List Stmt) → configuration_of script config ≡ start script turns longest) }
+        ensures nodes { IfOk result (λ config. vec_len config.holders ≡ 2) }
     {
         let channel = Holder {
             state: State::Chan(Label::public(alloc)?, Text::of(alloc, b"")?),

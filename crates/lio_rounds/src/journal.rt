@@ -1,8 +1,9 @@
 //! Journals.
 
-ghost use Rattle.std.specs.Prelude.{◌≡◌, []};
+ghost use Rattle.std.specs.Prelude.{◌≡◌, [], IfOk};
+ghost use Rattle.lio_rounds.specs.ChannelBytes.{channel_bytes};
 
-use lio_values::Entry;
+use lio_values::{Act, Entry, NoMemory};
 use std::alloc::Global;
 use std::marker::Model;
 
@@ -43,5 +44,18 @@ impl Journal {
         ensures { result.now ≡ self.now }
     {
         self.entries.as_slice()
+    }
+
+    /// The texts of the sends to a channel, one after another.
+    pub fn channel_bytes(&self, alloc: Global, channel: u32) -> Result<Vec<u8>, NoMemory>
+        ensures { IfOk result (λ bytes. bytes.items ≡ channel_bytes self.now channel) }
+    {
+        let mut bytes = Vec::new(alloc);
+        for entry in self.entries() {
+            if entry.target == Some(channel) && let Act::Send(text) = &entry.act {
+                bytes.extend_from_slice(text.bytes())?;
+            }
+        }
+        Ok(bytes)
     }
 }

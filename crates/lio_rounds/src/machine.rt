@@ -104,6 +104,13 @@ impl Machine {
         self.config.can_move(&self.script, k)
     }
 
+    /// The ticket of the next turn: the number of turns taken.
+    fn ticket(&self) -> u64
+        ensures { result ≡ length self.now.entries }
+    {
+        self.entries.len() as u64
+    }
+
     /// Takes the turn of task `k`; its ticket is the number of turns taken before it.
     pub fn turn(&mut self, alloc: Global, k: u32) -> Result<Entry, TurnFault>
         ensures ok { IfOk result (HasTaken self.old self.new k) }
@@ -111,7 +118,7 @@ impl Machine {
         ensures still { can self.old.configuration k ≡ false → result ≡ Err (TurnFault.Still k) }
         ensures err { OnErr result (self.new ≡ self.old) }
     {
-        let ticket = self.entries.len() as u64;
+        let ticket = self.ticket();
         let entry = self.config.next_entry(alloc, &self.script, k, ticket)?;
         let shown = entry.copy(alloc)?;
         self.config
@@ -125,7 +132,7 @@ impl Machine {
         ensures fault { IfErr result (Stays self.old.configuration k) }
         ensures err { OnErr result (self.new ≡ self.old) }
     {
-        let ticket = self.entries.len() as u64;
+        let ticket = self.ticket();
         let entry = self.config.next_entry(alloc, &self.script, k, ticket)?;
         self.config
             .take_turn(alloc, &self.script, entry, &mut self.entries)?;

@@ -16,23 +16,13 @@ pub enum State {
 }
 
 impl State {
-    ghost use Rattle.lio_rounds.specs.Node.{is_channel, is_ready, served, ended};
+    ghost use Rattle.lio_rounds.specs.Node.{is_channel, served, ended};
 
     /// Whether it is a channel.
     pub fn is_channel(&self) -> bool
         ensures { result ≡ is_channel self.now }
     {
         matches!(self, State::Chan(_, _))
-    }
-
-    /// Whether the node is ready for an act of another node's task.
-    pub fn is_ready(&self, act: &Act) -> bool
-        ensures { result ≡ is_ready self.now act.now }
-    {
-        match (self, act) {
-            (State::Chan(_, _), Act::Send(_)) => true,
-            (_, _) => false,
-        }
     }
 
     /// Does to the node what an act does that meets it. After a refusal it is as before.

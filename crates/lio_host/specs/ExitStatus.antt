@@ -1,0 +1,14 @@
+-- The program's exit status.
+use Rattle.std.specs.Prelude.{ℕ}
+use Rattle.lio_host.specs.declared.status.HostStatus.{HostStatus}
+use Rattle.lio_host.specs.declared.status.HostStatus.TheVariants.{Done, BadWords, Missing, ReadFault, NotYet, WriteFault, NoMemory}
+
+-- the number with which the program ends; numbers left out belong to answers that scripts don't have so far
+abbrev pub exit_status : HostStatus → ℕ
+exit_status Done = 0
+exit_status BadWords = 1
+exit_status (Missing name) = 2
+exit_status (ReadFault name) = 3
+exit_status (WriteFault name) = 7
+exit_status NoMemory = 9
+exit_status (NotYet document line) = 20

@@ -1,0 +1,34 @@
+//! Runs a script under a policy, and writes what it sends to its channel.
+#![tactic(auto)]
+
+mod command;
+mod host;
+mod policy;
+mod refusal;
+mod status;
+#[cfg(test)]
+mod tests;
+
+use host::host_main;
+use lio_outside::RealStore;
+use refusal::print_refusal;
+use status::HostStatus;
+use std::process::ExitCode;
+use std::{env, io};
+
+/// The words after the program's name.
+fn words(rt: &HostRuntime) -> io::Result<Vec<String>> {
+    let words = env::args(rt)?.skip(1).collect(rt.alloc())?;
+    Ok(words)
+}
+
+fn main(rt: HostRuntime) -> ExitCode {
+    let Ok(words) = words(&rt) else {
+        return ExitCode::from(HostStatus::BadWords.number());
+    };
+    let mut store = RealStore::new(&rt);
+    let outcome = host_main(rt.alloc(), words.as_slice(), &mut store);
+    // A refusal that can't be printed still has its exit status.
+    let _ = print_refusal(&rt, &outcome.status, words.as_slice());
+    ExitCode::from(outcome.status.number())
+}

@@ -1,0 +1,62 @@
+//! The answers of the host.
+
+ghost use Rattle.std.specs.Prelude.{◌≡◌};
+
+use lio_rounds::Journal;
+use lio_values::{NoMemory, Text};
+
+/// How a call of the host ended.
+#[derive(Debug, PartialEq, Drop)]
+pub enum HostStatus {
+    /// The script ran, and its channel's file is written.
+    Done,
+    /// The words name no policy and script.
+    BadWords,
+    /// No file has this name.
+    Missing(Text),
+    /// The file with this name couldn't be read.
+    ReadFault(Text),
+    /// A text that doesn't run so far: 0 for the policy, or 1 and a line for the script, line 0 where it is too long.
+    NotYet(u32, u32),
+    /// The file with this name couldn't be written.
+    WriteFault(Text),
+    /// No memory was left.
+    NoMemory,
+}
+
+/// How a call of the host ended, and the journal of what it ran.
+#[derive(Drop)]
+pub struct Outcome {
+    pub status: HostStatus,
+    pub journal: Journal,
+}
+
+impl From<NoMemory> for HostStatus {
+    ghost use Rattle.lio_host.specs.declared.status.HostStatus.TheVariants.{NoMemory as without_memory};
+
+    ghost from_gives = { λ _ status. status ≡ without_memory };
+
+    fn from(_error: NoMemory) -> HostStatus {
+        HostStatus::NoMemory
+    }
+}
+
+impl HostStatus {
+    ghost use Rattle.std.specs.Prelude.{◌≡◌};
+    ghost use Rattle.lio_host.specs.ExitStatus.{exit_status};
+
+    /// The exit status of the program.
+    pub fn number(&self) -> u8
+        ensures { result ≡ exit_status self.now }
+    {
+        match self {
+            HostStatus::Done => 0,
+            HostStatus::BadWords => 1,
+            HostStatus::Missing(_) => 2,
+            HostStatus::ReadFault(_) => 3,
+            HostStatus::WriteFault(_) => 7,
+            HostStatus::NoMemory => 9,
+            HostStatus::NotYet(_, _) => 20,
+        }
+    }
+}
