@@ -12,7 +12,6 @@ mod tests;
 use host::host_main;
 use lio_outside::RealStore;
 use refusal::print_refusal;
-use status::HostStatus;
 use std::process::ExitCode;
 use std::{env, io};
 
@@ -23,9 +22,8 @@ fn words(rt: &HostRuntime) -> io::Result<Vec<String>> {
 }
 
 fn main(rt: HostRuntime) -> ExitCode {
-    let Ok(words) = words(&rt) else {
-        return ExitCode::from(HostStatus::BadWords.number());
-    };
+    // Words that can't be had as text are wrong words.
+    let words = words(&rt).unwrap_or(Vec::new(rt.alloc()));
     let mut store = RealStore::new(&rt);
     let outcome = host_main(rt.alloc(), words.as_slice(), &mut store);
     // A refusal that can't be printed still has its exit status.

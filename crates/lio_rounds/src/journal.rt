@@ -52,7 +52,9 @@ impl Journal {
     {
         let mut bytes = Vec::new(alloc);
         for entry in self.entries() {
-            if entry.target == Some(channel) && let Act::Send(text) = &entry.act {
+            if entry.target == Some(channel)
+                && let Act::Send(text) = &entry.act
+            {
                 bytes.extend_from_slice(text.bytes())?;
             }
         }

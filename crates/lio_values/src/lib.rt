@@ -12,3 +12,6 @@ pub use label::{Formula, Label};
 pub use memory::NoMemory;
 pub use text::Text;
 pub use value::{Content, Fault, FaultKind, Plain};
+
+#[cfg(test)]
+mod tests;
