@@ -13,10 +13,11 @@ ghost use Rattle.lio_host.specs.Answers.{Says};
 use crate::command::{Command, read_command};
 use crate::policy::read_policy;
 use crate::status::{HostStatus, Outcome};
+use lio_clauses::NoMemory;
 use lio_outside::{FetchFault, KeepFault, Store};
 use lio_rounds::{Config, Journal, Machine};
 use lio_syntax::{Script, ScriptFault, read_script};
-use lio_values::{NoMemory, Text};
+use lio_values::Text;
 use std::alloc::Global;
 
 /// The most bytes of a policy.

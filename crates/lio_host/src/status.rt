@@ -2,8 +2,9 @@
 
 ghost use Rattle.std.specs.Prelude.{◌≡◌};
 
+use lio_clauses::NoMemory;
 use lio_rounds::Journal;
-use lio_values::{NoMemory, Text};
+use lio_values::Text;
 
 /// How a call of the host ended.
 #[derive(Debug, PartialEq, Drop)]

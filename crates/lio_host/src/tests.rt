@@ -2,8 +2,10 @@
 
 use crate::host::host_main;
 use crate::status::HostStatus;
+use lio_clauses::NoMemory;
+use lio_labels::Label;
 use lio_outside::MemStore;
-use lio_values::{Act, Content, Entry, Fault, FaultKind, Label, NoMemory, Plain, Reply, Text};
+use lio_values::{Act, Content, Entry, Fault, FaultKind, Plain, Reply, Text};
 use std::alloc::Global;
 use std::process::Abort;
 use std::test::Fail;

@@ -1,6 +1,6 @@
 -- How a task with a place in its script goes on.
 use Rattle.std.proofs.Common.{◌≡◌, ℕ, zero, suc, ◌+◌, ◌-◌, ◌<◌, Bool, true, false, List, [], ◌∷◌, length, drop, refl, arith, Option, Some, None, ◌==◌, is_none, add-one}
-use Rattle.lio_values.specs.declared.label.Label.{Label}
+use Rattle.lio_labels.specs.declared.label.Label.{Label}
 use Rattle.lio_values.specs.declared.entry.Act.{Act}
 use Rattle.lio_values.specs.declared.entry.Act.TheVariants.{Send as send, Ended as ended}
 use Rattle.lio_values.specs.declared.value.Plain.TheVariants.{Unit as unit}

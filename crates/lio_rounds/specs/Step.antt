@@ -1,6 +1,6 @@
 -- Configurations, and the small step of one task.
 use Rattle.std.specs.Prelude.{ℕ, Bool, List, Option, Some, None, is_some, slice_set, slice_index_or, if◌then◌else◌}
-use Rattle.lio_values.specs.declared.label.Label.{Label}
+use Rattle.lio_labels.specs.declared.label.Label.{Label}
 use Rattle.lio_values.specs.declared.entry.Act.{Act}
 use Rattle.lio_values.specs.declared.entry.Reply.{Reply}
 use Rattle.lio_values.specs.declared.entry.Reply.TheVariants.{Done}

@@ -1,6 +1,6 @@
 -- A task, what its next turn does, and how it goes on after that turn.
 use Rattle.std.specs.Prelude.{ℕ, ◌-◌, Bool, true, false, List, [], ◌∷◌, Option, Some, None, ◌==◌, if◌then◌else◌}
-use Rattle.lio_values.specs.declared.label.Label.{Label}
+use Rattle.lio_labels.specs.declared.label.Label.{Label}
 use Rattle.lio_values.specs.declared.value.Plain.TheVariants.{Unit as unit}
 use Rattle.lio_values.specs.declared.value.FaultKind.TheVariants.{NoTurns}
 use Rattle.lio_values.specs.declared.value.Content.{Content}

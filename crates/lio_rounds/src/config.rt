@@ -6,8 +6,10 @@ ghost use Rattle.lio_rounds.specs.Took.{result_of};
 use crate::machine::TurnFault;
 use crate::state::State;
 use crate::task::{Next, Task};
+use lio_clauses::NoMemory;
+use lio_labels::Label;
 use lio_syntax::Script;
-use lio_values::{Act, Content, Entry, Label, NoMemory, Reply, Text};
+use lio_values::{Act, Content, Entry, Reply, Text};
 use std::alloc::Global;
 
 /// A node and, where it is a job, its task.

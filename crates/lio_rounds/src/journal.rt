@@ -3,7 +3,8 @@
 ghost use Rattle.std.specs.Prelude.{◌≡◌, [], IfOk};
 ghost use Rattle.lio_rounds.specs.ChannelBytes.{channel_bytes};
 
-use lio_values::{Act, Entry, NoMemory};
+use lio_clauses::NoMemory;
+use lio_values::{Act, Entry};
 use std::alloc::Global;
 use std::marker::Model;
 

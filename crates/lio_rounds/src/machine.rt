@@ -4,8 +4,9 @@ ghost use Rattle.std.specs.Prelude.{◌≡◌};
 
 use crate::config::Config;
 use crate::journal::Journal;
+use lio_clauses::NoMemory;
 use lio_syntax::Script;
-use lio_values::{Entry, NoMemory};
+use lio_values::Entry;
 use std::alloc::Global;
 use std::marker::Model;
 use thiserror::Error;

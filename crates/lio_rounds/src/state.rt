@@ -2,7 +2,9 @@
 
 ghost use Rattle.std.specs.Prelude.{◌≡◌, OnOk, OnErr};
 
-use lio_values::{Act, Content, Label, NoMemory, Text};
+use lio_clauses::NoMemory;
+use lio_labels::Label;
+use lio_values::{Act, Content, Text};
 
 /// What a node holds.
 #[derive(Debug, Drop)]

@@ -3,8 +3,10 @@
 ghost use Rattle.std.specs.Prelude.{◌≡◌};
 ghost use Rattle.lio_rounds.specs.Task.{ends_with};
 
+use lio_clauses::NoMemory;
+use lio_labels::Label;
 use lio_syntax::{Script, Stmt};
-use lio_values::{Act, Content, Fault, FaultKind, Label, NoMemory, Plain, Reply};
+use lio_values::{Act, Content, Fault, FaultKind, Plain, Reply};
 use std::alloc::Global;
 
 /// What a task's next turn does.

@@ -6,7 +6,8 @@ ghost use Rattle.lio_syntax.specs.ScriptText.{is_plain, sent_bytes, statement_of
 ghost use Rattle.lio_syntax.specs.Refusal.{Refuses};
 
 use crate::script::{Script, Stmt};
-use lio_values::{NoMemory, Text};
+use lio_clauses::NoMemory;
+use lio_values::Text;
 use std::alloc::{AllocFailed, Global};
 use thiserror::Error;
 

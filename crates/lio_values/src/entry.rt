@@ -2,10 +2,10 @@
 
 ghost use Rattle.std.specs.Prelude.{◌≡◌, IfOk};
 
-use crate::label::Label;
-use crate::memory::NoMemory;
 use crate::text::Text;
 use crate::value::Content;
+use lio_clauses::NoMemory;
+use lio_labels::Label;
 use std::alloc::Global;
 
 /// What a task does in a turn.

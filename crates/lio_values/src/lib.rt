@@ -1,15 +1,11 @@
-//! Labels, values, faults, acts and the entries of a journal.
+//! Texts, plain values, faults, acts and the entries of a journal.
 #![tactic(auto)]
 
 pub mod entry;
-pub mod label;
-pub mod memory;
 pub mod text;
 pub mod value;
 
 pub use entry::{Act, Entry, Reply};
-pub use label::{Formula, Label};
-pub use memory::NoMemory;
 pub use text::Text;
 pub use value::{Content, Fault, FaultKind, Plain};
 

@@ -1,6 +1,7 @@
 //! Each call once, with ample memory.
 
-use crate::{Act, Content, Entry, Fault, FaultKind, Formula, Label, Plain, Reply, Text};
+use crate::{Act, Content, Entry, Fault, FaultKind, Plain, Reply, Text};
+use lio_labels::Label;
 use std::test::Fail;
 
 #[test]
@@ -10,11 +11,7 @@ fn copies_and_appends(rt: HostRuntime) -> Result<(), Fail> {
     text.append(b"b")?;
     let copy = text.copy(alloc)?;
     assert!(rt; copy == text && copy.bytes() == b"ab".as_slice());
-    let label = Label {
-        secrecy: Formula::truth(alloc),
-        integrity: Formula::truth(alloc).copy(alloc)?,
-    };
-    assert!(rt; label == Label::public(alloc)?);
+    let label = Label::public(alloc)?;
     let entry = Entry {
         ticket: 3,
         actor: 1,

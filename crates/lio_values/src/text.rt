@@ -2,7 +2,7 @@
 
 ghost use Rattle.std.specs.Prelude.{◌≡◌, ◌++◌, IfOk, OnOk, OnErr};
 
-use crate::memory::NoMemory;
+use lio_clauses::NoMemory;
 use std::alloc::Global;
 use std::marker::Model;
 

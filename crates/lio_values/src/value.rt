@@ -2,8 +2,8 @@
 
 ghost use Rattle.std.specs.Prelude.{◌≡◌, IfOk};
 
-use crate::label::Label;
-use crate::memory::NoMemory;
+use lio_clauses::NoMemory;
+use lio_labels::Label;
 use std::alloc::Global;
 
 /// A value without a label of its own.

@@ -1,0 +1,61 @@
+-- Answers of calls that make a formula: the formula, or Wide exactly where it is wide.
+use Rattle.std.proofs.Common.{◌≡◌, ◌≢◌, ℕ, ◌≤◌, ◌↔◌, true, List, [], ◌∷◌, length, refl, sym, ◌∙◌, ap, subst, arith, Result, Ok, Err, OnOk, IfOk, MatchResult, is_ok}
+use Rattle.std.specs.Prelude.{nat_eq}
+use Rattle.std.specs.Cmp.Lexicographic.{pointwise, same_text}
+use Rattle.std.proofs.lemmas.Bool.{true≢false, and_parts, and_from, eq-eqb}
+use Rattle.lio_clauses.specs.declared.faults.FormFault.{FormFault}
+use Rattle.lio_clauses.specs.declared.faults.FormFault.TheVariants.{Wide, NoMemory}
+use Rattle.lio_clauses.specs.Width.{IsWide}
+
+-- Wide is answered exactly where the formula is wide, unless memory is wanting
+abbrev pub IsWideExactly : {X : Type 0} → Result X FormFault → List (List ℕ) → Type 0
+IsWideExactly {X} r A = r ≢ Err NoMemory → (r ≡ Err Wide) ↔ IsWide A
+
+pub IsWideExactly-err : {X : Type 0} (y : FormFault) (A : List (List ℕ)) → (y ≡ Wide → IsWide A) → IsWideExactly {X = X} (Err y) A
+IsWideExactly-err Wide A h n = (λ _. h refl, λ _. refl)
+IsWideExactly-err NoMemory A h n = absurd (n refl)
+
+pub IsWideExactly-ok : {X : Type 0} (x : X) (A : List (List ℕ)) → length A ≤ 64 → IsWideExactly {X = X} (Ok x) A
+IsWideExactly-ok x A h n = (λ e. absurd (true≢false (ap is_ok e)), λ w. absurd (omega arith))
+
+pub IsWideExactly-same : {X : Type 0} (r : Result X FormFault) (A B : List (List ℕ)) → A ≡ B → IsWideExactly r A → IsWideExactly r B
+IsWideExactly-same r A B e h = let P : List (List ℕ) → Type 0 = λ v. IsWideExactly r v in subst P e h
+
+pub IfOk-same : (r : Result (List (List ℕ)) FormFault) (A B : List (List ℕ)) → A ≡ B → IfOk r (λ f. f ≡ A) → IfOk r (λ f. f ≡ B)
+IfOk-same r A B e h = let P : List (List ℕ) → Type 0 = λ v. IfOk r (λ f. f ≡ v) in subst P e h
+
+-- what a call that succeeded says, through `map_err`
+pub at_ok : {X Y T P : Type 0} (r : Result T X) (s : Result T Y) (x : T) → is_ok s ≡ is_ok r → s ≡ Ok x → OnOk r P → P
+at_ok (Ok y) s x e f h = h
+at_ok (Err y) s x e f h = absurd (true≢false (sym (ap is_ok f) ∙ e))
+
+-- and what it says of its value
+pub value_ok : {X Y T : Type 0} (P : T → Type 0) (Q : X → Type 0) (r : Result T X) (s : Result T Y) (x : T) → MatchResult r (λ y. s ≡ Ok y) Q → is_ok s ≡ is_ok r → s ≡ Ok x → IfOk r P → P x
+value_ok {T = T} P Q (Ok y) s x m e f h = let same : y ≡ x = cc in subst P same h
+value_ok P Q (Err y) s x m e f h = absurd (true≢false (sym (ap is_ok f) ∙ e))
+
+-- the test of equality that comparisons of formulas compute
+
+same_clause : (c d : List ℕ) → pointwise nat_eq c d ≡ true → c ≡ d
+same_clause c d t = same_text c d (sym t)
+
+clause_itself : (c : List ℕ) → pointwise nat_eq c c ≡ true
+clause_itself [] = refl
+clause_itself (n ∷ c) = and_from (nat_eq n n) (pointwise nat_eq c c) (eq-eqb n n refl) (clause_itself c)
+
+pub clauses_same : (A B : List (List ℕ)) → pointwise (pointwise nat_eq) A B ≡ true → A ≡ B
+clauses_same [] [] t = refl
+clauses_same [] (d ∷ B) t = absurd (true≢false (sym t))
+clauses_same (c ∷ A) [] t = absurd (true≢false (sym t))
+clauses_same (c ∷ A) (d ∷ B) t =
+    let r = and_parts (pointwise nat_eq c d) (pointwise (pointwise nat_eq) A B) t in
+    let a : c ≡ d = same_clause c d r.0 in
+    let b : A ≡ B = clauses_same A B r.1 in
+    cc
+
+itself : (A : List (List ℕ)) → pointwise (pointwise nat_eq) A A ≡ true
+itself [] = refl
+itself (c ∷ A) = and_from (pointwise nat_eq c c) (pointwise (pointwise nat_eq) A A) (clause_itself c) (itself A)
+
+pub same_clauses : (A B : List (List ℕ)) → A ≡ B → pointwise (pointwise nat_eq) A B ≡ true
+same_clauses A B e = let P : List (List ℕ) → Type 0 = λ v. pointwise (pointwise nat_eq) A v ≡ true in subst P e (itself A)

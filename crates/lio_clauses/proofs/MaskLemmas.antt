@@ -1,0 +1,141 @@
+-- The principals of clauses as they are written, and of their masks.
+use Rattle.std.proofs.Common.{◌≡◌, ◌≢◌, ℕ, ◌<◌, ◌≤◌, ◌^◌, Bool, true, false, cond, ◌&&◌, ◌⊎◌, inl, inr, List, [], ◌∷◌, map, length, Ok, Err, nat_lt, max, refl, sym, ap, subst, ◌∙◌, arith, lt-ltb, ltb-true, ltb-false}
+use Rattle.std.specs.Int.{bit_at}
+use Rattle.std.specs.List.{list_any, All}
+use Rattle.std.proofs.lemmas.Nat.Bits.{bit_at_or, bit_at-pow_same, bit_at-pow_other, bit_at-zero, bit_at-lt, bit_at_above}
+use Rattle.lio_clauses.specs.declared.text.TextFault.{TextFault}
+use Rattle.lio_clauses.specs.declared.text.TextFault.TheVariants.{Wide, NoMemory}
+use Rattle.lio_clauses.specs.declared.faults.FormFault.{FormFault}
+use Rattle.lio_clauses.specs.declared.faults.FormFault.TheVariants as form
+use Rattle.lio_clauses.specs.FormFault.{text_fault}
+use Rattle.lio_clauses.specs.Width.{IsWide}
+use Rattle.lio_clauses.specs.Principals.{principals}
+use Rattle.lio_clauses.specs.Satisfaction.{sat}
+use Rattle.lio_clauses.specs.Canonical.{canonical, IsCanonical}
+use Rattle.lio_clauses.specs.Implication.{named}
+use Rattle.lio_clauses.specs.Token.{Tokens}
+use Rattle.lio_clauses.specs.FormulaText.{Reading, ◌>>=◌, narrow, formula_at, canonical_at}
+use Rattle.lio_clauses.specs.Cursor.{mask_of}
+use Rattle.lio_clauses.specs.ClauseCursor.{as_masks, canonical_of_masks, AllFit}
+use Rattle.lio_clauses.proofs.Members.{In, In-map, All-In, any_by, any_some, same_tests}
+use Rattle.lio_clauses.proofs.ClauseBits.{principals-parts, principals-In, principals-clauses}
+use Rattle.lio_clauses.proofs.Implied.{named-parts}
+use Rattle.lio_clauses.proofs.Minimal.{IsCanonical-canonical_of, canonical-unique}
+use Rattle.lio_clauses.proofs.Forms.{Grows-sat, sat-canonical, IsCanonical-canonical, canonical-itself}
+
+same_number : (m n : ℕ) → (m ≡ n) ⊎ (m ≢ n)
+same_number m n = grind arith
+
+-- bit n of a mask is set exactly where the clause has principal n
+bit_of-In : (c : List ℕ) (n : ℕ) → In n c → bit_at (mask_of c) n ≡ 1
+bit_of-In [] n h = absurd h
+bit_of-In (m ∷ c) n (inl e) =
+    let own : bit_at (2 ^ m) n ≡ 1 = ap (bit_at (2 ^ m)) e ∙ bit_at-pow_same m in
+    bit_at_or (2 ^ m) (mask_of c) n ∙ ap (λ b. max b (bit_at (mask_of c) n)) own ∙ at_most_one (bit_at (mask_of c) n) (bit_at-lt (mask_of c) n)
+  where
+    at_most_one : (b : ℕ) → b < 2 → max 1 b ≡ 1
+    at_most_one b h = omega arith
+bit_of-In (m ∷ c) n (inr h) =
+    bit_at_or (2 ^ m) (mask_of c) n ∙ ap (λ b. max (bit_at (2 ^ m) n) b) (bit_of-In c n h) ∙ at_most_one (bit_at (2 ^ m) n) (bit_at-lt (2 ^ m) n)
+  where
+    at_most_one : (b : ℕ) → b < 2 → max b 1 ≡ 1
+    at_most_one b h = omega arith
+
+In-bit_of : (c : List ℕ) (n : ℕ) → bit_at (mask_of c) n ≡ 1 → In n c
+In-bit_of [] n h = absurd (nothing (bit_at 0 n) (bit_at-zero n) h)
+  where
+    nothing : (b : ℕ) → b ≡ 0 → b ≡ 1 → ⊥
+    nothing b e f = omega arith
+In-bit_of (m ∷ c) n h =
+    elim (same_number n m) [
+      | inl e ↦ inl e
+      | inr other ↦ inr (In-bit_of c n (of_max _ (bit_at (mask_of c) n) (bit_at_or (2 ^ m) (mask_of c) n ∙ ap (λ b. max b (bit_at (mask_of c) n)) (bit_at-pow_other m n other)) h))
+    ]
+  where
+    of_max : (a b : ℕ) → a ≡ max 0 b → a ≡ 1 → b ≡ 1
+    of_max a b e f = omega arith
+
+-- a clause whose mask has 64 bits has principals below 64
+small_principal : (c : List ℕ) (n : ℕ) → mask_of c < 2 ^ 64 → In n c → n < 64
+small_principal c n fits h = by (nat_lt n 64) refl
+  where
+    apart : (b : ℕ) → b ≡ 0 → b ≡ 1 → ⊥
+    apart b e f = omega arith
+
+    by : (b : Bool) → nat_lt n 64 ≡ b → n < 64
+    by true e = ltb-true n 64 e
+    by false e = absurd (apart (bit_at (mask_of c) n) (bit_at_above (mask_of c) 64 n fits (ltb-false n 64 e)) (bit_of-In c n h))
+
+-- a mask has the principals of its clause
+any-principals : (P : ℕ → Bool) (c : List ℕ) → mask_of c < 2 ^ 64 → list_any P (principals (mask_of c)) ≡ list_any P c
+any-principals P c fits =
+    same_tests (list_any P (principals (mask_of c))) (list_any P c)
+    (λ t. let r = any_some P (principals (mask_of c)) t in any_by P c r.0 (In-bit_of c r.0 (principals-parts (mask_of c) r.0 r.1.0).1) r.1.1)
+    (λ t. let r = any_some P c t in any_by P (principals (mask_of c)) r.0 (principals-In (mask_of c) r.0 (small_principal c r.0 fits r.1.0) (bit_of-In c r.0 r.1.0)) r.1.1)
+
+-- so the same sets satisfy both
+sat-masks : (P : ℕ → Bool) (A : List (List ℕ)) → ((c : List ℕ) → In c A → mask_of c < 2 ^ 64) → sat P (map principals (map mask_of A)) ≡ sat P A
+sat-masks P [] fits = refl
+sat-masks P (c ∷ A) fits =
+    ap (λ b. b && sat P (map principals (map mask_of A))) (any-principals P c (fits c (inl refl))) ∙ ap (λ b. list_any P c && b) (sat-masks P A (λ d h. fits d (inr h)))
+
+pub IsCanonical-written : (A : List (List ℕ)) → ((c : List ℕ) → In c A → (n : ℕ) → In n c → n < 64) → IsCanonical (canonical A)
+unfolding canonical
+IsCanonical-written A small = IsCanonical-canonical_of (named A) (λ who. sat who A) (Grows-sat A) (λ n h. let p = named-parts A n h in lt-ltb n 64 (small p.0 p.1.0 n p.1.1))
+
+-- and they have one canonical form
+pub canonical-masks : (A : List (List ℕ)) → All (λ clause. clause < 2 ^ 64) (map mask_of A) → canonical (map principals (map mask_of A)) ≡ canonical A
+canonical-masks A fits =
+    let each : (c : List ℕ) → In c A → mask_of c < 2 ^ 64 = λ c h. All-In (λ clause. clause < 2 ^ 64) (map mask_of A) fits (mask_of c) (In-map mask_of c A h) in
+    canonical-unique (canonical (map principals (map mask_of A))) (canonical A) (IsCanonical-canonical (map principals (map mask_of A)) (principals-clauses (map mask_of A)))
+    (IsCanonical-written A (λ c h n k. small_principal c n (each c h) k))
+    (λ P. sat-canonical P (map principals (map mask_of A)) ∙ sat-masks P A each ∙ sym (sat-canonical P A))
+
+-- what is read by masks is what is written
+pub canonical_at-masks : (ts : Tokens) → AllFit (as_masks (formula_at ts)) → canonical_of_masks (as_masks (formula_at ts)) ≡ canonical_at ts
+unfolding canonical_at
+canonical_at-masks ts fits = by (formula_at ts) fits
+  where
+    by : (r : Reading (List (List ℕ))) → AllFit (as_masks r) → canonical_of_masks (as_masks r) ≡ (r >>= λ x. narrow (canonical x.value))
+    by (Ok r) h = ap narrow (canonical-masks r.value h)
+    by (Err fault) h = refl
+
+narrow-Ok : (A B : List (List ℕ)) → narrow A ≡ Ok B → (A ≡ B) × (length A ≤ 64)
+narrow-Ok A B h = by (nat_lt 64 (length A)) refl
+  where
+    by : (b : Bool) → nat_lt 64 (length A) ≡ b → (A ≡ B) × (length A ≤ 64)
+    by true e = let wrong : Err Wide ≡ Ok B = sym (ap (λ b. cond b (Err Wide) (Ok A)) e) ∙ h in cc
+    by false e = let same : Ok A ≡ Ok B = sym (ap (λ b. cond b (Err Wide) (Ok A)) e) ∙ h in (cc, ltb-false 64 (length A) e)
+
+-- the clauses that are kept are their own canonical form, and not too many
+pub canonical-kept_itself : (all : Reading (List ℕ)) (kept : List ℕ) → canonical_of_masks all ≡ Ok (map principals kept)
+    → (canonical (map principals kept) ≡ map principals kept) × (length (map principals kept) ≤ 64)
+canonical-kept_itself (Ok r) kept h =
+    let p = narrow-Ok (canonical (map principals r.value)) (map principals kept) h in
+    (canonical-itself (map principals kept) (subst IsCanonical p.0 (IsCanonical-canonical (map principals r.value) (principals-clauses r.value))), subst (λ (A : List (List ℕ)). length A ≤ 64) p.0 p.1)
+canonical-kept_itself (Err fault) kept h = cc
+
+-- the formula that is made of the kept clauses
+pub canonical_at-kept : (ts : Tokens) (all : Reading (List ℕ)) (kept slice : List ℕ) (formula : List (List ℕ)) → all ≡ as_masks (formula_at ts) → AllFit all
+    → canonical_of_masks all ≡ Ok (map principals kept) → slice ≡ kept → formula ≡ canonical (map principals slice) → canonical_at ts ≡ Ok formula
+canonical_at-kept ts all kept slice formula e fits found same made =
+    sym (canonical_at-masks ts (subst AllFit e fits)) ∙ ap canonical_of_masks (sym e) ∙ found
+    ∙ ap Ok (sym (canonical-kept_itself all kept found).0 ∙ ap (λ ks. canonical (map principals ks)) (sym same) ∙ sym made)
+
+-- is never wide
+pub kept-narrow : (all : Reading (List ℕ)) (kept slice : List ℕ) → canonical_of_masks all ≡ Ok (map principals kept) → slice ≡ kept → IsWide (canonical (map principals slice)) → ⊥
+kept-narrow all kept slice found same wide =
+    let own = canonical-kept_itself all kept found in
+    let few : length (canonical (map principals slice)) ≤ 64 =
+    subst (λ (A : List (List ℕ)). length A ≤ 64) (sym own.0 ∙ ap (λ ks. canonical (map principals ks)) (sym same)) own.1 in
+    omega (arith, few, wide)
+
+pub canonical_at-fault : (ts : Tokens) (all : Reading (List ℕ)) (fault : TextFault) → all ≡ as_masks (formula_at ts)
+    → (fault ≡ NoMemory) ⊎ ((canonical_of_masks all ≡ Err fault) × AllFit all) → (fault ≡ NoMemory) ⊎ (canonical_at ts ≡ Err fault)
+canonical_at-fault ts all fault e (inl want) = inl want
+canonical_at-fault ts all fault e (inr h) = inr (sym (canonical_at-masks ts (subst AllFit e h.1)) ∙ ap canonical_of_masks (sym e) ∙ h.0)
+
+-- so only want of memory keeps it from being made
+pub only-memory : (cause : FormFault) (fault : TextFault) (wide : Type 0) → fault ≡ text_fault cause → (cause ≡ form.Wide → wide) → (wide → ⊥) → fault ≡ NoMemory
+only-memory form.Wide fault wide e is not_so = absurd (not_so (is refl))
+only-memory form.NoMemory fault wide e is not_so = e

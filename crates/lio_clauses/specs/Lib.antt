@@ -1,0 +1,16 @@
+pub mod Principals
+pub mod Satisfaction
+pub mod Implication
+pub mod Canonical
+pub mod Width
+pub mod Bits
+pub mod Laws
+pub mod Names
+pub mod Refusal
+pub mod FormFault
+pub mod Token
+pub mod FormulaText
+pub mod Cursor
+pub mod ClauseCursor
+pub mod FormulaPrint
+pub mod PrintedText

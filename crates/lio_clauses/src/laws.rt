@@ -1,0 +1,138 @@
+//! The laws of implication, of the canonical form, and of conjunction and disjunction. Each function does nothing: its
+//! contract is the law.
+ghost use Rattle.lio_clauses.specs.Laws.{CanonicalFormIsCanonical, CanonicalFormIsUnique, CanonicalFormMeansTheSame, CanonicalFormOfCanonical, ConjunctionImpliesLeft, ConjunctionImpliesRight, ConjunctionIsAssociative, ConjunctionIsCanonical, ConjunctionIsCommutative, ConjunctionIsGreatest, ConjunctionIsIdempotent, ConjunctionMeansBoth, DisjunctionIsAssociative, DisjunctionIsCanonical, DisjunctionIsCommutative, DisjunctionIsIdempotent, DisjunctionIsLeast, DisjunctionMeansEither, FalsityIsLeast, ImplicationIsAntisymmetric, ImplicationIsByClauses, ImplicationIsReflexive, ImplicationIsTested, ImplicationIsTransitive, LeftImpliesDisjunction, RightImpliesDisjunction, TruthIsGreatest};
+
+/// The test of implication and implication over all sets of principals agree.
+pub fn implication_is_tested()
+    ensures { ImplicationIsTested }
+{}
+
+/// A formula implies itself.
+pub fn implication_is_reflexive()
+    ensures { ImplicationIsReflexive }
+{}
+
+/// What a formula implies implies in turn, it implies.
+pub fn implication_is_transitive()
+    ensures { ImplicationIsTransitive }
+{}
+
+/// Canonical formulas that imply each other are equal.
+pub fn implication_is_antisymmetric()
+    ensures { ImplicationIsAntisymmetric }
+{}
+
+/// A formula implies another exactly where each clause of the other contains one of its own.
+pub fn implication_is_by_clauses()
+    ensures { ImplicationIsByClauses }
+{}
+
+/// False implies each formula.
+pub fn falsity_is_least()
+    ensures { FalsityIsLeast }
+{}
+
+/// Each formula implies True.
+pub fn truth_is_greatest()
+    ensures { TruthIsGreatest }
+{}
+
+/// Two canonical formulas that the same sets satisfy are equal.
+pub fn canonical_form_is_unique()
+    ensures { CanonicalFormIsUnique }
+{}
+
+/// The canonical form is canonical.
+pub fn canonical_form_is_canonical()
+    ensures { CanonicalFormIsCanonical }
+{}
+
+/// The same sets satisfy a formula and its canonical form.
+pub fn canonical_form_means_the_same()
+    ensures { CanonicalFormMeansTheSame }
+{}
+
+/// A canonical formula is its own canonical form.
+pub fn canonical_form_of_canonical()
+    ensures { CanonicalFormOfCanonical }
+{}
+
+/// The conjunction is canonical.
+pub fn conjunction_is_canonical()
+    ensures { ConjunctionIsCanonical }
+{}
+
+/// Exactly the sets satisfy the conjunction that satisfy both formulas.
+pub fn conjunction_means_both()
+    ensures { ConjunctionMeansBoth }
+{}
+
+/// The disjunction is canonical.
+pub fn disjunction_is_canonical()
+    ensures { DisjunctionIsCanonical }
+{}
+
+/// Exactly the sets satisfy the disjunction that satisfy at least one formula.
+pub fn disjunction_means_either()
+    ensures { DisjunctionMeansEither }
+{}
+
+/// The conjunction implies its left formula.
+pub fn conjunction_implies_left()
+    ensures { ConjunctionImpliesLeft }
+{}
+
+/// The conjunction implies its right formula.
+pub fn conjunction_implies_right()
+    ensures { ConjunctionImpliesRight }
+{}
+
+/// What implies both formulas implies their conjunction.
+pub fn conjunction_is_greatest()
+    ensures { ConjunctionIsGreatest }
+{}
+
+/// The left formula implies the disjunction.
+pub fn left_implies_disjunction()
+    ensures { LeftImpliesDisjunction }
+{}
+
+/// The right formula implies the disjunction.
+pub fn right_implies_disjunction()
+    ensures { RightImpliesDisjunction }
+{}
+
+/// The disjunction implies what both formulas imply.
+pub fn disjunction_is_least()
+    ensures { DisjunctionIsLeast }
+{}
+
+/// The order of two formulas makes no difference to their conjunction.
+pub fn conjunction_is_commutative()
+    ensures { ConjunctionIsCommutative }
+{}
+
+/// The grouping of three formulas makes no difference to their conjunction.
+pub fn conjunction_is_associative()
+    ensures { ConjunctionIsAssociative }
+{}
+
+/// The conjunction of a formula with itself is that formula.
+pub fn conjunction_is_idempotent()
+    ensures { ConjunctionIsIdempotent }
+{}
+
+/// The order of two formulas makes no difference to their disjunction.
+pub fn disjunction_is_commutative()
+    ensures { DisjunctionIsCommutative }
+{}
+
+/// The grouping of three formulas makes no difference to their disjunction.
+pub fn disjunction_is_associative()
+    ensures { DisjunctionIsAssociative }
+{}
+
+/// The disjunction of a formula with itself is that formula.
+pub fn disjunction_is_idempotent()
+    ensures { DisjunctionIsIdempotent }
+{}

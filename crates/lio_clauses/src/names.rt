@@ -1,0 +1,169 @@
+//! The names of principals.
+ghost use Rattle.std.specs.Prelude.{◌≡◌, ◌↔◌, ◌<◌, ◌≤◌, ◌++◌, [], ◌∷◌, length, slice_get, Contains, IsTrue, IsNone, IfSome, IfOk, OnOk, OnErr, IsOkAnd, MatchOption, IsOkUnless};
+ghost use Rattle.lio_clauses.specs.Names as spec;
+ghost use Rattle.lio_clauses.specs.Names.{name_fault, number_of};
+
+use crate::faults::NoMemory;
+use indexmap::IndexSet;
+use std::alloc::{AllocError, AllocFailed, Global};
+use std::marker::Model;
+use thiserror::Error;
+
+/// Why a name is not added.
+#[derive(Clone, Copy, Debug, PartialEq, Eq, Error)]
+pub enum NameFault {
+    /// The name is there already, with this number.
+    #[error("the name is there already, with number {0}")]
+    Again(u32),
+    /// The byte at this place may not stand there. It is 0 for the empty name, and 32 for a name that is too long.
+    #[error("the name has a wrong byte at place {0}")]
+    BadName(u32),
+    /// 64 names are there.
+    #[error("there are 64 names already")]
+    TooMany,
+    /// There was not enough memory.
+    #[error("out of memory")]
+    NoMemory,
+}
+
+impl From<AllocError> for NameFault {
+    ghost use Rattle.lio_clauses.specs.declared.names.NameFault.TheVariants.{NoMemory};
+
+    ghost from_gives = { λ _ fault. fault ≡ NoMemory };
+
+    fn from(_: AllocError) -> NameFault {
+        NameFault::NoMemory
+    }
+}
+
+impl<T: Drop> From<AllocFailed<T>> for NameFault {
+    ghost use Rattle.lio_clauses.specs.declared.names.NameFault.TheVariants.{NoMemory};
+
+    ghost from_gives = { λ _ fault. fault ≡ NoMemory };
+
+    fn from(_: AllocFailed<T>) -> NameFault {
+        NameFault::NoMemory
+    }
+}
+
+/// The names of at most 64 principals. A principal's number is the place of its name, from 0.
+#[derive(Drop)]
+pub struct Names {
+    set: IndexSet<Vec<u8>>,
+}
+
+impl Model for Names {
+    ghost use Rattle.std.specs.Prelude.{List, ℕ};
+    ghost use Rattle.lio_clauses.specs.Names.{AreNames, bytes_of};
+
+    ghost Value = { List (List ℕ) };
+
+    ghost view = { λ names. bytes_of names.set.keys };
+
+    ghost invariant = { λ names. AreNames (bytes_of names.set.keys) };
+}
+
+/// The first place whose byte may not stand there in a name, 0 for the empty name.
+fn fault_place(name: &[u8]) -> Option<u32>
+    ensures { result ≡ name_fault name.now }
+{
+    if name.is_empty() {
+        return Some(0);
+    }
+    for (place, &byte) in name.iter().enumerate() {
+        if !may_stand(place, byte) {
+            return Some(place as u32);
+        }
+    }
+    None
+}
+
+/// Whether a name may have the byte at this place.
+fn may_stand(place: usize, byte: u8) -> bool
+    ensures { result ≡ spec.may_stand place byte }
+{
+    place < Names::LONGEST
+        && match byte {
+            b'a'..=b'z' => true,
+            b'0'..=b'9' | b'_' => place > 0,
+            _ => false,
+        }
+}
+
+impl Names {
+    ghost use Rattle.lio_clauses.specs.Refusal.{refusal};
+
+    /// How many names there may be.
+    pub const MOST: usize = 64;
+
+    /// How many bytes a name may have.
+    pub const LONGEST: usize = 32;
+
+    /// No names.
+    pub fn new(alloc: Global) -> Result<Names, NoMemory>
+        ensures { IsOkAnd result (λ names. names ≡ []) }
+    {
+        Ok(Names {
+            set: IndexSet::new(alloc),
+        })
+    }
+
+    /// Adds a name of 1 to 32 bytes of `a` to `z`, `0` to `9` and `_` that begins with a letter, and answers its number.
+    /// After a fault the names are as before.
+    pub fn add(&mut self, alloc: Global, name: &[u8]) -> Result<u32, NameFault>
+        ensures number { IfOk result (λ number. number ≡ length self.old) }
+        ensures added { OnOk result (self.new ≡ self.old ++ name.now ∷ []) }
+        ensures unchanged { OnErr result (self.new ≡ self.old) }
+
+        // A name that breaks a rule is refused for the first one; another is added, unless memory runs out.
+        ensures fault { MatchOption (refusal self.old name.now) (IsOkUnless result NameFault.NoMemory) (λ fault. result ≡ Err fault) }
+    {
+        if let Some(place) = fault_place(name) {
+            return Err(NameFault::BadName(place));
+        }
+        if let Some(number) = self.find(name) {
+            return Err(NameFault::Again(number));
+        }
+        if self.set.len() >= Names::MOST {
+            return Err(NameFault::TooMany);
+        }
+        let number = self.len();
+        let name = Vec::from_slice(alloc, name)?;
+        self.set.insert(name)?;
+        Ok(number)
+    }
+
+    /// The number of the principal with this name.
+    pub fn find(&self, name: &[u8]) -> Option<u32>
+        ensures number { result ≡ number_of self.now name.now }
+        ensures none { IsNone result ↔ ¬ Contains self.now name.now }
+        ensures found { IfSome result (λ number. slice_get self.now number ≡ Some name.now) }
+        ensures small { IfSome result (λ number. number < 64) }
+    {
+        let place = self.set.get_index_of(name)?;
+        Some(place as u32)
+    }
+
+    /// How many names there are.
+    pub fn len(&self) -> u32
+        ensures len { result ≡ length self.now }
+        ensures most { result ≤ 64 }
+    {
+        self.set.len() as u32
+    }
+
+    /// Whether there are no names.
+    pub fn is_empty(&self) -> bool
+        ensures { IsTrue result ↔ (self.now ≡ []) }
+    {
+        self.set.is_empty()
+    }
+
+    /// The name of the principal with this number.
+    pub fn name(&self, number: u32) -> &[u8]
+        requires { number < length self.now }
+        ensures { slice_get self.now number ≡ Some result.now }
+    {
+        self.set[number as usize].as_slice()
+    }
+}

@@ -1,0 +1,28 @@
+-- The canonical text of a label.
+use Rattle.std.specs.Prelude.{◌≡◌, ℕ, List, ◌++◌, codes, Ok}
+use Rattle.lio_clauses.specs.Names.{AreNames}
+use Rattle.lio_clauses.specs.FormulaPrint as formula
+use Rattle.lio_clauses.specs.FormulaPrint.{formula_text}
+use Rattle.lio_labels.specs.declared.label.Label.{Label}
+use Rattle.lio_labels.specs.IsLabel.{IsLabel}
+use Rattle.lio_labels.specs.Bounds.{join, meet}
+use Rattle.lio_labels.specs.LabelText.{reading}
+
+-- each principal of a label has a name
+abbrev pub AreNamed : List (List ℕ) → Label → Type 0
+AreNamed names l = formula.AreNamed names l.secrecy × formula.AreNamed names l.integrity
+
+-- the secrecy, "%%" with a blank on each side, and the integrity
+abbrev pub label_text : List (List ℕ) → Label → List ℕ
+label_text names l = formula_text names l.secrecy ++ codes " %% " ++ formula_text names l.integrity
+
+-- reading the text of a label gives the label
+abbrev pub ReadsPrinted : Type 0
+ReadsPrinted = (names : List (List ℕ)) (l : Label) → AreNames names → IsLabel l → AreNamed names l → reading names (label_text names l) ≡ Ok l
+
+-- the principals of the bounds of two labels have names where those of the labels have
+abbrev pub JoinIsNamed : Type 0
+JoinIsNamed = (names : List (List ℕ)) (a b : Label) → AreNamed names a → AreNamed names b → AreNamed names (join a b)
+
+abbrev pub MeetIsNamed : Type 0
+MeetIsNamed = (names : List (List ℕ)) (a b : Label) → AreNamed names a → AreNamed names b → AreNamed names (meet a b)

@@ -1,0 +1,9 @@
+pub mod Flow
+pub mod Bounds
+pub mod Extremes
+pub mod IsLabel
+pub mod Privilege
+pub mod Equality
+pub mod LabelText
+pub mod LabelPrint
+pub mod Laws

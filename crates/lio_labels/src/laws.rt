@@ -1,0 +1,123 @@
+//! The laws of labels, of flow, of bounds, and of flow with a privilege. Each function does nothing: its contract is the law.
+ghost use Rattle.lio_labels.specs.Laws.{AllFlowToGreatest, FlowIsAntisymmetric, FlowIsReflexive, FlowIsTested, FlowIsTransitive, FlowIsWithPrivilege, FlowThenPrivilege, JoinIsLabel, JoinIsLeast, JoinWithAbove, LeastFlowsToAll, LeftFlowsToJoin, MeetFlowsToLeft, MeetFlowsToRight, MeetIsGreatest, MeetIsLabel, MeetWithAbove, PrivilegeGrows, PrivilegeIsTested, PrivilegeThenFlow, RightFlowsToJoin, TruePrivilegeIsFlow};
+ghost use Rattle.lio_labels.specs.IsLabel.{IsLabel};
+
+use crate::label::Label;
+
+/// Each label that a program has is canonical and not wide.
+pub fn label_is_canonical(label: &Label)
+    ensures { IsLabel label.now }
+{
+    let _secrecy = label.secrecy.clauses();
+    let _integrity = label.integrity.clauses();
+}
+
+/// The test of flow and flow over all sets of principals agree.
+pub fn flow_is_tested()
+    ensures { FlowIsTested }
+{}
+
+/// A label flows to itself.
+pub fn flow_is_reflexive()
+    ensures { FlowIsReflexive }
+{}
+
+/// A label flows where a label flows to which it flows.
+pub fn flow_is_transitive()
+    ensures { FlowIsTransitive }
+{}
+
+/// Labels that flow to each other are equal.
+pub fn flow_is_antisymmetric()
+    ensures { FlowIsAntisymmetric }
+{}
+
+/// A label flows to its join with another.
+pub fn left_flows_to_join()
+    ensures { LeftFlowsToJoin }
+{}
+
+/// A label flows to another label's join with it.
+pub fn right_flows_to_join()
+    ensures { RightFlowsToJoin }
+{}
+
+/// The join flows to each label that both labels flow to.
+pub fn join_is_least()
+    ensures { JoinIsLeast }
+{}
+
+/// The meet of a label with another flows to it.
+pub fn meet_flows_to_left()
+    ensures { MeetFlowsToLeft }
+{}
+
+/// The meet of another label with a label flows to it.
+pub fn meet_flows_to_right()
+    ensures { MeetFlowsToRight }
+{}
+
+/// Each label that flows to both labels flows to their meet.
+pub fn meet_is_greatest()
+    ensures { MeetIsGreatest }
+{}
+
+/// The join of labels is a label where it is not wide.
+pub fn join_is_label()
+    ensures { JoinIsLabel }
+{}
+
+/// The meet of labels is a label where it is not wide.
+pub fn meet_is_label()
+    ensures { MeetIsLabel }
+{}
+
+/// The join of a label with one that it flows to is that one.
+pub fn join_with_above()
+    ensures { JoinWithAbove }
+{}
+
+/// The meet of a label with one that it flows to is that label.
+pub fn meet_with_above()
+    ensures { MeetWithAbove }
+{}
+
+/// The least label flows to each label.
+pub fn least_flows_to_all()
+    ensures { LeastFlowsToAll }
+{}
+
+/// Each label flows to the greatest label.
+pub fn all_flow_to_greatest()
+    ensures { AllFlowToGreatest }
+{}
+
+/// The test of flow with a privilege and flow with a privilege over all sets of principals agree.
+pub fn privilege_is_tested()
+    ensures { PrivilegeIsTested }
+{}
+
+/// What flows with a privilege flows with each privilege that implies it.
+pub fn privilege_grows()
+    ensures { PrivilegeGrows }
+{}
+
+/// With the privilege True, flow with a privilege is flow.
+pub fn true_privilege_is_flow()
+    ensures { TruePrivilegeIsFlow }
+{}
+
+/// What flows, flows with each privilege.
+pub fn flow_is_with_privilege()
+    ensures { FlowIsWithPrivilege }
+{}
+
+/// Flow followed by flow with a privilege is flow with that privilege.
+pub fn flow_then_privilege()
+    ensures { FlowThenPrivilege }
+{}
+
+/// Flow with a privilege followed by flow is flow with that privilege.
+pub fn privilege_then_flow()
+    ensures { PrivilegeThenFlow }
+{}
