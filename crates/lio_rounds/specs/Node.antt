@@ -1,4 +1,4 @@
--- What a node holds, which acts it is ready for, and what an act makes of it.
+-- What a node holds, which acts it is ready for, and what an act makes of it: channels, and the results of tasks that others may wait for (LIO, ICFP 2012).
 use Rattle.std.specs.Prelude.{ℕ, Bool, true, false, List, ◌++◌, Some}
 use Rattle.lio_values.specs.declared.value.Content.{Content}
 use Rattle.lio_values.specs.declared.entry.Act.{Act}

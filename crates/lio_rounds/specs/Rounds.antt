@@ -1,4 +1,4 @@
--- The order in which rounds let tasks take their turns.
+-- The order in which rounds let tasks take their turns: the round-robin scheduler of LIO (ICFP 2012).
 use Rattle.std.specs.Prelude.{◌≡◌, ℕ, zero, suc, ◌+◌, List, [], ◌∷◌, ◌++◌, is_some, if◌then◌else◌}
 use Rattle.std.specs.Option.{option_map_or}
 use Rattle.lio_rounds.specs.Step.{Configuration, Cell, step}

@@ -1,4 +1,4 @@
--- Runs of a configuration, and when one is complete.
+-- Runs of a configuration, and when one is complete (LIO, ICFP 2012).
 use Rattle.std.specs.Prelude.{◌≡◌, ℕ, ◌+◌, false, map, List, [], ◌∷◌, Option, Some, None, option_and_then}
 use Rattle.lio_values.specs.declared.entry.Entry.{Entry}
 use Rattle.lio_rounds.specs.Step.{Configuration, step, can, entry_of}

@@ -1,4 +1,4 @@
--- Configurations, and the small step of one task.
+-- Configurations, and the small step of one task (the concurrent calculus of LIO, ICFP 2012).
 use Rattle.std.specs.Prelude.{ℕ, Bool, List, Option, Some, None, is_some, slice_set, slice_index_or, if◌then◌else◌}
 use Rattle.lio_labels.specs.declared.label.Label.{Label}
 use Rattle.lio_values.specs.declared.entry.Act.{Act}

@@ -1,4 +1,4 @@
--- A task, what its next turn does, and how it goes on after that turn.
+-- A task, with its current label, what its next turn does, and how it goes on after that turn (LIO, ICFP 2012).
 use Rattle.std.specs.Prelude.{ℕ, ◌-◌, Bool, true, false, List, [], ◌∷◌, Option, Some, None, ◌==◌, if◌then◌else◌}
 use Rattle.lio_labels.specs.declared.label.Label.{Label}
 use Rattle.lio_values.specs.declared.value.Plain.TheVariants.{Unit as unit}

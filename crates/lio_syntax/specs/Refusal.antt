@@ -1,3 +1,4 @@
+-- What the faults of reading a script say.
 use Rattle.std.specs.Prelude.{◌≡◌, ℕ, List, Result, Err}
 use Rattle.lio_syntax.specs.declared.script.Stmt.{Stmt}
 use Rattle.lio_syntax.specs.declared.read.ScriptFault.{ScriptFault}

@@ -1,3 +1,4 @@
+-- Which text is which script: lines, each with its own statement, between `proc main c` and `end`.
 use Rattle.std.specs.Prelude.{ℕ, ◌+◌, ◌-◌, Bool, true, false, ◌&&◌, not, List, [], ◌∷◌, ◌++◌, length, take, drop, codes, bytes_eq, ◌==◌, nat_lt, nat_le, Option, Some, None, Result, Ok, Err, if◌then◌else◌}
 use Rattle.std.specs.List.{slice_split, list_all}
 use Rattle.lio_syntax.specs.declared.script.Stmt.{Stmt}
