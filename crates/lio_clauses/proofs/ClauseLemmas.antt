@@ -1,7 +1,7 @@
 -- On the clauses of a formula's text: each production makes the tokens fewer, and the clauses come one after another.
 use Rattle.std.proofs.Common.{◌≡◌, ◌≢◌, ℕ, suc, zero, ◌<◌, ◌≤◌, List, [], ◌∷◌, ◌⊎◌, inl, inr, Ok, Err, IfOk, refl, sym, ap, subst, ◌∙◌, arith}
 use Rattle.lio_clauses.specs.declared.token.Token.TheVariants.{Truth, Falsity, Open, Close, And, Or, Over, Principal, Stranger, Stray}
-use Rattle.lio_clauses.specs.declared.text.TextFault.{TextFault}
+use Rattle.lio_clauses.specs.declared.faults.TextFault.{TextFault}
 use Rattle.lio_clauses.specs.Token.{Tokens, At, End, count_of}
 use Rattle.lio_clauses.specs.FormulaText.{Read, Reading, ◌>>=◌, name_at, names_at, clause_at, clauses_at, formula_at}
 use Rattle.lio_clauses.specs.Cursor.{with_value, mask_of}

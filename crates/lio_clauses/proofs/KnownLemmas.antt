@@ -5,7 +5,7 @@ use Rattle.std.specs.Str.{bytes_eq}
 use Rattle.std.proofs.lemmas.List.Quantifiers.{position-Some}
 use Rattle.lio_clauses.specs.declared.token.Token.{Token}
 use Rattle.lio_clauses.specs.declared.token.Token.TheVariants.{Truth, Falsity, Open, Close, And, Or, Over, Principal, Stranger, Stray}
-use Rattle.lio_clauses.specs.declared.text.TextFault.TheVariants.{Wide}
+use Rattle.lio_clauses.specs.declared.faults.TextFault.TheVariants.{Wide}
 use Rattle.lio_clauses.specs.Names.{is_letter, is_name_byte, number_of}
 use Rattle.lio_clauses.specs.Token.{Tokens, At, End, Lexeme, count_of, name_token, name_at_front, front, tokens, tokens_of}
 use Rattle.lio_clauses.specs.FormulaText.{Read, Reading, ◌>>=◌, name_at, names_at, clause_at, clauses_at, formula_at, whole, written, narrow, reading}

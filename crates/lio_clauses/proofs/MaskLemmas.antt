@@ -3,8 +3,8 @@ use Rattle.std.proofs.Common.{◌≡◌, ◌≢◌, ℕ, ◌<◌, ◌≤◌, ◌
 use Rattle.std.specs.Int.{bit_at}
 use Rattle.std.specs.List.{list_any, All}
 use Rattle.std.proofs.lemmas.Nat.Bits.{bit_at_or, bit_at-pow_same, bit_at-pow_other, bit_at-zero, bit_at-lt, bit_at_above}
-use Rattle.lio_clauses.specs.declared.text.TextFault.{TextFault}
-use Rattle.lio_clauses.specs.declared.text.TextFault.TheVariants.{Wide, NoMemory}
+use Rattle.lio_clauses.specs.declared.faults.TextFault.{TextFault}
+use Rattle.lio_clauses.specs.declared.faults.TextFault.TheVariants.{Wide, NoMemory}
 use Rattle.lio_clauses.specs.declared.faults.FormFault.{FormFault}
 use Rattle.lio_clauses.specs.declared.faults.FormFault.TheVariants as form
 use Rattle.lio_clauses.specs.FormFault.{text_fault}

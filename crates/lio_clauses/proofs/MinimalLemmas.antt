@@ -4,8 +4,8 @@ use Rattle.std.specs.Prelude.{bit_and}
 use Rattle.std.specs.List.{All, insert}
 use Rattle.std.proofs.lemmas.List.{length-map}
 use Rattle.std.proofs.lemmas.List.Edits.{length-insert}
-use Rattle.lio_clauses.specs.declared.text.TextFault.{TextFault}
-use Rattle.lio_clauses.specs.declared.text.TextFault.TheVariants.{Wide}
+use Rattle.lio_clauses.specs.declared.faults.TextFault.{TextFault}
+use Rattle.lio_clauses.specs.declared.faults.TextFault.TheVariants.{Wide}
 use Rattle.lio_clauses.specs.Principals.{principals}
 use Rattle.lio_clauses.specs.Canonical.{canonical}
 use Rattle.lio_clauses.specs.Bits.{IsLeastUncovered, covers, mask_before}

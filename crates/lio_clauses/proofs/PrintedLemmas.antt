@@ -18,7 +18,7 @@ use Rattle.lio_clauses.proofs.Orders.{in_order-head}
 use Rattle.lio_clauses.proofs.Subsets.{within}
 use Rattle.lio_clauses.specs.Canonical.{IsCanonical, canonical, is_before}
 use Rattle.lio_clauses.specs.PrintedText.{ReadsPrinted}
-use Rattle.lio_clauses.specs.declared.text.TextFault.TheVariants.{Wide}
+use Rattle.lio_clauses.specs.declared.faults.TextFault.TheVariants.{Wide}
 use Rattle.lio_clauses.specs.FormulaPrint.{AreNamed, joined, name_of, clause_text, formula_text}
 
 -- the signs, over any bytes behind them

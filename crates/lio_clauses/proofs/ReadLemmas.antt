@@ -1,7 +1,7 @@
 -- On reading a whole text.
 use Rattle.std.proofs.Common.{◌≡◌, ◌≢◌, ℕ, List, Ok, Err, refl, sym, ap, ◌∙◌}
-use Rattle.lio_clauses.specs.declared.text.TextFault.{TextFault}
-use Rattle.lio_clauses.specs.declared.text.TextFault.TheVariants.{BadText}
+use Rattle.lio_clauses.specs.declared.faults.TextFault.{TextFault}
+use Rattle.lio_clauses.specs.declared.faults.TextFault.TheVariants.{BadText}
 use Rattle.lio_clauses.specs.Canonical.{canonical}
 use Rattle.lio_clauses.specs.Token.{Tokens, At, End, place_of, tokens_of}
 use Rattle.lio_clauses.specs.FormulaText.{◌>>=◌, whole, narrow, shown, formula_at, canonical_at, written, reading}

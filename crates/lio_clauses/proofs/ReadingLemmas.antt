@@ -3,7 +3,7 @@ use Rattle.std.proofs.Common.{◌≡◌, ℕ, ◌<◌, ◌^◌, List, [], ◌∷
 use Rattle.std.specs.List.{All}
 use Rattle.std.proofs.lemmas.List.{append-nil}
 use Rattle.std.proofs.lemmas.List.Elements.{All-push}
-use Rattle.lio_clauses.specs.declared.text.TextFault.{TextFault}
+use Rattle.lio_clauses.specs.declared.faults.TextFault.{TextFault}
 use Rattle.lio_clauses.specs.Token.{Tokens}
 use Rattle.lio_clauses.specs.FormulaText.{Reading, formula_at}
 use Rattle.lio_clauses.specs.Cursor.{with_value, mask_of}

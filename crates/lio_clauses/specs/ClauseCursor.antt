@@ -3,7 +3,7 @@ use Rattle.std.specs.Prelude.{ℕ, ◌<◌, ◌^◌, List, [], ◌∷◌, map, O
 use Rattle.std.specs.List.{All}
 use Rattle.lio_clauses.specs.Principals.{principals}
 use Rattle.lio_clauses.specs.Canonical.{canonical}
-use Rattle.lio_clauses.specs.declared.text.TextFault.{TextFault}
+use Rattle.lio_clauses.specs.declared.faults.TextFault.{TextFault}
 use Rattle.lio_clauses.specs.Token.{Tokens, count_of}
 use Rattle.lio_clauses.specs.FormulaText.{Reading, ◌>>=◌, narrow, formula_at, clauses_at}
 use Rattle.lio_clauses.specs.Cursor.{left, with_value, mask_of}

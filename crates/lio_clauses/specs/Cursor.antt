@@ -2,7 +2,7 @@
 use Rattle.std.specs.Prelude.{ℕ, ◌^◌, List, [], ◌∷◌, Result, Ok, Err, bit_or}
 use Rattle.lio_clauses.specs.FormulaText.{Reading}
 use Rattle.lio_clauses.specs.Token.{Tokens, tokens}
-use Rattle.lio_clauses.specs.declared.text.TextFault.{TextFault}
+use Rattle.lio_clauses.specs.declared.faults.TextFault.{TextFault}
 use Rattle.lio_clauses.specs.declared.cursor.TokenCursor.{TokenCursor}
 
 -- the tokens from the cursor's place on

@@ -6,8 +6,8 @@ use Rattle.std.specs.Prelude.{ℕ, suc, List, [], ◌∷◌, length, min, nat_lt
 use Rattle.lio_clauses.specs.Canonical.{canonical}
 use Rattle.lio_clauses.specs.Token.{Tokens, At, End, place_of, count_of, tokens_of}
 use Rattle.lio_clauses.specs.declared.token.Token.TheVariants.{Truth, Falsity, Open, Close, And, Or, Principal, Stranger}
-use Rattle.lio_clauses.specs.declared.text.TextFault.{TextFault}
-use Rattle.lio_clauses.specs.declared.text.TextFault.TheVariants.{BadText, Unknown, Wide}
+use Rattle.lio_clauses.specs.declared.faults.TextFault.{TextFault}
+use Rattle.lio_clauses.specs.declared.faults.TextFault.TheVariants.{BadText, Unknown, Wide}
 
 -- a value, and the tokens after those that it was read from
 pub record Read (A : Type 0) : Type 0 where

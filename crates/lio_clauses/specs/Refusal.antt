@@ -1,8 +1,8 @@
 -- When a name is not added to the names of principals.
 use Rattle.std.specs.Prelude.{ℕ, nat_lt, if◌then◌else◌, List, length, Option, Some, None}
 use Rattle.lio_clauses.specs.Names.{name_fault, number_of}
-use Rattle.lio_clauses.specs.declared.names.NameFault.{NameFault}
-use Rattle.lio_clauses.specs.declared.names.NameFault.TheVariants.{Again, BadName, TooMany}
+use Rattle.lio_clauses.specs.declared.faults.NameFault.{NameFault}
+use Rattle.lio_clauses.specs.declared.faults.NameFault.TheVariants.{Again, BadName, TooMany}
 
 -- a name that is there has its number, and there is room for 64
 abbrev pub refusal_by_number : List (List ℕ) → Option ℕ → Option NameFault

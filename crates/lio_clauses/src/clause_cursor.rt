@@ -2,7 +2,7 @@
 ghost use Rattle.std.specs.Prelude.{◌≡◌, ◌≢◌, ◌<◌, ◌^◌, ℕ, List, [], OnOk, OnErr, IfOk, IfErr, IfNone, IfSome, Ok, Err};
 
 use crate::cursor::TokenCursor;
-use crate::text::TextFault;
+use crate::faults::TextFault;
 use crate::token::Token;
 
 /// Which production is next.

@@ -8,7 +8,7 @@
 ghost use Rattle.std.specs.Prelude.{◌≡◌, ◌<◌, ◌^◌, bit_or, IfOk};
 
 use crate::cursor::TokenCursor;
-use crate::text::TextFault;
+use crate::faults::TextFault;
 use crate::token::Token;
 
 impl<'a> TokenCursor<'a> {

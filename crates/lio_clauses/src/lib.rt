@@ -4,26 +4,19 @@
 
 mod clause_cursor;
 pub mod cursor;
-pub mod faults;
-pub mod formula;
+mod faults;
+mod formula;
 mod grammar;
 pub mod laws;
 mod masks;
-pub mod names;
+mod names;
 pub mod print;
 mod read;
 mod reduce;
-pub mod text;
 pub mod token;
 
 pub use cursor::TokenCursor;
-pub use faults::{FormFault, NoMemory};
+pub use faults::{FormFault, NameFault, NoMemory, TextFault};
 pub use formula::Formula;
-pub use names::{NameFault, Names};
-pub use text::TextFault;
+pub use names::Names;
 pub use token::Token;
-
-#[cfg(test)]
-mod tests;
-#[cfg(test)]
-mod text_tests;

@@ -3,48 +3,10 @@ ghost use Rattle.std.specs.Prelude.{◌≡◌, ◌↔◌, ◌<◌, ◌≤◌, �
 ghost use Rattle.lio_clauses.specs.Names as spec;
 ghost use Rattle.lio_clauses.specs.Names.{name_fault, number_of};
 
-use crate::faults::NoMemory;
+use crate::faults::{NameFault, NoMemory};
 use indexmap::IndexSet;
-use std::alloc::{AllocError, AllocFailed, Global};
+use std::alloc::Global;
 use std::marker::Model;
-use thiserror::Error;
-
-/// Why a name is not added.
-#[derive(Clone, Copy, Debug, PartialEq, Eq, Error)]
-pub enum NameFault {
-    /// The name is there already, with this number.
-    #[error("the name is there already, with number {0}")]
-    Again(u32),
-    /// The byte at this place may not stand there. It is 0 for the empty name, and 32 for a name that is too long.
-    #[error("the name has a wrong byte at place {0}")]
-    BadName(u32),
-    /// 64 names are there.
-    #[error("there are 64 names already")]
-    TooMany,
-    /// There was not enough memory.
-    #[error("out of memory")]
-    NoMemory,
-}
-
-impl From<AllocError> for NameFault {
-    ghost use Rattle.lio_clauses.specs.declared.names.NameFault.TheVariants.{NoMemory};
-
-    ghost from_gives = { λ _ fault. fault ≡ NoMemory };
-
-    fn from(_: AllocError) -> NameFault {
-        NameFault::NoMemory
-    }
-}
-
-impl<T: Drop> From<AllocFailed<T>> for NameFault {
-    ghost use Rattle.lio_clauses.specs.declared.names.NameFault.TheVariants.{NoMemory};
-
-    ghost from_gives = { λ _ fault. fault ≡ NoMemory };
-
-    fn from(_: AllocFailed<T>) -> NameFault {
-        NameFault::NoMemory
-    }
-}
 
 /// The names of at most 64 principals. A principal's number is the place of its name, from 0.
 #[derive(Drop)]

@@ -5,11 +5,10 @@ ghost use Rattle.lio_clauses.specs.Bits.{IsLeastUncovered};
 
 use crate::clause_cursor::ClauseCursor;
 use crate::cursor::TokenCursor;
-use crate::faults::FormFault;
+use crate::faults::TextFault;
 use crate::formula::Formula;
 use crate::names::Names;
 use crate::reduce::{MAX_CLAUSES, lesser_uncovered, place_of};
-use crate::text::TextFault;
 use smallvec::SmallVec;
 use std::alloc::Global;
 

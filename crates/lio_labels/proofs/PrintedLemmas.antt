@@ -2,8 +2,8 @@
 use Rattle.std.proofs.Common.{◌≡◌, ℕ, suc, ◌≤◌, cond, List, [], ◌∷◌, ◌++◌, length, codes, Result, Ok, Err, inl, inr, le-ltb, append_assoc, refl, sym, ap, ◌∙◌, arith}
 use Rattle.std.proofs.lemmas.List.{append-nil}
 use Rattle.lio_clauses.specs.declared.token.Token.TheVariants.{And, Over}
-use Rattle.lio_clauses.specs.declared.text.TextFault.{TextFault}
-use Rattle.lio_clauses.specs.declared.text.TextFault.TheVariants.{Wide}
+use Rattle.lio_clauses.specs.declared.faults.TextFault.{TextFault}
+use Rattle.lio_clauses.specs.declared.faults.TextFault.TheVariants.{Wide}
 use Rattle.lio_clauses.specs.Canonical.{IsCanonical, canonical}
 use Rattle.lio_clauses.specs.Names.{AreNames}
 use Rattle.lio_clauses.specs.Token.{Tokens, At, End, tokens, tokens_of, front}

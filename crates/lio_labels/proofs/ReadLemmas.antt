@@ -2,8 +2,8 @@
 use Rattle.std.proofs.Common.{◌≡◌, ◌≢◌, ℕ, ◌<◌, List, length, Bool, true, false, cond, nat_lt, Result, Ok, Err, IfOk, All, refl, sym, ap, subst, ◌∙◌}
 use Rattle.lio_clauses.specs.declared.token.Token.{Token}
 use Rattle.lio_clauses.specs.declared.token.Token.TheVariants.{Truth, Falsity, Open, Close, And, Or, Over, Principal, Stranger, Stray}
-use Rattle.lio_clauses.specs.declared.text.TextFault.{TextFault}
-use Rattle.lio_clauses.specs.declared.text.TextFault.TheVariants.{BadText, Wide}
+use Rattle.lio_clauses.specs.declared.faults.TextFault.{TextFault}
+use Rattle.lio_clauses.specs.declared.faults.TextFault.TheVariants.{BadText, Wide}
 use Rattle.lio_clauses.specs.Canonical.{canonical}
 use Rattle.lio_clauses.specs.Token.{Tokens, At, End, place_of, tokens_of}
 use Rattle.lio_clauses.specs.FormulaText.{Read, Reading, ◌>>=◌, whole, narrow, shown, formula_at, canonical_at}

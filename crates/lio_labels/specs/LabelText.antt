@@ -7,7 +7,7 @@ use Rattle.lio_clauses.specs.Canonical.{canonical}
 use Rattle.lio_clauses.specs.Token.{Tokens, At, tokens_of}
 use Rattle.lio_clauses.specs.FormulaText.{Read, Reading, ◌>>=◌, misplaced, formula_at, whole, narrow}
 use Rattle.lio_clauses.specs.declared.token.Token.TheVariants.{Over}
-use Rattle.lio_clauses.specs.declared.text.TextFault.{TextFault}
+use Rattle.lio_clauses.specs.declared.faults.TextFault.{TextFault}
 use Rattle.lio_labels.specs.declared.label.Label.{Label}
 
 -- the tokens after "%%"
