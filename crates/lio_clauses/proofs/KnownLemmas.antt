@@ -1,17 +1,19 @@
 -- The principals of a formula that is read are those of the names.
-use Rattle.std.proofs.Common.{◌≡◌, ℕ, zero, suc, ◌<◌, ◌==◌, ◌-◌, Bool, true, false, cond, if◌then◌else◌, inl, inr, List, [], ◌∷◌, length, take, codes, nat_eq, nat_lt, Option, Some, None, Ok, Err, IfOk, All, refl, sym, subst}
+use Rattle.std.proofs.Common.{◌≡◌, ℕ, zero, suc, ◌<◌, ◌==◌, ◌-◌, Bool, true, false, cond, if◌then◌else◌, inl, inr, List, [], ◌∷◌, ◌++◌, map, length, take, codes, nat_eq, nat_lt, Option, Some, None, Ok, Err, All, refl, sym, subst}
 use Rattle.std.specs.List.{prefix_len, starts_with}
 use Rattle.std.specs.Str.{bytes_eq}
 use Rattle.std.proofs.lemmas.List.Quantifiers.{position-Some}
-use Rattle.lio_clauses.specs.declared.token.Token.{Token}
-use Rattle.lio_clauses.specs.declared.token.Token.TheVariants.{Truth, Falsity, Open, Close, And, Or, Over, Principal, Stranger, Stray}
+use Rattle.lio_clauses.specs.declared.text.token.Token.{Token}
+use Rattle.lio_clauses.specs.declared.text.token.Token.TheVariants as token
 use Rattle.lio_clauses.specs.declared.faults.TextFault.TheVariants.{Wide}
 use Rattle.lio_clauses.specs.Names.{is_letter, is_name_byte, number_of}
-use Rattle.lio_clauses.specs.Token.{Tokens, At, End, Lexeme, count_of, name_token, name_at_front, front, tokens, tokens_of}
-use Rattle.lio_clauses.specs.FormulaText.{Read, Reading, ◌>>=◌, name_at, names_at, clause_at, clauses_at, formula_at, whole, written, narrow, reading}
+use Rattle.lio_clauses.specs.Token.{At, Lexeme, name_token, name_at_front, front, tokens, tokens_of, symbols}
+use Rattle.lio_clauses.specs.FormulaText.{◌>>=◌, written, written_two, narrow, reading, reading_two}
+use Rattle.lio_clauses.specs.Grammar.{ClauseTree, Name, Names, FormulaTree, Truth, Falsity, Clauses, name_tokens, repetition, clause_tokens, clause_value, formula_tokens, formula_value}
 use Rattle.lio_clauses.specs.Canonical.{canonical}
 use Rattle.lio_clauses.specs.Implication.{named}
 use Rattle.lio_clauses.specs.FormulaPrint.{AreNamed}
+use Rattle.lio_clauses.proofs.GrammarLemmas.{bind-Ok, read_is_derived, read_two_are_derived}
 use Rattle.lio_clauses.proofs.Members.{In, In-All}
 use Rattle.lio_clauses.proofs.Sublists.{sublists-members}
 use Rattle.lio_clauses.proofs.Implied.{named-parts}
@@ -20,21 +22,21 @@ use Rattle.lio_clauses.proofs.Minimal.{canonical_of-sublist}
 module _ (k : ℕ) where
   -- a token that names a principal has a number below k
   abbrev pub IsBelow : Token → Type 0
-  IsBelow (Principal n) = n < k
+  IsBelow (token.Principal n) = n < k
   IsBelow token = Unit {0}
 
   -- and so has each of the tokens
-  abbrev pub AreBelow : Tokens → Type 0
-  AreBelow (At place token rest) = IsBelow token × AreBelow rest
-  AreBelow (End place) = Unit {0}
+  abbrev pub AreBelow : List Token → Type 0
+  AreBelow (token ∷ tokens) = IsBelow token × AreBelow tokens
+  AreBelow [] = Unit {0}
 
-  -- what a production gives has a property, and what is left has such tokens
-  abbrev pub Gives : {A : Type 0} → (A → Type 0) → Reading A → Type 0
-  Gives P r = IfOk r (λ x. P x.value × AreBelow x.rest)
+  below-left : (ts us : List Token) → AreBelow (ts ++ us) → AreBelow ts
+  below-left [] us h = tt
+  below-left (t ∷ ts) us h = (h.0, below-left ts us h.1)
 
-  gives_after : {A B : Type 0} (P : A → Type 0) (Q : B → Type 0) (r : Reading A) (next : Read A → Reading B) → Gives P r → ((x : Read A) → P x.value → AreBelow x.rest → Gives Q (next x)) → Gives Q (r >>= next)
-  gives_after P Q (Ok x) next h f = f x h.0 h.1
-  gives_after P Q (Err fault) next h f = tt
+  below-right : (ts us : List Token) → AreBelow (ts ++ us) → AreBelow us
+  below-right [] us h = h
+  below-right (t ∷ ts) us h = below-right ts us h.1
 
   -- the principals of a clause, and of clauses
   abbrev pub BelowIn : List ℕ → Type 0
@@ -51,97 +53,26 @@ module _ (k : ℕ) where
   each-cons c A own all d (inl e) = subst BelowIn (sym e) own
   each-cons c A own all d (inr h) = all d h
 
-  name_at-below : (ts : Tokens) → AreBelow ts → Gives (λ n. n < k) (name_at ts)
-  name_at-below (End at) h = tt
-  name_at-below (At at Truth rest) h = tt
-  name_at-below (At at Falsity rest) h = tt
-  name_at-below (At at Open rest) h = tt
-  name_at-below (At at Close rest) h = tt
-  name_at-below (At at And rest) h = tt
-  name_at-below (At at Or rest) h = tt
-  name_at-below (At at Over rest) h = tt
-  name_at-below (At at (Principal n) rest) h = h
-  name_at-below (At at Stranger rest) h = tt
-  name_at-below (At at Stray rest) h = tt
+  names-below : (ns : List ℕ) → AreBelow (repetition token.Or name_tokens ns) → BelowIn ns
+  names-below [] h = λ n i. absurd i
+  names-below (n ∷ ns) h = below-cons n ns h.1.0 (names-below ns h.1.1)
 
-  names_at-below : (ts : Tokens) → AreBelow ts → Gives BelowIn (names_at ts)
-  names_at-below (End at) h = tt
-  names_at-below (At at Truth rest) h = tt
-  names_at-below (At at Falsity rest) h = tt
-  names_at-below (At at Open rest) h = tt
-  names_at-below (At at Close rest) h = (λ n i. absurd i, h.1)
-  names_at-below (At at And rest) h = tt
-  names_at-below (At at Or (End to)) h = tt
-  names_at-below (At at Or (At to Truth rest)) h = tt
-  names_at-below (At at Or (At to Falsity rest)) h = tt
-  names_at-below (At at Or (At to Open rest)) h = tt
-  names_at-below (At at Or (At to Close rest)) h = tt
-  names_at-below (At at Or (At to And rest)) h = tt
-  names_at-below (At at Or (At to Or rest)) h = tt
-  names_at-below (At at Or (At to Over rest)) h = tt
-  names_at-below (At at Or (At to (Principal n) rest)) h =
-      gives_after BelowIn BelowIn (names_at rest) (λ ns. Ok (record { value = n ∷ ns.value; rest = ns.rest })) (names_at-below rest h.1.1) (λ ns all left. (below-cons n ns.value h.1.0 all, left))
-  names_at-below (At at Or (At to Stranger rest)) h = tt
-  names_at-below (At at Or (At to Stray rest)) h = tt
-  names_at-below (At at Over rest) h = tt
-  names_at-below (At at (Principal n) rest) h = tt
-  names_at-below (At at Stranger rest) h = tt
-  names_at-below (At at Stray rest) h = tt
+  clause-below : (c : ClauseTree) → AreBelow (clause_tokens c) → BelowIn (clause_value c)
+  clause-below (Name n) h = below-cons n [] h.0 (λ m i. absurd i)
+  clause-below (Names n ns) h = below-cons n ns h.1.0 (names-below ns (below-left (repetition token.Or name_tokens ns) (token.Close ∷ []) h.1.1))
 
-  pub clause_at-below : (ts : Tokens) → AreBelow ts → Gives BelowIn (clause_at ts)
-  unfolding clause_at
-  clause_at-below (End at) h = tt
-  clause_at-below (At at Truth rest) h = tt
-  clause_at-below (At at Falsity rest) h = tt
-  clause_at-below (At at Open rest) h =
-      gives_after (λ n. n < k) BelowIn (name_at rest) (λ n. names_at n.rest >>= λ ns. Ok (record { value = n.value ∷ ns.value; rest = ns.rest })) (name_at-below rest h.1)
-      (λ n small left. gives_after BelowIn BelowIn (names_at n.rest) (λ ns. Ok (record { value = n.value ∷ ns.value; rest = ns.rest })) (names_at-below n.rest left)
-      (λ ns all last. (below-cons n.value ns.value small all, last)))
-  clause_at-below (At at Close rest) h = tt
-  clause_at-below (At at And rest) h = tt
-  clause_at-below (At at Or rest) h = tt
-  clause_at-below (At at Over rest) h = tt
-  clause_at-below (At at (Principal n) rest) h = (below-cons n [] h.0 (λ m i. absurd i), h.1)
-  clause_at-below (At at Stranger rest) h = tt
-  clause_at-below (At at Stray rest) h = tt
+  clauses-below : (cs : List ClauseTree) → AreBelow (repetition token.And clause_tokens cs) → BelowInEach (map clause_value cs)
+  clauses-below [] h = λ c i. absurd i
+  clauses-below (c ∷ cs) h =
+      each-cons (clause_value c) (map clause_value cs) (clause-below c (below-left (clause_tokens c) (repetition token.And clause_tokens cs) h.1))
+      (clauses-below cs (below-right (clause_tokens c) (repetition token.And clause_tokens cs) h.1))
 
-  clauses_at-below : (most : ℕ) (ts : Tokens) → AreBelow ts → Gives BelowInEach (clauses_at most ts)
-  unfolding clauses_at
-  clauses_at-below zero ts h = (λ c i. absurd i, h)
-  clauses_at-below (suc most) (End at) h = (λ c i. absurd i, h)
-  clauses_at-below (suc most) (At at Truth rest) h = (λ c i. absurd i, h)
-  clauses_at-below (suc most) (At at Falsity rest) h = (λ c i. absurd i, h)
-  clauses_at-below (suc most) (At at Open rest) h = (λ c i. absurd i, h)
-  clauses_at-below (suc most) (At at Close rest) h = (λ c i. absurd i, h)
-  clauses_at-below (suc most) (At at And rest) h =
-      gives_after BelowIn BelowInEach (clause_at rest) (λ c. clauses_at most c.rest >>= λ cs. Ok (record { value = c.value ∷ cs.value; rest = cs.rest })) (clause_at-below rest h.1)
-      (λ c own left. gives_after BelowInEach BelowInEach (clauses_at most c.rest) (λ cs. Ok (record { value = c.value ∷ cs.value; rest = cs.rest })) (clauses_at-below most c.rest left)
-      (λ cs all last. (each-cons c.value cs.value own all, last)))
-  clauses_at-below (suc most) (At at Or rest) h = (λ c i. absurd i, h)
-  clauses_at-below (suc most) (At at Over rest) h = (λ c i. absurd i, h)
-  clauses_at-below (suc most) (At at (Principal n) rest) h = (λ c i. absurd i, h)
-  clauses_at-below (suc most) (At at Stranger rest) h = (λ c i. absurd i, h)
-  clauses_at-below (suc most) (At at Stray rest) h = (λ c i. absurd i, h)
-
-  conjunction-below : (ts : Tokens) → AreBelow ts → Gives BelowInEach (clause_at ts >>= λ c. clauses_at (count_of c.rest) c.rest >>= λ cs. Ok (record { value = c.value ∷ cs.value; rest = cs.rest }))
-  conjunction-below ts h =
-      gives_after BelowIn BelowInEach (clause_at ts) (λ c. clauses_at (count_of c.rest) c.rest >>= λ cs. Ok (record { value = c.value ∷ cs.value; rest = cs.rest })) (clause_at-below ts h)
-      (λ c own left. gives_after BelowInEach BelowInEach (clauses_at (count_of c.rest) c.rest) (λ cs. Ok (record { value = c.value ∷ cs.value; rest = cs.rest })) (clauses_at-below (count_of c.rest) c.rest left)
-      (λ cs all last. (each-cons c.value cs.value own all, last)))
-
-  pub formula_at-below : (ts : Tokens) → AreBelow ts → Gives BelowInEach (formula_at ts)
-  unfolding formula_at
-  formula_at-below (End at) h = conjunction-below (End at) h
-  formula_at-below (At at Truth rest) h = (λ c i. absurd i, h.1)
-  formula_at-below (At at Falsity rest) h = (each-cons [] [] (λ n i. absurd i) (λ c i. absurd i), h.1)
-  formula_at-below (At at Open rest) h = conjunction-below (At at Open rest) h
-  formula_at-below (At at Close rest) h = conjunction-below (At at Close rest) h
-  formula_at-below (At at And rest) h = conjunction-below (At at And rest) h
-  formula_at-below (At at Or rest) h = conjunction-below (At at Or rest) h
-  formula_at-below (At at Over rest) h = conjunction-below (At at Over rest) h
-  formula_at-below (At at (Principal n) rest) h = conjunction-below (At at (Principal n) rest) h
-  formula_at-below (At at Stranger rest) h = conjunction-below (At at Stranger rest) h
-  formula_at-below (At at Stray rest) h = conjunction-below (At at Stray rest) h
+  pub formula-below : (f : FormulaTree) → AreBelow (formula_tokens f) → BelowInEach (formula_value f)
+  formula-below Truth h = λ c i. absurd i
+  formula-below Falsity h = each-cons [] [] (λ n i. absurd i) (λ c i. absurd i)
+  formula-below (Clauses c cs) h =
+      each-cons (clause_value c) (map clause_value cs) (clause-below c (below-left (clause_tokens c) (repetition token.And clause_tokens cs) h))
+      (clauses-below cs (below-right (clause_tokens c) (repetition token.And clause_tokens cs) h))
 
 module _ (names : List (List ℕ)) where
   -- a name's number is below the number of names
@@ -168,17 +99,17 @@ module _ (names : List (List ℕ)) where
       name_below [] = tt
       name_below (b ∷ bs) =
           either (is_letter b) (record { token = name_token (number_of names (take (prefix_len is_name_byte (b ∷ bs)) (b ∷ bs))); size = prefix_len is_name_byte (b ∷ bs) })
-          (record { token = Stray; size = 1 })
+          (record { token = token.Stray; size = 1 })
           (name_token-below (take (prefix_len is_name_byte (b ∷ bs)) (b ∷ bs)) (number_of names (take (prefix_len is_name_byte (b ∷ bs)) (b ∷ bs))) refl) tt
 
   -- so the tokens of a text have such numbers
-  pub tokens-below : (place inside : ℕ) (bytes : List ℕ) → AreBelow (length names) (tokens names place inside bytes)
+  pub tokens-below : (place inside : ℕ) (bytes : List ℕ) → AreBelow (length names) (symbols (tokens names place inside bytes))
   tokens-below place inside [] = tt
   tokens-below place (suc inside) (b ∷ bs) = tokens-below (suc place) inside bs
   tokens-below place zero (b ∷ bs) = by (b == 32) (tokens-below (suc place) zero bs) (tokens-below (suc place) ((front names (b ∷ bs)).size - 1) bs)
     where
-      by : (c : Bool) → AreBelow (length names) (tokens names (suc place) zero bs) → AreBelow (length names) (tokens names (suc place) ((front names (b ∷ bs)).size - 1) bs)
-          → AreBelow (length names) (if c then tokens names (suc place) zero bs else At place (front names (b ∷ bs)).token (tokens names (suc place) ((front names (b ∷ bs)).size - 1) bs))
+      by : (c : Bool) → AreBelow (length names) (symbols (tokens names (suc place) zero bs)) → AreBelow (length names) (symbols (tokens names (suc place) ((front names (b ∷ bs)).size - 1) bs))
+          → AreBelow (length names) (symbols (if c then tokens names (suc place) zero bs else At place (front names (b ∷ bs)).token (tokens names (suc place) ((front names (b ∷ bs)).size - 1) bs)))
       by true skipped after = skipped
       by false skipped after = (front-below (b ∷ bs), after)
 
@@ -189,22 +120,36 @@ canonical-below k A all c h n i =
     let p = named-parts A n (sublists-members c (named A) (canonical_of-sublist (named A) _ c h) n i) in
     all p.0 p.1.0 n p.1.1
 
+narrow-named : (names A B : List (List ℕ)) → BelowInEach (length names) A → narrow A ≡ Ok B → AreNamed names B
+narrow-named names A B below e =
+    let all = subst (BelowInEach (length names)) (of_narrow (nat_lt 64 (length (canonical A))) e) (canonical-below (length names) A below) in
+    In-All (λ c. All (λ n. n < length names) c) B (λ c h. In-All (λ n. n < length names) c (λ n i. all c h n i))
+  where
+    of_narrow : (b : Bool) → cond b (Err Wide) (Ok (canonical A)) ≡ Ok B → canonical A ≡ B
+    of_narrow true e = cc
+    of_narrow false e = cc
+
 -- and what is read has names
 pub reading-named : (names : List (List ℕ)) (text : List ℕ) (A : List (List ℕ)) → reading names text ≡ Ok A → AreNamed names A
-unfolding reading written
+unfolding reading
 reading-named names text A e =
-    let read = formula_at-below (length names) (tokens_of names text) (tokens-below names 0 0 text) in
-    let all = by (formula_at (tokens_of names text)) read e in
-    In-All (λ c. All (λ n. n < length names) c) A (λ c h. In-All (λ n. n < length names) c (λ n i. all c h n i))
-  where
-    of_narrow : (B C : List (List ℕ)) (b : Bool) → cond b (Err Wide) (Ok B) ≡ Ok C → B ≡ C
-    of_narrow B C true e = cc
-    of_narrow B C false e = cc
+    let p = bind-Ok (written names text) narrow A e in
+    let d = read_is_derived names text p.0 p.1 in
+    let below = formula-below (length names) d.0 (subst (AreBelow (length names)) d.1 (tokens-below names 0 0 text)) in
+    narrow-named names p.0 A (subst (BelowInEach (length names)) (sym d.2) below) p.2
 
-    of_whole : (r : Read (List (List ℕ))) (ts : Tokens) → (whole (record r { rest = ts }) >>= λ A. narrow (canonical A)) ≡ Ok A → canonical r.value ≡ A
-    of_whole r (End place) e = of_narrow (canonical r.value) A (nat_lt 64 (length (canonical r.value))) e
-    of_whole r (At place token rest) e = cc
-
-    by : (r : Reading (List (List ℕ))) → Gives (length names) (BelowInEach (length names)) r → (r >>= whole >>= λ A. narrow (canonical A)) ≡ Ok A → BelowInEach (length names) A
-    by (Ok r) h e = subst (BelowInEach (length names)) (of_whole r r.rest e) (canonical-below (length names) r.value h.0)
-    by (Err fault) h e = cc
+pub reading_two-named : (names : List (List ℕ)) (text : List ℕ) (both : List (List ℕ) × List (List ℕ)) → reading_two names text ≡ Ok both → AreNamed names both.0 × AreNamed names both.1
+unfolding reading_two
+reading_two-named names text both e =
+    let p = bind-Ok (written_two names text) (λ both. narrow both.0 >>= λ A. narrow both.1 >>= λ B. Ok (A, B)) both e in
+    let q = bind-Ok (narrow p.0.0) (λ A. narrow p.0.1 >>= λ B. Ok (A, B)) both p.2 in
+    let u = bind-Ok (narrow p.0.1) (λ B. Ok (q.0, B)) both q.2 in
+    let d = read_two_are_derived names text p.0 p.1 in
+    let all = subst (AreBelow (length names)) d.2 (tokens-below names 0 0 text) in
+    let first = formula-below (length names) d.0 (below-left (length names) (formula_tokens d.0) (token.Over ∷ formula_tokens d.1) all) in
+    let second = formula-below (length names) d.1 (below-right (length names) (formula_tokens d.0) (token.Over ∷ formula_tokens d.1) all).1 in
+    let one : both ≡ (q.0, u.0) = let last = u.2 in cc in
+    subst (λ (b : List (List ℕ) × List (List ℕ)). AreNamed names b.0 × AreNamed names b.1) (sym one) (
+      narrow-named names p.0.0 q.0 (subst (λ (b : List (List ℕ) × List (List ℕ)). BelowInEach (length names) b.0) (sym d.3) first) q.1,
+      narrow-named names p.0.1 u.0 (subst (λ (b : List (List ℕ) × List (List ℕ)). BelowInEach (length names) b.1) (sym d.3) second) u.1,
+    )

@@ -12,9 +12,6 @@ pub mod Algebra
 pub mod NameLemmas
 pub mod TokenLemmas
 pub mod GrammarLemmas
-pub mod ClauseLemmas
-pub mod ReadingLemmas
-pub mod MinimalLemmas
 pub mod MaskLemmas
 pub mod ReadLemmas
 pub mod PrintLemmas

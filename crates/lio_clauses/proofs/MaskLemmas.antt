@@ -1,22 +1,18 @@
 -- The principals of clauses as they are written, and of their masks.
-use Rattle.std.proofs.Common.{◌≡◌, ◌≢◌, ℕ, ◌<◌, ◌≤◌, ◌^◌, Bool, true, false, cond, ◌&&◌, ◌⊎◌, inl, inr, List, [], ◌∷◌, map, length, Ok, Err, nat_lt, max, refl, sym, ap, subst, ◌∙◌, arith, lt-ltb, ltb-true, ltb-false}
+use Rattle.std.proofs.Common.{◌≡◌, ◌≢◌, ℕ, ◌<◌, ◌≤◌, ◌^◌, ◌*◌, ◌%◌, bit_or, Bool, true, false, cond, ◌&&◌, ◌⊎◌, inl, inr, List, [], ◌∷◌, map, length, Ok, Err, nat_lt, max, refl, sym, ap, subst, ◌∙◌, arith, lt-ltb, ltb-true, ltb-false}
 use Rattle.std.specs.Int.{bit_at}
+use Rattle.std.proofs.Math.Nat.{mod-eq_of_lt}
+use Rattle.std.proofs.Math.Pow.{pow-lt}
+use Rattle.std.proofs.lemmas.Nat.{or_comm}
 use Rattle.std.specs.List.{list_any, All}
-use Rattle.std.proofs.lemmas.Nat.Bits.{bit_at_or, bit_at-pow_same, bit_at-pow_other, bit_at-zero, bit_at-lt, bit_at_above}
-use Rattle.lio_clauses.specs.declared.faults.TextFault.{TextFault}
-use Rattle.lio_clauses.specs.declared.faults.TextFault.TheVariants.{Wide, NoMemory}
-use Rattle.lio_clauses.specs.declared.faults.FormFault.{FormFault}
-use Rattle.lio_clauses.specs.declared.faults.FormFault.TheVariants as form
-use Rattle.lio_clauses.specs.FormFault.{text_fault}
-use Rattle.lio_clauses.specs.Width.{IsWide}
+use Rattle.std.proofs.lemmas.Nat.Bits.{same_from_bits, bit_at_or, bit_at-pow_same, bit_at-pow_other, bit_at-zero, bit_at-lt, bit_at_above}
+use Rattle.lio_clauses.specs.declared.faults.TextFault.TheVariants.{Wide}
 use Rattle.lio_clauses.specs.Principals.{principals}
 use Rattle.lio_clauses.specs.Satisfaction.{sat}
 use Rattle.lio_clauses.specs.Canonical.{canonical, IsCanonical}
 use Rattle.lio_clauses.specs.Implication.{named}
-use Rattle.lio_clauses.specs.Token.{Tokens}
-use Rattle.lio_clauses.specs.FormulaText.{Reading, ◌>>=◌, narrow, formula_at, canonical_at}
+use Rattle.lio_clauses.specs.FormulaText.{narrow}
 use Rattle.lio_clauses.specs.Cursor.{mask_of}
-use Rattle.lio_clauses.specs.ClauseCursor.{as_masks, canonical_of_masks, AllFit}
 use Rattle.lio_clauses.proofs.Members.{In, In-map, All-In, any_by, any_some, same_tests}
 use Rattle.lio_clauses.proofs.ClauseBits.{principals-parts, principals-In, principals-clauses}
 use Rattle.lio_clauses.proofs.Implied.{named-parts}
@@ -91,51 +87,24 @@ canonical-masks A fits =
     (IsCanonical-written A (λ c h n k. small_principal c n (each c h) k))
     (λ P. sat-canonical P (map principals (map mask_of A)) ∙ sat-masks P A each ∙ sym (sat-canonical P A))
 
--- what is read by masks is what is written
-pub canonical_at-masks : (ts : Tokens) → AllFit (as_masks (formula_at ts)) → canonical_of_masks (as_masks (formula_at ts)) ≡ canonical_at ts
-unfolding canonical_at
-canonical_at-masks ts fits = by (formula_at ts) fits
-  where
-    by : (r : Reading (List (List ℕ))) → AllFit (as_masks r) → canonical_of_masks (as_masks r) ≡ (r >>= λ x. narrow (canonical x.value))
-    by (Ok r) h = ap narrow (canonical-masks r.value h)
-    by (Err fault) h = refl
+-- and it is the one or the other of them that is wide
+pub narrow-masks : (A : List (List ℕ)) → All (λ clause. clause < 2 ^ 64) (map mask_of A) → narrow (map principals (map mask_of A)) ≡ narrow A
+narrow-masks A fits = ap (λ C. cond (nat_lt 64 (length C)) (Err Wide) (Ok C)) (canonical-masks A fits)
 
-narrow-Ok : (A B : List (List ℕ)) → narrow A ≡ Ok B → (A ≡ B) × (length A ≤ 64)
-narrow-Ok A B h = by (nat_lt 64 (length A)) refl
-  where
-    by : (b : Bool) → nat_lt 64 (length A) ≡ b → (A ≡ B) × (length A ≤ 64)
-    by true e = let wrong : Err Wide ≡ Ok B = sym (ap (λ b. cond b (Err Wide) (Ok A)) e) ∙ h in cc
-    by false e = let same : Ok A ≡ Ok B = sym (ap (λ b. cond b (Err Wide) (Ok A)) e) ∙ h in (cc, ltb-false 64 (length A) e)
+-- a principal's own mask, and the mask of one more
 
--- the clauses that are kept are their own canonical form, and not too many
-pub canonical-kept_itself : (all : Reading (List ℕ)) (kept : List ℕ) → canonical_of_masks all ≡ Ok (map principals kept)
-    → (canonical (map principals kept) ≡ map principals kept) × (length (map principals kept) ≤ 64)
-canonical-kept_itself (Ok r) kept h =
-    let p = narrow-Ok (canonical (map principals r.value)) (map principals kept) h in
-    (canonical-itself (map principals kept) (subst IsCanonical p.0 (IsCanonical-canonical (map principals r.value) (principals-clauses r.value))), subst (λ (A : List (List ℕ)). length A ≤ 64) p.0 p.1)
-canonical-kept_itself (Err fault) kept h = cc
+pub pow_shift : (n : ℕ) → n < 64 → 1 * 2 ^ n % 18446744073709551616 ≡ 2 ^ n
+pow_shift n small =
+    let below : 2 ^ n < 2 ^ 64 = pow-lt small in
+    let one : 1 * 2 ^ n ≡ 2 ^ n = omega arith in
+    ap (λ m. m % 18446744073709551616) one ∙ mod-eq_of_lt {n = 2 ^ n} {m = 18446744073709551616} below
 
--- the formula that is made of the kept clauses
-pub canonical_at-kept : (ts : Tokens) (all : Reading (List ℕ)) (kept slice : List ℕ) (formula : List (List ℕ)) → all ≡ as_masks (formula_at ts) → AllFit all
-    → canonical_of_masks all ≡ Ok (map principals kept) → slice ≡ kept → formula ≡ canonical (map principals slice) → canonical_at ts ≡ Ok formula
-canonical_at-kept ts all kept slice formula e fits found same made =
-    sym (canonical_at-masks ts (subst AllFit e fits)) ∙ ap canonical_of_masks (sym e) ∙ found
-    ∙ ap Ok (sym (canonical-kept_itself all kept found).0 ∙ ap (λ ks. canonical (map principals ks)) (sym same) ∙ sym made)
+pub or_nothing : (a : ℕ) → bit_or a 0 ≡ a
+or_nothing a = or_comm a 0
 
--- is never wide
-pub kept-narrow : (all : Reading (List ℕ)) (kept slice : List ℕ) → canonical_of_masks all ≡ Ok (map principals kept) → slice ≡ kept → IsWide (canonical (map principals slice)) → ⊥
-kept-narrow all kept slice found same wide =
-    let own = canonical-kept_itself all kept found in
-    let few : length (canonical (map principals slice)) ≤ 64 =
-    subst (λ (A : List (List ℕ)). length A ≤ 64) (sym own.0 ∙ ap (λ ks. canonical (map principals ks)) (sym same)) own.1 in
-    omega (arith, few, wide)
+greatest : (x y z xy yz left right : ℕ) → xy ≡ max x y → left ≡ max xy z → yz ≡ max y z → right ≡ max x yz → left ≡ right
+greatest x y z xy yz left right a b c d = omega arith
 
-pub canonical_at-fault : (ts : Tokens) (all : Reading (List ℕ)) (fault : TextFault) → all ≡ as_masks (formula_at ts)
-    → (fault ≡ NoMemory) ⊎ ((canonical_of_masks all ≡ Err fault) × AllFit all) → (fault ≡ NoMemory) ⊎ (canonical_at ts ≡ Err fault)
-canonical_at-fault ts all fault e (inl want) = inl want
-canonical_at-fault ts all fault e (inr h) = inr (sym (canonical_at-masks ts (subst AllFit e h.1)) ∙ ap canonical_of_masks (sym e) ∙ h.0)
-
--- so only want of memory keeps it from being made
-pub only-memory : (cause : FormFault) (fault : TextFault) (wide : Type 0) → fault ≡ text_fault cause → (cause ≡ form.Wide → wide) → (wide → ⊥) → fault ≡ NoMemory
-only-memory form.Wide fault wide e is not_so = absurd (not_so (is refl))
-only-memory form.NoMemory fault wide e is not_so = e
+pub or_together : (a b c : ℕ) → bit_or (bit_or a b) c ≡ bit_or a (bit_or b c)
+or_together a b c = same_from_bits _ _ (λ i.
+    greatest (bit_at a i) (bit_at b i) (bit_at c i) _ _ _ _ (bit_at_or a b i) (bit_at_or (bit_or a b) c i) (bit_at_or b c i) (bit_at_or a (bit_or b c) i))

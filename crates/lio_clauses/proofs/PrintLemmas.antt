@@ -10,7 +10,7 @@ use Rattle.std.proofs.lemmas.Option.{get_or_from_slice_get}
 use Rattle.lio_clauses.specs.Principals.{principals, numbers_below}
 use Rattle.lio_clauses.proofs.Members.{In, All-In, In-map, In-from_Contains}
 use Rattle.lio_clauses.proofs.ClauseBits.{principals-In, principals-parts, principals-pow, principals-same, principals-zero}
-use Rattle.lio_clauses.proofs.GrammarLemmas.{pow_shift}
+use Rattle.lio_clauses.proofs.MaskLemmas.{pow_shift}
 use Rattle.lio_clauses.specs.FormulaPrint.{joined, name_of, clause_text, formula_text}
 
 -- one more text after others, behind the sign

@@ -10,7 +10,7 @@ pub mod Refusal
 pub mod FormFault
 pub mod Token
 pub mod FormulaText
+pub mod Grammar
 pub mod Cursor
-pub mod ClauseCursor
 pub mod FormulaPrint
 pub mod PrintedText

@@ -1,9 +1,9 @@
 -- The tokens of the text of a formula or a label, each with the place of its first byte.
-use Rattle.std.specs.Prelude.{ℕ, zero, suc, ◌-◌, ◌<◌, ◌==◌, nat_eq, if◌then◌else◌, List, [], ◌∷◌, take, codes, Option, Some, None}
+use Rattle.std.specs.Prelude.{ℕ, zero, suc, ◌-◌, ◌==◌, Bool, true, false, nat_eq, if◌then◌else◌, List, [], ◌∷◌, take, codes, Option, Some, None}
 use Rattle.std.specs.List.{prefix_len, starts_with}
 use Rattle.lio_clauses.specs.Names.{is_letter, is_name_byte, number_of}
-use Rattle.lio_clauses.specs.declared.token.Token.{Token}
-use Rattle.lio_clauses.specs.declared.token.Token.TheVariants.{Truth, Falsity, Open, Close, And, Or, Over, Principal, Stranger, Stray}
+use Rattle.lio_clauses.specs.declared.text.token.Token.{Token}
+use Rattle.lio_clauses.specs.declared.text.token.Token.TheVariants.{Truth, Falsity, Open, Close, And, Or, Over, Principal, Stranger, Stray}
 
 -- the tokens of a text: one at a place, before the others, or the end, whose place is the text's length
 pub data Tokens : Type 0 where
@@ -19,6 +19,30 @@ place_of (End place) = place
 abbrev pub count_of : Tokens → ℕ
 count_of (At place token rest) = suc (count_of rest)
 count_of (End place) = 0
+
+-- the tokens without their places
+abbrev pub symbols : Tokens → List Token
+symbols (At place token rest) = token ∷ symbols rest
+symbols (End place) = []
+
+-- whether two tokens are equal
+abbrev pub same_token : Token → Token → Bool
+same_token Truth Truth = true
+same_token Falsity Falsity = true
+same_token Open Open = true
+same_token Close Close = true
+same_token And And = true
+same_token Or Or = true
+same_token Over Over = true
+same_token (Principal m) (Principal n) = m == n
+same_token Stranger Stranger = true
+same_token Stray Stray = true
+same_token token other = false
+
+-- the tokens after the given one, where it is next
+abbrev pub after : Token → Tokens → Option Tokens
+after token (At place next rest) = if same_token token next then Some rest else None
+after token (End place) = None
 
 -- a name is the number of its principal, or a stranger's where no principal has it
 abbrev pub name_token : Option ℕ → Token
@@ -60,8 +84,3 @@ tokens names place zero (b ∷ bs) =
 -- the tokens of a text
 abbrev pub tokens_of : List (List ℕ) → List ℕ → Tokens
 tokens_of names text = tokens names 0 0 text
-
--- a token names a principal, if it does, by a number below 64
-abbrev pub IsKnown : Token → Type 0
-IsKnown (Principal number) = number < 64
-IsKnown token = Unit {0}

@@ -2,21 +2,14 @@
 //! canonical form, and their text over the names of principals.
 #![tactic(auto)]
 
-mod clause_cursor;
-pub mod cursor;
 mod faults;
 mod formula;
-mod grammar;
 pub mod laws;
 mod masks;
 mod names;
-pub mod print;
-mod read;
 mod reduce;
-pub mod token;
+mod text;
 
-pub use cursor::TokenCursor;
 pub use faults::{FormFault, NameFault, NoMemory, TextFault};
 pub use formula::Formula;
 pub use names::Names;
-pub use token::Token;

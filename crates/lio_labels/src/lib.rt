@@ -11,6 +11,3 @@ pub mod text;
 
 pub use label::Label;
 pub use privilege::Priv;
-
-#[cfg(test)]
-mod tests;

@@ -1,0 +1,13 @@
+//! The text of formulas:
+//!
+//!     formula = "True" | "False" | clause { "/\" clause }
+//!     clause  = name | "(" name { "\/" name } ")"
+//!
+//! Blanks between tokens are skipped.
+
+mod clauses;
+mod cursor;
+mod grammar;
+mod print;
+mod read;
+mod token;
