@@ -1,15 +1,14 @@
 //! Reading formulas.
 ghost use Rattle.std.specs.Prelude.{◌≡◌, ◌⊎◌, map, OnOk, IfOk, IfErr, IsOk, Ok, Err};
 ghost use Rattle.lio_clauses.specs.Principals.{principals};
-ghost use Rattle.lio_clauses.specs.Bits.{IsLeastUncovered};
+ghost use Rattle.lio_clauses.specs.Bits.{IsFormula, IsLeastUncovered};
 
 use crate::clause_cursor::ClauseCursor;
 use crate::cursor::TokenCursor;
 use crate::faults::TextFault;
 use crate::formula::Formula;
 use crate::names::Names;
-use crate::reduce::{MAX_CLAUSES, lesser_uncovered, place_of};
-use smallvec::SmallVec;
+use crate::reduce::{Kept, keep, lesser_uncovered};
 use std::alloc::Global;
 
 impl<'a> ClauseCursor<'a> {
@@ -34,19 +33,15 @@ impl<'a> ClauseCursor<'a> {
     ///
     /// Each round goes through the text and keeps the least clause, as a number, that contains no kept one. It is minimal,
     /// since what it contains is less. So no more clauses are ever kept than the formula has.
-    fn minimal_clauses(&self, alloc: Global) -> Result<SmallVec<u64, 2>, TextFault>
+    fn minimal_clauses(&self, alloc: Global) -> Result<Kept, TextFault>
         ensures ok { IfOk result (λ kept. canonical_of_masks (clauses_left self.now) ≡ Ok (map principals kept.items)) }
-        ensures fits { OnOk result (AllFit (clauses_left self.now)) }
+        ensures formula { IfOk result (λ kept. IsFormula kept.items) }
         ensures fault { IfErr result (λ fault. (fault ≡ TextFault.NoMemory)
             ⊎ ((canonical_of_masks (clauses_left self.now) ≡ Err fault) × AllFit (clauses_left self.now))) }
     {
-        let mut kept: SmallVec<u64, 2> = SmallVec::new(alloc);
+        let mut kept = Kept::new(alloc);
         'rounds: while let Some(clause) = self.least_uncovered(kept.as_slice())? {
-            if kept.len() == MAX_CLAUSES {
-                return Err(TextFault::Wide);
-            }
-            let place = place_of(kept.as_slice(), clause);
-            kept.insert(place, clause)?;
+            keep(&mut kept, clause)?;
         }
         Ok(kept)
     }
@@ -61,8 +56,8 @@ impl<'a> TokenCursor<'a> {
         ensures ok { IfOk result (λ formula. canonical_at (left self.now) ≡ Ok formula) }
         ensures fault { IfErr result (λ fault. (fault ≡ TextFault.NoMemory) ⊎ (canonical_at (left self.now) ≡ Err fault)) }
     {
-        let clauses = ClauseCursor::new(*self).minimal_clauses(alloc)?;
-        Ok(Formula::of_clauses(alloc, clauses.as_slice())?)
+        let kept = ClauseCursor::new(*self).minimal_clauses(alloc)?;
+        Ok(Formula::of_kept(alloc, kept.as_slice())?)
     }
 }
 
