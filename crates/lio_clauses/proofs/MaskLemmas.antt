@@ -1,14 +1,10 @@
 -- The principals of clauses as they are written, and of their masks.
-use Rattle.std.proofs.Common.{◌≡◌, ◌≢◌, ℕ, ◌<◌, ◌≤◌, ◌^◌, Bool, true, false, cond, ◌&&◌, ◌⊎◌, inl, inr, List, [], ◌∷◌, map, length, Ok, Err, nat_lt, max, refl, sym, ap, subst, ◌∙◌, arith, lt-ltb, ltb-true, ltb-false}
+use Rattle.std.proofs.Common.{◌≡◌, ◌≢◌, ℕ, ◌<◌, ◌^◌, Bool, true, false, ◌&&◌, ◌⊎◌, inl, inr, List, [], ◌∷◌, map, Ok, Err, nat_lt, max, refl, sym, ap, subst, ◌∙◌, arith, lt-ltb, ltb-true, ltb-false}
 use Rattle.std.specs.Int.{bit_at}
 use Rattle.std.specs.List.{list_any, All}
 use Rattle.std.proofs.lemmas.Nat.Bits.{bit_at_or, bit_at-pow_same, bit_at-pow_other, bit_at-zero, bit_at-lt, bit_at_above}
 use Rattle.lio_clauses.specs.declared.faults.TextFault.{TextFault}
-use Rattle.lio_clauses.specs.declared.faults.TextFault.TheVariants.{Wide, NoMemory}
-use Rattle.lio_clauses.specs.declared.faults.FormFault.{FormFault}
-use Rattle.lio_clauses.specs.declared.faults.FormFault.TheVariants as form
-use Rattle.lio_clauses.specs.FormFault.{text_fault}
-use Rattle.lio_clauses.specs.Width.{IsWide}
+use Rattle.lio_clauses.specs.declared.faults.TextFault.TheVariants.{NoMemory}
 use Rattle.lio_clauses.specs.Principals.{principals}
 use Rattle.lio_clauses.specs.Satisfaction.{sat}
 use Rattle.lio_clauses.specs.Canonical.{canonical, IsCanonical}
@@ -21,7 +17,7 @@ use Rattle.lio_clauses.proofs.Members.{In, In-map, All-In, any_by, any_some, sam
 use Rattle.lio_clauses.proofs.ClauseBits.{principals-parts, principals-In, principals-clauses}
 use Rattle.lio_clauses.proofs.Implied.{named-parts}
 use Rattle.lio_clauses.proofs.Minimal.{IsCanonical-canonical_of, canonical-unique}
-use Rattle.lio_clauses.proofs.Forms.{Grows-sat, sat-canonical, IsCanonical-canonical, canonical-itself}
+use Rattle.lio_clauses.proofs.Forms.{Grows-sat, sat-canonical, IsCanonical-canonical}
 
 same_number : (m n : ℕ) → (m ≡ n) ⊎ (m ≢ n)
 same_number m n = grind arith
@@ -100,42 +96,13 @@ canonical_at-masks ts fits = by (formula_at ts) fits
     by (Ok r) h = ap narrow (canonical-masks r.value h)
     by (Err fault) h = refl
 
-narrow-Ok : (A B : List (List ℕ)) → narrow A ≡ Ok B → (A ≡ B) × (length A ≤ 64)
-narrow-Ok A B h = by (nat_lt 64 (length A)) refl
-  where
-    by : (b : Bool) → nat_lt 64 (length A) ≡ b → (A ≡ B) × (length A ≤ 64)
-    by true e = let wrong : Err Wide ≡ Ok B = sym (ap (λ b. cond b (Err Wide) (Ok A)) e) ∙ h in cc
-    by false e = let same : Ok A ≡ Ok B = sym (ap (λ b. cond b (Err Wide) (Ok A)) e) ∙ h in (cc, ltb-false 64 (length A) e)
-
--- the clauses that are kept are their own canonical form, and not too many
-pub canonical-kept_itself : (all : Reading (List ℕ)) (kept : List ℕ) → canonical_of_masks all ≡ Ok (map principals kept)
-    → (canonical (map principals kept) ≡ map principals kept) × (length (map principals kept) ≤ 64)
-canonical-kept_itself (Ok r) kept h =
-    let p = narrow-Ok (canonical (map principals r.value)) (map principals kept) h in
-    (canonical-itself (map principals kept) (subst IsCanonical p.0 (IsCanonical-canonical (map principals r.value) (principals-clauses r.value))), subst (λ (A : List (List ℕ)). length A ≤ 64) p.0 p.1)
-canonical-kept_itself (Err fault) kept h = cc
-
 -- the formula that is made of the kept clauses
 pub canonical_at-kept : (ts : Tokens) (all : Reading (List ℕ)) (kept slice : List ℕ) (formula : List (List ℕ)) → all ≡ as_masks (formula_at ts) → AllFit all
-    → canonical_of_masks all ≡ Ok (map principals kept) → slice ≡ kept → formula ≡ canonical (map principals slice) → canonical_at ts ≡ Ok formula
+    → canonical_of_masks all ≡ Ok (map principals kept) → slice ≡ kept → formula ≡ map principals slice → canonical_at ts ≡ Ok formula
 canonical_at-kept ts all kept slice formula e fits found same made =
-    sym (canonical_at-masks ts (subst AllFit e fits)) ∙ ap canonical_of_masks (sym e) ∙ found
-    ∙ ap Ok (sym (canonical-kept_itself all kept found).0 ∙ ap (λ ks. canonical (map principals ks)) (sym same) ∙ sym made)
-
--- is never wide
-pub kept-narrow : (all : Reading (List ℕ)) (kept slice : List ℕ) → canonical_of_masks all ≡ Ok (map principals kept) → slice ≡ kept → IsWide (canonical (map principals slice)) → ⊥
-kept-narrow all kept slice found same wide =
-    let own = canonical-kept_itself all kept found in
-    let few : length (canonical (map principals slice)) ≤ 64 =
-    subst (λ (A : List (List ℕ)). length A ≤ 64) (sym own.0 ∙ ap (λ ks. canonical (map principals ks)) (sym same)) own.1 in
-    omega (arith, few, wide)
+    sym (canonical_at-masks ts (subst AllFit e fits)) ∙ ap canonical_of_masks (sym e) ∙ found ∙ ap Ok (ap (map principals) (sym same) ∙ sym made)
 
 pub canonical_at-fault : (ts : Tokens) (all : Reading (List ℕ)) (fault : TextFault) → all ≡ as_masks (formula_at ts)
     → (fault ≡ NoMemory) ⊎ ((canonical_of_masks all ≡ Err fault) × AllFit all) → (fault ≡ NoMemory) ⊎ (canonical_at ts ≡ Err fault)
 canonical_at-fault ts all fault e (inl want) = inl want
 canonical_at-fault ts all fault e (inr h) = inr (sym (canonical_at-masks ts (subst AllFit e h.1)) ∙ ap canonical_of_masks (sym e) ∙ h.0)
-
--- so only want of memory keeps it from being made
-pub only-memory : (cause : FormFault) (fault : TextFault) (wide : Type 0) → fault ≡ text_fault cause → (cause ≡ form.Wide → wide) → (wide → ⊥) → fault ≡ NoMemory
-only-memory form.Wide fault wide e is not_so = absurd (not_so (is refl))
-only-memory form.NoMemory fault wide e is not_so = e

@@ -174,7 +174,7 @@ impl Formula {
         ensures test { result ≡ implies self.now other.now }
         ensures all_sets { IsTrue result ↔ Implies self.now other.now }
     {
-        are_covered(self.clauses(), &[], other.clauses())
+        are_covered(&[], self.clauses(), other.clauses())
     }
 
     /// Whether each set of principals that satisfies this formula and another one satisfies the last one.

@@ -36,6 +36,7 @@ impl<'a> ClauseCursor<'a> {
     fn minimal_clauses(&self, alloc: Global) -> Result<Kept, TextFault>
         ensures ok { IfOk result (λ kept. canonical_of_masks (clauses_left self.now) ≡ Ok (map principals kept.items)) }
         ensures formula { IfOk result (λ kept. IsFormula kept.items) }
+        ensures fits { OnOk result (AllFit (clauses_left self.now)) }
         ensures fault { IfErr result (λ fault. (fault ≡ TextFault.NoMemory)
             ⊎ ((canonical_of_masks (clauses_left self.now) ≡ Err fault) × AllFit (clauses_left self.now))) }
     {

@@ -21,6 +21,7 @@ pub(crate) type Kept = SmallVec<u64, 4>;
 /// what it contains is less. After a fault the kept ones are as before.
 pub(crate) fn keep(kept: &mut Kept, clause: u64) -> Result<(), FormFault>
     requires { (clauses : List ℕ) × KeepsMinimal clauses kept.old.items × IsLeastUncovered kept.old.items clauses (Some clause) }
+    ensures room { OnOk result (length kept.old.items < 64) }
     ensures one_more { OnOk result (length kept.new.items ≡ length kept.old.items + 1) }
     ensures minimal { OnOk result ((clauses : List ℕ) → KeepsMinimal clauses kept.old.items
         → IsLeastUncovered kept.old.items clauses (Some clause) → KeepsMinimal clauses kept.new.items) }
@@ -63,7 +64,8 @@ impl<'a> Conjuncts<'a> {
 
     /// The least clause, as a number, that contains no kept one.
     fn least_uncovered(self, kept: &[u64]) -> Option<u64>
-        ensures { IsLeastUncovered kept.now (clauses_of self.entry) result }
+        ensures least { IsLeastUncovered kept.now (clauses_of self.entry) result }
+        ensures fits { All (λ m. m < 2 ^ 64) (clauses_of self.entry) }
     {
         match self {
             Conjuncts::Both(left, right) => least_among(least_among(None, left, kept), right, kept),
@@ -74,8 +76,9 @@ impl<'a> Conjuncts<'a> {
 
 /// The least clause, as a number, among those before and these that contains no kept one.
 fn least_among(before: Option<u64>, clauses: &[u64], kept: &[u64]) -> Option<u64>
-    ensures { (others : List ℕ) → IsLeastUncovered kept.now others before
+    ensures least { (others : List ℕ) → IsLeastUncovered kept.now others before
         → IsLeastUncovered kept.now (others ++ clauses.now) result }
+    ensures fits { All (λ m. m < 2 ^ 64) clauses.now }
 {
     let mut least = before;
     for clause in clauses {
@@ -86,7 +89,8 @@ fn least_among(before: Option<u64>, clauses: &[u64], kept: &[u64]) -> Option<u64
 
 /// The least union, as a number, of a clause of each side that contains no kept clause.
 fn least_union(left: &[u64], right: &[u64], kept: &[u64]) -> Option<u64>
-    ensures { IsLeastUncovered kept.now (unions left.now right.now) result }
+    ensures least { IsLeastUncovered kept.now (unions left.now right.now) result }
+    ensures fits { All (λ m. m < 2 ^ 64) (unions left.now right.now) }
 {
     let mut least = None;
     for a in left {

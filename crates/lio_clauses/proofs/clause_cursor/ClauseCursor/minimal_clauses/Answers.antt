@@ -1,40 +1,48 @@
-use Rattle.std.proofs.Common.{◌∙◌, sym, ap, subst, inr, arith, length, List, ℕ, ◌≤◌}
+use Rattle.std.proofs.Common.{Some, None, ap, inr, Err}
 use Rattle.std.proofs.lemmas.Result.{err_from_is_err_and}
+use Rattle.lio_clauses.specs.Bits.{IsLeastUncovered}
 use Rattle.lio_clauses.specs.ClauseCursor.{clauses_left, values_of}
-use Rattle.lio_clauses.proofs.MinimalLemmas.{KeepsMinimal-nothing, apart-kept, KeepsMinimal-next, length-next, canonical-kept, canonical-wide, canonical-fault}
+use Rattle.lio_clauses.proofs.Reduced.{KeepsMinimal-none, kept-formula, least-seen}
+use Rattle.lio_clauses.proofs.MinimalLemmas.{canonical-kept, canonical-not_kept, canonical-fault}
 use Rattle.lio_clauses.proofs.clause_cursor.ClauseCursor.minimal_clauses.Goals as goal
 
 pub rounds-init : goal.rounds-init
-rounds-init c = (λ fits. KeepsMinimal-nothing (values_of (clauses_left c.args.self.now)) c.new-kept.result.items c.new-kept.ensures.items fits, let none = ap length c.new-kept.ensures.items in omega (arith, none))
+rounds-init c = λ fits. KeepsMinimal-none (values_of (clauses_left c.args.self.now)) c.new-kept.result.items fits c.new-kept.ensures.items
 
-pub returns-then-len-eq-MAX_CLAUSES-clause-fault : goal.returns-then-len-eq-MAX_CLAUSES-clause-fault
-returns-then-len-eq-MAX_CLAUSES-clause-fault c =
-    inr (
-      canonical-wide (clauses_left c.args.self.now) c.as_slice.result.now c.rounds.kept.items c.in-Some.clause c.in_ok-clause.field-0 c.in_ok-clause.ensures.read c.as_slice.ensures
-          c.in_ok-clause.ensures.least c.in-Some.is (c.rounds.invariant.0 c.in_ok-clause.ensures.fits) (sym c.len.ensures.value ∙ c.if-len-eq-MAX_CLAUSES.true),
-      c.in_ok-clause.ensures.fits,
-    )
+found : (c : goal.After-kept-in-Some-1) → IsLeastUncovered c.rounds.kept.items (values_of (clauses_left c.args.self.now)) (Some c.in-Some.clause)
+found c =
+    least-seen (values_of (clauses_left c.args.self.now)) c.as_slice.result.now c.rounds.kept.items c.in_ok-clause.field-0 (Some c.in-Some.clause)
+    c.as_slice.ensures c.in-Some.is c.in_ok-clause.ensures.least
 
-pub place_of-place-requires : goal.place_of-place-requires
-place_of-place-requires c =
-    apart-kept (values_of (clauses_left c.args.self.now)) c.as_slice.result.now c.as_slice-in-Some.result.now c.rounds.kept.items c.in-Some.clause c.in_ok-clause.field-0 c.as_slice.ensures c.as_slice-in-Some.ensures
-    c.in_ok-clause.ensures.least c.in-Some.is (c.rounds.invariant.0 c.in_ok-clause.ensures.fits)
+none : (c : goal.In_default) → IsLeastUncovered c.rounds.kept.items (values_of (clauses_left c.args.self.now)) None
+none c =
+    least-seen (values_of (clauses_left c.args.self.now)) c.as_slice.result.now c.rounds.kept.items c.in_ok-clause.field-0 None
+    c.as_slice.ensures c.in_default.is c.in_ok-clause.ensures.least
+
+pub keep-requires : goal.keep-requires
+keep-requires c = (values_of (clauses_left c.args.self.now), c.rounds.invariant c.in_ok-clause.ensures.fits, found c)
 
 pub rounds-preserved : goal.rounds-preserved
 rounds-preserved c =
-    let within : c.place_of-place.result ≤ length c.rounds.kept.items = subst (λ (v : List ℕ). c.place_of-place.result ≤ length v) c.as_slice-in-Some.ensures c.place_of-place.ensures.within in
-    let more = length-next c.rounds.kept.items c.insert.new.self.items c.in-Some.clause c.place_of-place.result within c.in_ok-insert.ensures.ok in (
-      λ fits.
-          KeepsMinimal-next (values_of (clauses_left c.args.self.now)) c.as_slice.result.now c.as_slice-in-Some.result.now c.rounds.kept.items c.insert.new.self.items c.in-Some.clause
-          c.place_of-place.result c.in_ok-clause.field-0 c.as_slice.ensures c.as_slice-in-Some.ensures c.in_ok-clause.ensures.least c.in-Some.is (c.rounds.invariant.0 fits)
-          c.place_of-place.ensures.within c.place_of-place.ensures.before c.place_of-place.ensures.after c.in_ok-insert.ensures.ok,
-      omega (arith, more, c.len.ensures.value, c.if-len-eq-MAX_CLAUSES.false, c.rounds.invariant.1),
-    )
+    λ fits. c.in_ok-keep.ensures.minimal (values_of (clauses_left c.args.self.now)) (c.rounds.invariant fits)
+    (least-seen (values_of (clauses_left c.args.self.now)) c.as_slice.result.now c.rounds.kept.items c.in_ok-clause.field-0 (Some c.in-Some.clause)
+    c.as_slice.ensures c.in-Some.is c.in_ok-clause.ensures.least)
 
 pub returns-clause-ok : goal.returns-clause-ok
 returns-clause-ok c =
-    canonical-kept (clauses_left c.args.self.now) c.as_slice.result.now c.rounds.kept.items c.in_ok-clause.field-0 c.in_ok-clause.ensures.read c.as_slice.ensures
-    c.in_ok-clause.ensures.least c.in_default.is (c.rounds.invariant.0 c.in_ok-clause.ensures.fits) c.rounds.invariant.1
+    canonical-kept (clauses_left c.args.self.now) c.rounds.kept.items c.in_ok-clause.ensures.read (c.rounds.invariant c.in_ok-clause.ensures.fits) (none c)
+
+pub returns-clause-formula : goal.returns-clause-formula
+returns-clause-formula c =
+    kept-formula (values_of (clauses_left c.args.self.now)) c.rounds.kept.items (c.rounds.invariant c.in_ok-clause.ensures.fits) (none c)
+
+pub returns-in_err-keep-clause-fault : goal.returns-in_err-keep-clause-fault
+returns-in_err-keep-clause-fault c =
+    let p = err_from_is_err_and c.from_residual-in_err-keep.result c.from_residual-in_err-keep.ensures.1 in
+    rw (p.1) (canonical-not_kept (clauses_left c.args.self.now) c.in_err-keep.field-0.0 p.0 c.in_ok-clause.ensures.read c.in_ok-clause.ensures.fits p.2
+    (λ same. c.in_err-keep.ensures.wide (ap Err same) (values_of (clauses_left c.args.self.now)) (c.rounds.invariant c.in_ok-clause.ensures.fits)
+    (least-seen (values_of (clauses_left c.args.self.now)) c.as_slice.result.now c.rounds.kept.items c.in_ok-clause.field-0 (Some c.in-Some.clause)
+    c.as_slice.ensures c.in-Some.is c.in_ok-clause.ensures.least)))
 
 pub returns-in_err-clause-clause-fault : goal.returns-in_err-clause-clause-fault
 returns-in_err-clause-clause-fault c =
