@@ -1,11 +1,12 @@
 -- Answers of calls that make a formula: the formula, or Wide exactly where it is wide.
-use Rattle.std.proofs.Common.{◌≡◌, ◌≢◌, ℕ, ◌≤◌, ◌↔◌, true, List, [], ◌∷◌, length, refl, sym, ◌∙◌, ap, subst, arith, Result, Ok, Err, OnOk, IfOk, MatchResult, is_ok}
+use Rattle.std.proofs.Common.{◌≡◌, ◌≢◌, ℕ, ◌≤◌, ◌↔◌, Bool, true, List, [], ◌∷◌, length, refl, sym, ◌∙◌, ap, subst, arith, Result, Ok, Err, IfOk, is_ok}
 use Rattle.std.specs.Prelude.{nat_eq}
 use Rattle.std.specs.Cmp.Lexicographic.{pointwise, same_text}
 use Rattle.std.proofs.lemmas.Bool.{true≢false, and_parts, and_from, eq-eqb}
 use Rattle.lio_clauses.specs.declared.faults.FormFault.{FormFault}
 use Rattle.lio_clauses.specs.declared.faults.FormFault.TheVariants.{Wide, NoMemory}
 use Rattle.lio_clauses.specs.Width.{IsWide}
+use Rattle.lio_clauses.specs.Satisfaction.{sat}
 
 -- Wide is answered exactly where the formula is wide, unless memory is wanting
 abbrev pub IsWideExactly : {X : Type 0} → Result X FormFault → List (List ℕ) → Type 0
@@ -24,15 +25,11 @@ IsWideExactly-same r A B e h = let P : List (List ℕ) → Type 0 = λ v. IsWide
 pub IfOk-same : (r : Result (List (List ℕ)) FormFault) (A B : List (List ℕ)) → A ≡ B → IfOk r (λ f. f ≡ A) → IfOk r (λ f. f ≡ B)
 IfOk-same r A B e h = let P : List (List ℕ) → Type 0 = λ v. IfOk r (λ f. f ≡ v) in subst P e h
 
--- what a call that succeeded says, through `map_err`
-pub at_ok : {X Y T P : Type 0} (r : Result T X) (s : Result T Y) (x : T) → is_ok s ≡ is_ok r → s ≡ Ok x → OnOk r P → P
-at_ok (Ok y) s x e f h = h
-at_ok (Err y) s x e f h = absurd (true≢false (sym (ap is_ok f) ∙ e))
-
--- and what it says of its value
-pub value_ok : {X Y T : Type 0} (P : T → Type 0) (Q : X → Type 0) (r : Result T X) (s : Result T Y) (x : T) → MatchResult r (λ y. s ≡ Ok y) Q → is_ok s ≡ is_ok r → s ≡ Ok x → IfOk r P → P x
-value_ok {T = T} P Q (Ok y) s x m e f h = let same : y ≡ x = cc in subst P same h
-value_ok P Q (Err y) s x m e f h = absurd (true≢false (sym (ap is_ok f) ∙ e))
+-- which sets satisfy what is made
+pub IfOk-sets : (r : Result (List (List ℕ)) FormFault) (A : List (List ℕ)) (passes : (ℕ → Bool) → Bool) → ((who : ℕ → Bool) → sat who A ≡ passes who)
+    → IfOk r (λ f. f ≡ A) → IfOk r (λ f. (who : ℕ → Bool) → sat who f ≡ passes who)
+IfOk-sets (Ok f) A passes e h = λ who. ap (sat who) h ∙ e who
+IfOk-sets (Err fault) A passes e h = tt
 
 -- the test of equality that comparisons of formulas compute
 

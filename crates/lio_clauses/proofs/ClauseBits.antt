@@ -1,10 +1,12 @@
 -- Clauses as 64 bits: their principals, which of two is contained in the other, and which stands first.
-use Rattle.std.proofs.Common.{◌≡◌, ℕ, suc, zero, ◌+◌, ◌*◌, ◌/◌, ◌%◌, ◌^◌, ◌<◌, ◌≤◌, min, max, Bool, true, false, not, ◌||◌, ◌⊎◌, inl, inr, List, [], ◌∷◌, map, refl, sym, ◌∙◌, ap, subst, arith}
+use Rattle.std.proofs.Common.{◌≡◌, ℕ, suc, zero, ◌+◌, ◌*◌, ◌/◌, ◌%◌, ◌^◌, ◌<◌, ◌≤◌, min, max, Bool, true, false, not, ◌&&◌, ◌||◌, ◌⊎◌, inl, inr, List, [], ◌∷◌, ◌++◌, map, refl, sym, ◌∙◌, ap, subst, arith}
 use Rattle.std.specs.Prelude.{nat_lt, ◌==◌, bit_and, bit_or, bit_xor}
 use Rattle.std.specs.Int.{bit_at, w64, trailing_zeros}
 use Rattle.std.specs.Int.Bits.{or_zero_r}
 use Rattle.std.specs.List.{list_all, list_any}
 use Rattle.std.proofs.lemmas.Bool.{both_ways, and_from, or_cases, or_left, or_right, cases_Bool, eqb-true, eq-eqb, ne_eqb, lt-ltb, ltb-true, false_from_ne_true, cases_order, cases_eq, not_from_false, not-true}
+use Rattle.std.proofs.lemmas.List.{map-append}
+use Rattle.std.proofs.lemmas.List.Folds.{list_any-append}
 use Rattle.std.proofs.Math.Pow.{pow-lt}
 use Rattle.std.proofs.lemmas.Nat.{and_comm, and_le_r, or_lt, xor_lt}
 use Rattle.std.proofs.lemmas.Nat.Bits.{bit_at_and, bit_at_or, bit_at_xor, bit_at-zero, bit_at-pow_same, bit_at-pow_other, same_from_bits_below, bit_at-trailing_zeros, shr_and_one}
@@ -372,6 +374,20 @@ pub covers-implies : (ks ds : List ℕ) → ((k : ℕ) → In k ks → k < 2 ^ 6
 covers-implies ks ds f g =
     list_all-map principals (λ d. covers ks d) (λ e. list_any (λ c. within c e) (map principals ks)) ds (λ d m. covers-within ks d f (g d m))
     ∙ sym (implies-contains (map principals ks) (map principals ds))
+
+-- two formulas together imply a third exactly where each of its clauses contains one of theirs
+pub covers-both : (ls rs ds : List ℕ) → ((l : ℕ) → In l ls → l < 2 ^ 64) → ((r : ℕ) → In r rs → r < 2 ^ 64) → ((d : ℕ) → In d ds → d < 2 ^ 64)
+    → list_all (λ d. covers ls d || covers rs d) ds ≡ implies (map principals ls ++ map principals rs) (map principals ds)
+covers-both ls rs ds f g h =
+    each ds
+    ∙ covers-implies (ls ++ rs) ds (λ k m. elim (In-append_cases k ls rs m) [ inl a ↦ f k a | inr b ↦ g k b ]) h
+    ∙ ap (λ v. implies v (map principals ds)) (map-append principals ls rs)
+  where
+    each : (ds : List ℕ) → list_all (λ d. covers ls d || covers rs d) ds ≡ list_all (λ d. covers (ls ++ rs) d) ds
+    each [] = refl
+    each (d ∷ ds) =
+        ap (λ b. b && list_all (λ d. covers ls d || covers rs d) ds) (sym (list_any-append (λ k. bit_and k d == k) ls rs))
+        ∙ ap (λ b. covers (ls ++ rs) d && b) (each ds)
 
 pub meets-sat : (cs : List ℕ) (who : ℕ) → ((c : ℕ) → In c cs → c < 2 ^ 64) → who < 2 ^ 64
     → list_all (λ c. not (bit_and c who == 0)) cs ≡ sat (set_of (principals who)) (map principals cs)

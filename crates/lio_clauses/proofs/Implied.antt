@@ -1,11 +1,11 @@
 -- Satisfaction sees only the principals that a formula names; implication is by contained clauses; the test of
 -- implication and implication over all sets agree.
-use Rattle.std.proofs.Common.{◌≡◌, ℕ, ◌<◌, ◌≤◌, Bool, true, false, cond, not, ◌&&◌, ◌||◌, ◌⊎◌, inl, inr, List, [], ◌∷◌, ◌++◌, refl, sym, subst, arith}
+use Rattle.std.proofs.Common.{◌≡◌, ℕ, ◌<◌, ◌≤◌, Bool, true, false, cond, not, ◌&&◌, ◌||◌, ◌⊎◌, inl, inr, List, [], ◌∷◌, ◌++◌, refl, sym, ◌∙◌, subst, arith}
 use Rattle.std.specs.Prelude.{nat_lt, ◌==◌}
 use Rattle.std.specs.List.{list_all, list_any, filter, fold}
 use Rattle.std.proofs.lemmas.Bool.{both_ways, and_parts, and_from, or_cases, or_left, or_right, not-true, not_from_false, cases_Bool, cases_order, ltb-true, lt-ltb, eqb-true, eqb-false, ltb-false}
 use Rattle.lio_clauses.specs.Satisfaction.{sat, set_of}
-use Rattle.lio_clauses.specs.Implication.{Implies, implies, named, with_number, sublists}
+use Rattle.lio_clauses.specs.Implication.{Implies, ImplyTogether, implies, named, with_number, sublists}
 use Rattle.lio_clauses.specs.Canonical.{in_order}
 use Rattle.lio_clauses.proofs.Members.{In, In-append_left, In-append_right, In-append_cases, In-filter, In-filter_parts, all_at, all_by, all_fails, any_by, any_some, any_none, same_tests}
 use Rattle.lio_clauses.proofs.Orders.{in_order-head, in_order-tail, in_order-cons}
@@ -234,6 +234,13 @@ Implies-implies A B h =
       | inl t ↦ or_right (not (sat (set_of e) A)) (sat (set_of e) B) (h (set_of e) t)
       | inr f ↦ or_left (not (sat (set_of e) A)) (sat (set_of e) B) (not_from_false (sat (set_of e) A) f)
     ])
+
+-- two formulas together imply what the list of the clauses of both implies
+pub together-Implies : (A B C : List (List ℕ)) → ImplyTogether A B C → Implies (A ++ B) C
+together-Implies A B C h who s = let r = and_parts (sat who A) (sat who B) (sym (sat-append who A B) ∙ s) in h who r.0 r.1
+
+pub Implies-together : (A B C : List (List ℕ)) → Implies (A ++ B) C → ImplyTogether A B C
+Implies-together A B C h who a b = h who (sat-append who A B ∙ and_from (sat who A) (sat who B) a b)
 
 pub implies-contains : (A B : List (List ℕ)) → implies A B ≡ contains_clauses A B
 implies-contains A B =

@@ -5,7 +5,7 @@ use Rattle.std.specs.List.{list_all, list_any, filter}
 use Rattle.std.proofs.lemmas.Bool.{both_ways, and_parts, and_from, or_cases, or_left, or_right, not-true, not-false, not_from_false, cases_Bool, false_from_ne_true, eqb-true, eq-eqb}
 use Rattle.lio_clauses.specs.Satisfaction.{sat, set_of}
 use Rattle.lio_clauses.specs.Implication.{Implies, sublists}
-use Rattle.lio_clauses.specs.Canonical.{in_order, is_before, is_clause, IsProperSubset, IsLeastImplied, IsCanonical, proper_sublists, is_met, canonical_of}
+use Rattle.lio_clauses.specs.Canonical.{in_order, is_before, is_clause, IsProperSubset, IsMinimalImplied, IsCanonical, proper_sublists, is_met, canonical_of}
 use Rattle.lio_clauses.proofs.Members.{In, In-filter, In-filter_parts, all_at, all_by, all_fails, any_by, any_some, any_none, same_tests, Contains-from_In, In-from_Contains}
 use Rattle.lio_clauses.proofs.Orders.{in_order-filter, same_in_order, is_before-asym}
 use Rattle.lio_clauses.proofs.Subsets.{set_of-In, In-set_of, within, within-at, within-by, within-itself, within-trans, IsProperSubset-within}
@@ -230,10 +230,10 @@ IsCanonical-canonical_of names passes g small =
       exact = λ c k. (
         λ m.
             let l = canonical_of-least names passes g c (In-from_Contains c F m) in
-            record { implied = meets-Implies F passes e c l.0; least = λ d p i. l.1 d p (Implies-meets F passes e d i) },
+            record { implied = meets-Implies F passes e c l.0; minimal = λ d p i. l.1 d p (Implies-meets F passes e d i) },
         λ l.
             Contains-from_In c F (canonical_of-In names passes g c (clause-rising c k)
-            (Implies-meets F passes e c l.implied, λ d p m. l.least d p (meets-Implies F passes e d m))),
+            (Implies-meets F passes e c l.implied, λ d p m. l.minimal d p (meets-Implies F passes e d m))),
       );
     }
 
@@ -241,9 +241,9 @@ IsCanonical-canonical_of names passes g small =
 same_members : (A B : List (List ℕ)) → IsCanonical A → IsCanonical B → ((P : ℕ → Bool) → sat P A ≡ sat P B) → (c : List ℕ) → In c A → In c B
 same_members A B a b e c m =
     let k : is_clause c ≡ true = all_at is_clause A a.clauses c m in
-    let l : IsLeastImplied A c = (a.exact c k).0 (Contains-from_In c A m) in
+    let l : IsMinimalImplied A c = (a.exact c k).0 (Contains-from_In c A m) in
     In-from_Contains c B ((b.exact c k).1
-    (record { implied = λ P s. l.implied P (e P ∙ s); least = λ d p i. l.least d p (λ P s. i P (sym (e P) ∙ s)) }))
+    (record { implied = λ P s. l.implied P (e P ∙ s); minimal = λ d p i. l.minimal d p (λ P s. i P (sym (e P) ∙ s)) }))
 
 pub canonical-unique : (A B : List (List ℕ)) → IsCanonical A → IsCanonical B → ((P : ℕ → Bool) → sat P A ≡ sat P B) → A ≡ B
 canonical-unique A B a b e =

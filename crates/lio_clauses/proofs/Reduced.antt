@@ -1,17 +1,20 @@
 -- Keeping the minimal ones of a list of clauses, the least first: what is kept are clauses of the canonical form.
-use Rattle.std.proofs.Common.{◌≡◌, ℕ, suc, zero, ◌+◌, ◌^◌, ◌<◌, ◌≤◌, Bool, true, false, ◌⊎◌, inl, inr, List, [], ◌∷◌, map, length, get_or, refl, sym, ◌∙◌, ap, subst, arith}
+use Rattle.std.proofs.Common.{◌≡◌, ℕ, suc, zero, ◌+◌, ◌^◌, ◌<◌, ◌≤◌, Bool, true, false, ◌⊎◌, inl, inr, Option, Some, None, List, [], ◌∷◌, map, length, get_or, refl, sym, ◌∙◌, ap, subst, arith}
 use Rattle.std.specs.Prelude.{◌==◌, bit_and}
 use Rattle.std.specs.Int.Bits.{and_self}
-use Rattle.std.specs.List.{insert}
+use Rattle.std.specs.List.{All, insert}
+use Rattle.std.proofs.lemmas.List.{length-map}
+use Rattle.std.proofs.lemmas.List.Edits.{length-insert}
 use Rattle.std.proofs.lemmas.Bool.{both_ways, cases_Bool, eqb-true, eq-eqb}
 use Rattle.std.proofs.lemmas.Nat.{and_le_r, and_assoc}
 use Rattle.lio_clauses.specs.Principals.{principals}
-use Rattle.lio_clauses.specs.Canonical.{in_order, is_before, canonical}
-use Rattle.lio_clauses.specs.Bits.{covers, mask_before}
-use Rattle.lio_clauses.proofs.Members.{In, In-map, In-map_cases, any_by, any_some}
+use Rattle.lio_clauses.specs.Canonical.{in_order, is_before, IsCanonical, canonical}
+use Rattle.lio_clauses.specs.Width.{IsWide}
+use Rattle.lio_clauses.specs.Bits.{IsFormula, IsLeastUncovered, IsMinimalOf, KeepsMinimal, covers, mask_before}
+use Rattle.lio_clauses.proofs.Members.{In, In-map, In-map_cases, any_by, any_some, In-from_Contains, All-In, In-All}
 use Rattle.lio_clauses.proofs.Orders.{in_order-head, in_order-tail, in_order-cons, in_order-map, same_in_order, is_before-asym, is_before-trans, is_before-total}
 use Rattle.lio_clauses.proofs.Subsets.{within}
-use Rattle.lio_clauses.proofs.Forms.{canonical-only, canonical-among, canonical-minimal, canonical-ordered}
+use Rattle.lio_clauses.proofs.Forms.{canonical-only, canonical-among, canonical-minimal, canonical-ordered, IsCanonical-canonical}
 use Rattle.lio_clauses.proofs.ClauseBits.{principals-clauses, principals-same, within-from_and, and-from_within}
 
 -- lengths
@@ -89,16 +92,20 @@ in_order-insert before trans x d (y ∷ ys) (suc i) h l total low here =
 
 -- what is kept
 
--- m is one of the clauses, and contains no other one
-pub record IsMinimalOf (us : List ℕ) (m : ℕ) : Type 0 where
-  pub among : In m us
-  pub only : (u : ℕ) → In u us → bit_and u m ≡ u → u ≡ m
+fits-at : (us ks : List ℕ) → KeepsMinimal us ks → (u : ℕ) → In u us → u < 2 ^ 64
+fits-at us ks p = All-In (λ u. u < 2 ^ 64) us p.fits
 
--- the clauses fit 64 bits, and the kept ones are minimal ones in lexicographic order
-pub record KeepsMinimal (us ks : List ℕ) : Type 0 where
-  pub fits : (u : ℕ) → In u us → u < 2 ^ 64
-  pub minimal : (k : ℕ) → In k ks → IsMinimalOf us k
-  pub ordered : in_order mask_before ks ≡ true
+minimal-at : (us ks : List ℕ) → KeepsMinimal us ks → (k : ℕ) → In k ks → IsMinimalOf us k
+minimal-at us ks p = All-In (IsMinimalOf us) ks p.minimal
+
+among : (us : List ℕ) (m : ℕ) → IsMinimalOf us m → In m us
+among us m q = In-from_Contains m us q.among
+
+only : (us : List ℕ) (m : ℕ) → IsMinimalOf us m → (u : ℕ) → In u us → bit_and u m ≡ u → u ≡ m
+only us m q = All-In (λ u. bit_and u m ≡ u → u ≡ m) us q.only
+
+kept-fits : (us ks : List ℕ) → KeepsMinimal us ks → (k : ℕ) → In k ks → k < 2 ^ 64
+kept-fits us ks p k h = fits-at us ks p k (among us k (minimal-at us ks p k h))
 
 pub covers-from : (ks : List ℕ) (m k : ℕ) → In k ks → bit_and k m ≡ k → covers ks m ≡ true
 covers-from ks m k h e = any_by (λ v. bit_and v m == v) ks k h (eq-eqb (bit_and k m) k e)
@@ -109,98 +116,120 @@ covers-some ks m h = let r = any_some (λ v. bit_and v m == v) ks h in (r.0, (r.
 and_trans : (k u m : ℕ) → bit_and k u ≡ k → bit_and u m ≡ u → bit_and k m ≡ k
 and_trans k u m e f = ap (λ v. bit_and v m) (sym e) ∙ and_assoc m k u ∙ ap (bit_and k) f ∙ e
 
+-- a clause that contains no kept one is none of them
+new-other : (ks : List ℕ) (m : ℕ) → covers ks m ≡ false → (k : ℕ) → In k ks → m ≡ k → ⊥
+new-other ks m c k h e = both_ways (covers ks m) c (covers-from ks m k h (ap (bit_and k) e ∙ and_self k))
+
+-- what a search among the kept ones, seen as a slice, found
+pub least-seen : (us seen ks : List ℕ) (found least : Option ℕ) → seen ≡ ks → found ≡ least → IsLeastUncovered seen us found → IsLeastUncovered ks us least
+least-seen us seen ks found least e f h =
+    let P : Option ℕ → Type 0 = λ o. IsLeastUncovered ks us o in
+    let Q : List ℕ → Type 0 = λ v. IsLeastUncovered v us found in
+    subst P f (subst Q e h)
+
 -- the least clause that contains no kept one is minimal
-pub least-minimal : (us ks : List ℕ) (m : ℕ) → In m us → covers ks m ≡ false → ((u : ℕ) → In u us → covers ks u ≡ false → m ≤ u) → IsMinimalOf us m
-least-minimal us ks m h c least = record {
-  among = h;
-  only = λ u p e.
+pub next-minimal : (us ks : List ℕ) (m : ℕ) → IsLeastUncovered ks us (Some m) → IsMinimalOf us m
+next-minimal us ks m h = record {
+  among = h.0;
+  only = In-All (λ u. bit_and u m ≡ u → u ≡ m) us (λ u p e.
       let below : u ≤ m = let k : bit_and u m ≤ m = and_le_r u m in let P : ℕ → Type 0 = λ v. v ≤ m in subst P e k in
       elim (cases_Bool (covers ks u)) [
-        | inl t ↦ let r = covers-some ks u t in absurd (both_ways (covers ks m) c (covers-from ks m r.0 r.1.0 (and_trans r.0 u m r.1.1 e)))
-        | inr f ↦ let above : m ≤ u = least u p f in omega arith
-      ];
+        | inl t ↦ let r = covers-some ks u t in absurd (both_ways (covers ks m) h.1 (covers-from ks m r.0 r.1.0 (and_trans r.0 u m r.1.1 e)))
+        | inr f ↦ let above : m ≤ u = All-In (λ u. covers ks u ≡ false → m ≤ u) us h.2 u p f in omega arith
+      ]);
 }
 
--- a new minimal clause and a kept one do not contain each other
-pub minimal-apart : (us ks : List ℕ) (m k : ℕ) → KeepsMinimal us ks → IsMinimalOf us m → covers ks m ≡ false → In k ks → (bit_and k m ≡ k → ⊥) × (bit_and m k ≡ m → ⊥)
-minimal-apart us ks m k p q c h = (
-  λ e. both_ways (covers ks m) c (covers-from ks m k h e),
-  λ e.
-      let same : m ≡ k = (p.minimal k h).only m q.among e in
-      both_ways (covers ks m) c (covers-from ks m k h (ap (bit_and k) same ∙ and_self k)),
-)
+-- it and a kept one do not contain each other
+pub next-apart : (us ks : List ℕ) (m : ℕ) → KeepsMinimal us ks → IsLeastUncovered ks us (Some m) → All (λ k. (bit_and k m ≡ k → ⊥) × (bit_and m k ≡ m → ⊥)) ks
+next-apart us ks m p h =
+    In-All (λ k. (bit_and k m ≡ k → ⊥) × (bit_and m k ≡ m → ⊥)) ks (λ k i. (
+      λ e. both_ways (covers ks m) h.1 (covers-from ks m k i e),
+      λ e. new-other ks m h.1 k i (only us k (minimal-at us ks p k i) m (among us m (next-minimal us ks m h)) e),
+    ))
 
-pub KeepsMinimal-insert : (us ks : List ℕ) (m i : ℕ) → KeepsMinimal us ks → IsMinimalOf us m → covers ks m ≡ false → i ≤ length ks
-    → ((j : ℕ) → j < i → mask_before m (get_or ks j 0) ≡ false) → (i < length ks → mask_before m (get_or ks i 0) ≡ true)
-    → KeepsMinimal us (insert ks i m)
-KeepsMinimal-insert us ks m i p q c l low here = record {
-  fits = p.fits;
-  minimal = λ k h. elim (insert-cases k m ks i h) [
-    | inl e ↦ let P : ℕ → Type 0 = λ v. IsMinimalOf us v in subst P (sym e) q
-    | inr n ↦ p.minimal k n
-  ];
-  ordered =
-      in_order-insert mask_before (λ x y z. is_before-trans (principals x) (principals y) (principals z)) m 0 ks i p.ordered l
-      (λ y n f. is_before-total (principals m) (principals y) f (λ e.
-      let same : m ≡ y = principals-same m y (p.fits m q.among) (p.fits y (p.minimal y n).among) e in
-      both_ways (covers ks m) c (covers-from ks m y n (ap (bit_and y) same ∙ and_self y))))
-      low here;
-}
+-- nothing is kept at first
+pub KeepsMinimal-none : (us ks : List ℕ) → All (λ u. u < 2 ^ 64) us → ks ≡ [] → KeepsMinimal us ks
+KeepsMinimal-none us ks fits e =
+    subst (KeepsMinimal us) (sym e) (record { fits = fits; minimal = λ k d l. absurd (omega arith); ordered = refl; few = omega arith })
+
+-- one more is kept at its place
+pub KeepsMinimal-next : (us ks : List ℕ) (m i : ℕ) → KeepsMinimal us ks → IsLeastUncovered ks us (Some m) → (length ks ≡ 64 → ⊥) → i ≤ length ks
+    → ((j : ℕ) → j < i → mask_before m (get_or ks j 0) ≡ false) → (i < length ks → mask_before m (get_or ks i 0) ≡ true) → KeepsMinimal us (insert ks i m)
+KeepsMinimal-next us ks m i p h room l low here =
+    let q : IsMinimalOf us m = next-minimal us ks m h in
+    let longer : length (insert ks i m) ≡ length ks + 1 = length-insert ks i m l in
+    let few : length ks ≤ 64 = p.few in
+    record {
+      fits = p.fits;
+      minimal = In-All (IsMinimalOf us) (insert ks i m) (λ k n. elim (insert-cases k m ks i n) [
+        | inl e ↦ subst (IsMinimalOf us) (sym e) q
+        | inr o ↦ minimal-at us ks p k o
+      ]);
+      ordered =
+          in_order-insert mask_before (λ x y z. is_before-trans (principals x) (principals y) (principals z)) m 0 ks i p.ordered l
+          (λ y n f. is_before-total (principals m) (principals y) f (λ e.
+          new-other ks m h.1 y n (principals-same m y (fits-at us ks p m (among us m q)) (kept-fits us ks p y n) e)))
+          low here;
+      few = omega arith;
+    }
 
 -- the kept clauses are clauses of the canonical form
-pub minimal-canonical : (us : List ℕ) (m : ℕ) → ((u : ℕ) → In u us → u < 2 ^ 64) → IsMinimalOf us m → In (principals m) (canonical (map principals us))
+minimal-canonical : (us : List ℕ) (m : ℕ) → ((u : ℕ) → In u us → u < 2 ^ 64) → IsMinimalOf us m → In (principals m) (canonical (map principals us))
 minimal-canonical us m fits q =
-    canonical-minimal (map principals us) (principals-clauses us) (principals m) (In-map principals m us q.among) (λ d n w.
+    canonical-minimal (map principals us) (principals-clauses us) (principals m) (In-map principals m us (among us m q)) (λ d n w.
     let r = In-map_cases principals d us n in
     let P : List ℕ → Type 0 = λ v. within v (principals m) ≡ true in
-    let e : bit_and r.0 m ≡ r.0 = and-from_within r.0 m (fits r.0 r.1.0) (fits m q.among) (subst P r.1.1 w) in
-    r.1.1 ∙ ap principals (q.only r.0 r.1.0 e))
+    let e : bit_and r.0 m ≡ r.0 = and-from_within r.0 m (fits r.0 r.1.0) (fits m (among us m q)) (subst P r.1.1 w) in
+    r.1.1 ∙ ap principals (only us m q r.0 r.1.0 e))
 
--- once each clause contains a kept one, the kept ones are the canonical form
-pub kept-canonical : (us ks : List ℕ) → KeepsMinimal us ks → ((u : ℕ) → In u us → covers ks u ≡ true) → map principals ks ≡ canonical (map principals us)
-kept-canonical us ks p all =
-    same_in_order is_before is_before-asym (map principals ks) (canonical (map principals us))
-    (in_order-map mask_before is_before principals ks (λ x y t. t) p.ordered)
-    (canonical-ordered (map principals us))
-    (λ c h.
+kept-ordered : (us ks : List ℕ) → KeepsMinimal us ks → in_order is_before (map principals ks) ≡ true
+kept-ordered us ks p = in_order-map mask_before is_before principals ks (λ x y t. t) p.ordered
+
+kept-among : (us ks : List ℕ) → KeepsMinimal us ks → (c : List ℕ) → In c (map principals ks) → In c (canonical (map principals us))
+kept-among us ks p c h =
     let r = In-map_cases principals c ks h in
     let P : List ℕ → Type 0 = λ v. In v (canonical (map principals us)) in
-    subst P (sym r.1.1) (minimal-canonical us r.0 p.fits (p.minimal r.0 r.1.0)))
+    subst P (sym r.1.1) (minimal-canonical us r.0 (fits-at us ks p) (minimal-at us ks p r.0 r.1.0))
+
+-- once each clause contains a kept one, the kept ones are the canonical form
+pub kept-canonical : (us ks : List ℕ) → KeepsMinimal us ks → IsLeastUncovered ks us None → map principals ks ≡ canonical (map principals us)
+kept-canonical us ks p all =
+    same_in_order is_before is_before-asym (map principals ks) (canonical (map principals us)) (kept-ordered us ks p) (canonical-ordered (map principals us))
+    (kept-among us ks p)
     (λ c h.
     let r = In-map_cases principals c us (canonical-among (map principals us) (principals-clauses us) c h) in
-    let k = covers-some ks r.0 (all r.0 r.1.0) in
+    let k = covers-some ks r.0 (All-In (λ u. covers ks u ≡ true) us all r.0 r.1.0) in
     let P : List ℕ → Type 0 = λ v. within (principals k.0) v ≡ true in
     let e : principals k.0 ≡ c =
     canonical-only (map principals us) (principals-clauses us) c h (principals k.0)
-    (In-map principals k.0 us (p.minimal k.0 k.1.0).among)
+    (In-map principals k.0 us (among us k.0 (minimal-at us ks p k.0 k.1.0)))
     (subst P (sym r.1.1) (within-from_and k.0 r.0 k.1.1))
     in
     let Q : List ℕ → Type 0 = λ v. In v (map principals ks) in
     subst Q e (In-map principals k.0 ks k.1.0))
 
--- where one more clause is minimal, the canonical form has more clauses than are kept
-pub kept-fewer : (us ks : List ℕ) (m : ℕ) → KeepsMinimal us ks → IsMinimalOf us m → covers ks m ≡ false → length ks < length (canonical (map principals us))
-kept-fewer us ks m p q c =
+pub kept-formula : (us ks : List ℕ) → KeepsMinimal us ks → IsLeastUncovered ks us None → IsFormula ks
+kept-formula us ks p all = record {
+  fits = In-All (λ m. m < 2 ^ 64) ks (kept-fits us ks p);
+  canonical = subst IsCanonical (sym (kept-canonical us ks p all)) (IsCanonical-canonical (map principals us) (principals-clauses us));
+  few = p.few;
+}
+
+-- where 64 are kept and one more clause is minimal, the canonical form is wide
+pub kept-wide : (us ks : List ℕ) (m : ℕ) → KeepsMinimal us ks → IsLeastUncovered ks us (Some m) → length ks ≡ 64 → IsWide (canonical (map principals us))
+kept-wide us ks m p h full =
+    let q : IsMinimalOf us m = next-minimal us ks m h in
     let l : length (map principals (m ∷ ks)) ≤ length (canonical (map principals us)) =
     length-members (map principals (m ∷ ks)) (canonical (map principals us)) (
-      λ h.
-          let r = In-map_cases principals (principals m) ks h in
-          let same : m ≡ r.0 = principals-same m r.0 (p.fits m q.among) (p.fits r.0 (p.minimal r.0 r.1.0).among) r.1.1 in
-          both_ways (covers ks m) c (covers-from ks m r.0 r.1.0 (ap (bit_and r.0) same ∙ and_self r.0)),
-      in_order-repeats is_before (λ x t. is_before-asym x x t t) (map principals ks)
-          (in_order-map mask_before is_before principals ks (λ x y t. t) p.ordered),
+      λ n.
+          let r = In-map_cases principals (principals m) ks n in
+          new-other ks m h.1 r.0 r.1.0 (principals-same m r.0 (fits-at us ks p m (among us m q)) (kept-fits us ks p r.0 r.1.0) r.1.1),
+      in_order-repeats is_before (λ x t. is_before-asym x x t t) (map principals ks) (kept-ordered us ks p),
     )
-    (λ x h. elim h [
-      | inl e ↦ let P : List ℕ → Type 0 = λ v. In v (canonical (map principals us)) in subst P (sym e) (minimal-canonical us m p.fits q)
-      | inr n ↦
-          let r = In-map_cases principals x ks n in
-          let P : List ℕ → Type 0 = λ v. In v (canonical (map principals us)) in
-          subst P (sym r.1.1) (minimal-canonical us r.0 p.fits (p.minimal r.0 r.1.0))
+    (λ x n. elim n [
+      | inl e ↦ let P : List ℕ → Type 0 = λ v. In v (canonical (map principals us)) in subst P (sym e) (minimal-canonical us m (fits-at us ks p) q)
+      | inr o ↦ kept-among us ks p x o
     ])
     in
-    let e : length (map principals ks) ≡ length ks = length-map_same ks in
+    let e : length (map principals ks) ≡ length ks = length-map ks principals in
     omega arith
-  where
-    length-map_same : (xs : List ℕ) → length (map principals xs) ≡ length xs
-    length-map_same [] = refl
-    length-map_same (x ∷ xs) = let e : length (map principals xs) ≡ length xs = length-map_same xs in omega arith

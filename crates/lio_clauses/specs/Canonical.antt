@@ -26,15 +26,15 @@ pub record IsProperSubset (c d : List ℕ) : Type 0 where
   pub misses : (n : ℕ) × IsTrue (set_of d n) × (set_of c n ≡ false)
 
 -- a formula implies a clause, and none of the clause's proper subsets
-pub record IsLeastImplied (A : List (List ℕ)) (c : List ℕ) : Type 0 where
+pub record IsMinimalImplied (A : List (List ℕ)) (c : List ℕ) : Type 0 where
   pub implied : Implies A (c ∷ [])
-  pub least : (d : List ℕ) → IsProperSubset d c → ¬ Implies A (d ∷ [])
+  pub minimal : (d : List ℕ) → IsProperSubset d c → ¬ Implies A (d ∷ [])
 
 -- the canonical form: clauses in lexicographic order, just those that the formula implies while it implies none of their proper subsets
 pub record IsCanonical (A : List (List ℕ)) : Type 0 where
   pub clauses : IsTrue (list_all is_clause A)
   pub ordered : IsTrue (in_order is_before A)
-  pub exact : (c : List ℕ) → IsTrue (is_clause c) → Contains A c ↔ IsLeastImplied A c
+  pub exact : (c : List ℕ) → IsTrue (is_clause c) → Contains A c ↔ IsMinimalImplied A c
 
 -- the lists that leave out some elements of a list
 abbrev pub proper_sublists : List ℕ → List (List ℕ)

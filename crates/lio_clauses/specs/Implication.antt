@@ -7,6 +7,10 @@ use Rattle.lio_clauses.specs.Satisfaction.{sat, set_of}
 abbrev pub Implies : List (List ℕ) → List (List ℕ) → Type 0
 Implies A B = (who : ℕ → Bool) → IsTrue (sat who A) → IsTrue (sat who B)
 
+-- two formulas together imply a third: each set of principals that satisfies both satisfies the third
+abbrev pub ImplyTogether : List (List ℕ) → List (List ℕ) → List (List ℕ) → Type 0
+ImplyTogether A B C = (who : ℕ → Bool) → IsTrue (sat who A) → IsTrue (sat who B) → IsTrue (sat who C)
+
 -- a rising list of numbers with one more number
 abbrev pub with_number : List ℕ → ℕ → List ℕ
 with_number [] n = n ∷ []

@@ -4,6 +4,8 @@ pub mod Implication
 pub mod Canonical
 pub mod Width
 pub mod Bits
+pub mod Clauses
+pub mod Conjuncts
 pub mod Laws
 pub mod Names
 pub mod Refusal

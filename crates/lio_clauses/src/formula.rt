@@ -1,108 +1,171 @@
 //! Formulas over principals, always in canonical form.
-ghost use Rattle.std.specs.Prelude.{◌≡◌, ◌≢◌, ℕ, ◌^◌, ◌<◌, ◌≤◌, ◌↔◌, Bool, List, [], ◌∷◌, length, map, IsTrue, IsOk, IfOk, nat_eq};
+ghost use Rattle.std.specs.Prelude.{◌≡◌, ◌≢◌, ℕ, ◌^◌, ◌<◌, ◌≤◌, ◌↔◌, ◌++◌, ◌&&◌, ◌||◌, Bool, List, [], ◌∷◌, length, map, IsTrue, IsOk, IfOk, nat_eq};
 ghost use Rattle.std.specs.List.{All};
 ghost use Rattle.std.specs.Cmp.{nat_eq_equiv, partial_equiv_from_equiv};
 ghost use Rattle.std.specs.Cmp.Lexicographic.{pointwise, lists_equiv};
 ghost use Rattle.lio_clauses.specs.Principals.{principals};
 ghost use Rattle.lio_clauses.specs.Satisfaction.{sat, set_of};
-ghost use Rattle.lio_clauses.specs.Implication.{Implies, implies};
+ghost use Rattle.lio_clauses.specs.Implication.{Implies, ImplyTogether, implies};
 ghost use Rattle.lio_clauses.specs.Canonical.{IsCanonical, canonical, and, or};
 ghost use Rattle.lio_clauses.specs.Width.{IsWide};
-ghost use Rattle.lio_clauses.specs.Bits.{IsFormula, unions};
+ghost use Rattle.lio_clauses.specs.Bits.{IsFormula};
 
 use crate::faults::{FormFault, NoMemory};
 use crate::masks::{are_covered, are_met};
-use crate::reduce::minimal_unions;
-use smallvec::SmallVec;
+use crate::reduce::Conjuncts;
 use std::alloc::Global;
 use std::marker::Model;
+use std::slice;
+use std::sync::Arc;
+
+/// The clauses of a formula; bit n of a clause stands for principal n.
+#[derive(Debug, Drop)]
+enum Clauses {
+    /// No clause.
+    Truth,
+    /// One clause, which lies in place.
+    One(u64),
+    /// Clauses that copies share.
+    Many(Arc<Vec<u64>>),
+}
 
 /// A conjunction of at most 64 clauses, each a disjunction of principals, in canonical form: no clause contains
 /// another, and the clauses stand in lexicographic order. Without a clause it is True, with the empty one False.
 ///
-/// A formula of one or two clauses takes no memory.
+/// A formula has 16 bytes. Of at most one clause it takes no memory, and of more its copies share theirs.
 #[derive(Debug, Drop)]
 pub struct Formula {
-    masks: SmallVec<u64, 2>,
+    kept: Clauses,
 }
 
 impl Model for Formula {
+    ghost use Rattle.std.specs.Prelude.{List, ℕ, map};
+    ghost use Rattle.lio_clauses.specs.Principals.{principals};
+    ghost use Rattle.lio_clauses.specs.Clauses.{KeepsFormula, masks_of};
+
     ghost Value = { List (List ℕ) };
 
-    ghost view = { λ f. map principals f.masks.items };
+    ghost view = { λ f. map principals (masks_of f.kept) };
 
-    ghost invariant = { λ f. IsFormula f.masks.items };
+    ghost invariant = { λ f. KeepsFormula f.kept };
 }
 
+/// Formulas that are made.
 impl Formula {
+    ghost use Rattle.lio_clauses.specs.Conjuncts.{clauses_of};
+
     /// True, the formula without a clause.
-    pub fn truth(alloc: Global) -> Formula
+    pub fn truth(_alloc: Global) -> Formula
         ensures { result ≡ [] }
     {
         Formula {
-            masks: SmallVec::new(alloc),
+            kept: Clauses::Truth,
         }
     }
 
     /// False, the formula of the empty clause.
-    pub fn falsity(alloc: Global) -> Result<Formula, NoMemory>
+    pub fn falsity(_alloc: Global) -> Result<Formula, NoMemory>
         ensures ok { IfOk result (λ f. f ≡ [] ∷ []) }
         ensures takes_no_memory { IsOk result }
     {
-        let masks = SmallVec::from_slice(alloc, &[0]).map_err(|_| NoMemory)?;
-        Ok(Formula { masks })
+        Ok(Formula {
+            kept: Clauses::One(0),
+        })
     }
 
     /// The formula of one principal.
-    pub fn of_one(alloc: Global, n: u32) -> Result<Formula, NoMemory>
+    pub fn of_one(_alloc: Global, n: u32) -> Result<Formula, NoMemory>
         requires { n < 64 }
         ensures ok { IfOk result (λ f. f ≡ (n ∷ []) ∷ []) }
         ensures takes_no_memory { IsOk result }
     {
-        let masks = SmallVec::from_slice(alloc, &[1 << n]).map_err(|_| NoMemory)?;
-        Ok(Formula { masks })
+        Ok(Formula {
+            kept: Clauses::One(1 << n),
+        })
     }
 
     /// The canonical form of the conjunction of clauses; bit n of a clause stands for principal n.
     pub fn of_clauses(alloc: Global, clauses: &[u64]) -> Result<Formula, FormFault>
         ensures ok { IfOk result (λ f. f ≡ canonical (map principals clauses.now)) }
+        ensures sets { IfOk result (λ f. (who : ℕ → Bool) → sat who f ≡ sat who (map principals clauses.now)) }
         ensures wide { result ≢ Err FormFault.NoMemory
             → (result ≡ Err FormFault.Wide) ↔ IsWide (canonical (map principals clauses.now)) }
     {
-        Formula::of_unions(alloc, clauses, &[0])
+        Formula::of_conjuncts(alloc, Conjuncts::Both(clauses, &[]))
     }
 
     /// The conjunction.
     pub fn and(&self, alloc: Global, other: &Formula) -> Result<Formula, FormFault>
         ensures ok { IfOk result (λ f. f ≡ and self.now other.now) }
+        ensures sets { IfOk result (λ f. (who : ℕ → Bool) → sat who f ≡ (sat who self.now && sat who other.now)) }
         ensures wide { result ≢ Err FormFault.NoMemory
             → (result ≡ Err FormFault.Wide) ↔ IsWide (and self.now other.now) }
     {
-        let mut both: SmallVec<u64, 4> = SmallVec::new(alloc);
-        both.extend_from_slice(self.clauses())
-            .map_err(|_| FormFault::NoMemory)?;
-        both.extend_from_slice(other.clauses())
-            .map_err(|_| FormFault::NoMemory)?;
-        Formula::of_clauses(alloc, both.as_slice())
+        Formula::of_conjuncts(alloc, Conjuncts::Both(self.clauses(), other.clauses()))
     }
 
     /// The disjunction.
     pub fn or(&self, alloc: Global, other: &Formula) -> Result<Formula, FormFault>
         ensures ok { IfOk result (λ f. f ≡ or self.now other.now) }
+        ensures sets { IfOk result (λ f. (who : ℕ → Bool) → sat who f ≡ (sat who self.now || sat who other.now)) }
         ensures wide { result ≢ Err FormFault.NoMemory
             → (result ≡ Err FormFault.Wide) ↔ IsWide (or self.now other.now) }
     {
-        Formula::of_unions(alloc, self.clauses(), other.clauses())
+        Formula::of_conjuncts(alloc, Conjuncts::Unions(self.clauses(), other.clauses()))
     }
 
-    /// The canonical form of the conjunction of the unions of a clause of each side.
-    fn of_unions(alloc: Global, left: &[u64], right: &[u64]) -> Result<Formula, FormFault>
-        ensures ok { IfOk result (λ f. f ≡ canonical (map principals (unions left.now right.now))) }
+    /// The canonical form of a conjunction.
+    fn of_conjuncts(alloc: Global, conjuncts: Conjuncts<'_>) -> Result<Formula, FormFault>
+        ensures ok { IfOk result (λ f. f ≡ canonical (map principals (clauses_of conjuncts.entry))) }
         ensures wide { result ≢ Err FormFault.NoMemory
-            → (result ≡ Err FormFault.Wide) ↔ IsWide (canonical (map principals (unions left.now right.now))) }
+            → (result ≡ Err FormFault.Wide) ↔ IsWide (canonical (map principals (clauses_of conjuncts.entry))) }
     {
-        let masks = minimal_unions(alloc, left, right)?;
-        Ok(Formula { masks })
+        let kept = conjuncts.minimal(alloc)?;
+        Ok(Formula::of_kept(alloc, kept.as_slice())?)
+    }
+
+    /// The formula of clauses that are in canonical form already.
+    pub(crate) fn of_kept(alloc: Global, kept: &[u64]) -> Result<Formula, NoMemory>
+        requires { IsFormula kept.now }
+        ensures ok { IfOk result (λ f. f ≡ map principals kept.now) }
+        ensures takes_no_memory { length kept.now ≤ 1 → IsOk result }
+    {
+        let kept = match kept {
+            [] => Clauses::Truth,
+            [clause] => Clauses::One(*clause),
+            _ => Clauses::Many(Arc::new(alloc, Vec::from_slice(alloc, kept)?)?),
+        };
+        Ok(Formula { kept })
+    }
+
+    /// An equal formula.
+    pub fn copy(&self, _alloc: Global) -> Result<Formula, NoMemory>
+        ensures ok { IfOk result (λ f. f ≡ self.now) }
+        ensures takes_no_memory { length self.now ≤ 1 → IsOk result }
+    {
+        let kept = match &self.kept {
+            Clauses::Truth => Clauses::Truth,
+            Clauses::One(clause) => Clauses::One(*clause),
+            Clauses::Many(shared) => Clauses::Many(Arc::try_clone(shared)?),
+        };
+        Ok(Formula { kept })
+    }
+}
+
+/// Questions about formulas. They take no memory.
+impl Formula {
+    /// The clauses in their order; bit n of a clause stands for principal n.
+    pub fn clauses(&self) -> &[u64]
+        ensures masks { map principals result.now ≡ self.now }
+        ensures fits { All (λ m. m < 2 ^ 64) result.now }
+        ensures canonical { IsCanonical self.now }
+        ensures few { length result.now ≤ 64 }
+    {
+        match &self.kept {
+            Clauses::Truth => &[],
+            Clauses::One(clause) => slice::from_ref(clause),
+            Clauses::Many(shared) => shared.as_slice(),
+        }
     }
 
     /// Whether each set of principals that satisfies this formula satisfies the other one: each clause of the other
@@ -111,7 +174,15 @@ impl Formula {
         ensures test { result ≡ implies self.now other.now }
         ensures all_sets { IsTrue result ↔ Implies self.now other.now }
     {
-        are_covered(self.clauses(), other.clauses())
+        are_covered(&[], self.clauses(), other.clauses())
+    }
+
+    /// Whether each set of principals that satisfies this formula and another one satisfies the last one.
+    pub fn implies_with(&self, with: &Formula, other: &Formula) -> bool
+        ensures test { result ≡ implies (self.now ++ with.now) other.now }
+        ensures all_sets { IsTrue result ↔ ImplyTogether self.now with.now other.now }
+    {
+        are_covered(self.clauses(), with.clauses(), other.clauses())
     }
 
     /// Whether a set of principals satisfies the formula; bit n of the set stands for principal n.
@@ -121,25 +192,6 @@ impl Formula {
         ensures set { (P : ℕ → Bool) → ((n : ℕ) → n < 64 → P n ≡ set_of (principals who) n) → result ≡ sat P self.now }
     {
         are_met(self.clauses(), who)
-    }
-
-    /// The clauses in their order; bit n of a clause stands for principal n.
-    pub fn clauses(&self) -> &[u64]
-        ensures masks { map principals result.now ≡ self.now }
-        ensures fits { All (λ m. m < 2 ^ 64) result.now }
-        ensures canonical { IsCanonical self.now }
-        ensures few { length result.now ≤ 64 }
-    {
-        self.masks.as_slice()
-    }
-
-    /// An equal formula.
-    pub fn copy(&self, alloc: Global) -> Result<Formula, NoMemory>
-        ensures ok { IfOk result (λ f. f ≡ self.now) }
-        ensures takes_no_memory { length self.now ≤ 2 → IsOk result }
-    {
-        let masks = SmallVec::from_slice(alloc, self.clauses()).map_err(|_| NoMemory)?;
-        Ok(Formula { masks })
     }
 }
 

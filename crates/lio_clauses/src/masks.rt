@@ -1,5 +1,5 @@
 //! Questions about clauses that are kept as 64 bits.
-ghost use Rattle.std.specs.Prelude.{◌≡◌, ◌==◌, not, bit_and};
+ghost use Rattle.std.specs.Prelude.{◌≡◌, ◌==◌, ◌||◌, not, bit_and};
 ghost use Rattle.std.specs.List.{list_all};
 ghost use Rattle.lio_clauses.specs.Bits.{covers};
 
@@ -10,11 +10,13 @@ pub(crate) fn is_covered(kept: &[u64], clause: u64) -> bool
     kept.iter().any(|k| *k & clause == *k)
 }
 
-/// Whether each clause contains one of the kept ones.
-pub(crate) fn are_covered(kept: &[u64], clauses: &[u64]) -> bool
-    ensures { result ≡ list_all (λ c. covers kept.now c) clauses.now }
+/// Whether each clause contains one of the left or of the right ones.
+pub(crate) fn are_covered(left: &[u64], right: &[u64], clauses: &[u64]) -> bool
+    ensures { result ≡ list_all (λ c. covers left.now c || covers right.now c) clauses.now }
 {
-    clauses.iter().all(|c| is_covered(kept, *c))
+    clauses
+        .iter()
+        .all(|c| is_covered(left, *c) || is_covered(right, *c))
 }
 
 /// Whether each clause has a member in a set.

@@ -1,10 +1,10 @@
 //! The minimal clauses of a conjunction, found in rising number and kept in lexicographic order.
-ghost use Rattle.std.specs.Prelude.{◌≡◌, ◌≢◌, ℕ, ◌^◌, ◌<◌, ◌≤◌, true, false, List, [], ◌∷◌, ◌++◌, length, map, IfOk, bit_and, slice_index};
+ghost use Rattle.std.specs.Prelude.{◌≡◌, ◌≢◌, ℕ, ◌+◌, ◌^◌, ◌<◌, ◌≤◌, true, false, List, [], ◌∷◌, ◌++◌, length, map, IfOk, OnOk, OnErr, bit_and, slice_index};
 ghost use Rattle.std.specs.List.{All};
 ghost use Rattle.lio_clauses.specs.Principals.{principals};
 ghost use Rattle.lio_clauses.specs.Canonical.{canonical};
 ghost use Rattle.lio_clauses.specs.Width.{IsWide};
-ghost use Rattle.lio_clauses.specs.Bits.{IsLeastUncovered, mask_before, unions};
+ghost use Rattle.lio_clauses.specs.Bits.{IsFormula, IsLeastUncovered, KeepsMinimal, mask_before, unions};
 
 use crate::faults::FormFault;
 use crate::masks::is_covered;
@@ -12,37 +12,85 @@ use smallvec::SmallVec;
 use std::alloc::Global;
 
 /// The most clauses that a formula has.
-pub(crate) const MAX_CLAUSES: usize = 64;
+const MAX_CLAUSES: usize = 64;
 
-/// The minimal ones among the unions of a clause of each side, in lexicographic order: the canonical form of the
-/// conjunction of all these unions.
-///
-/// Each round keeps the least union, as a number, that contains no kept clause. It is minimal, since what it
-/// contains is less.
-pub(crate) fn minimal_unions(
-    alloc: Global,
-    left: &[u64],
-    right: &[u64],
-) -> Result<SmallVec<u64, 2>, FormFault>
-    ensures ok { IfOk result (λ kept. map principals kept.items ≡ canonical (map principals (unions left.now right.now))) }
-    ensures fits { IfOk result (λ kept. All (λ m. m < 2 ^ 64) kept.items) }
-    ensures few { IfOk result (λ kept. length kept.items ≤ 64) }
-    ensures wide { result ≡ Err FormFault.Wide → IsWide (canonical (map principals (unions left.now right.now))) }
+/// The minimal clauses that were found so far. Up to four take no memory.
+pub(crate) type Kept = SmallVec<u64, 4>;
+
+/// Keeps one more clause, the least one, as a number, of some clauses that contains no kept one. It is minimal, since
+/// what it contains is less. After a fault the kept ones are as before.
+pub(crate) fn keep(kept: &mut Kept, clause: u64) -> Result<(), FormFault>
+    requires { (clauses : List ℕ) × KeepsMinimal clauses kept.old.items × IsLeastUncovered kept.old.items clauses (Some clause) }
+    ensures room { OnOk result (length kept.old.items < 64) }
+    ensures one_more { OnOk result (length kept.new.items ≡ length kept.old.items + 1) }
+    ensures minimal { OnOk result ((clauses : List ℕ) → KeepsMinimal clauses kept.old.items
+        → IsLeastUncovered kept.old.items clauses (Some clause) → KeepsMinimal clauses kept.new.items) }
+    ensures wide { result ≡ Err FormFault.Wide → (clauses : List ℕ) → KeepsMinimal clauses kept.old.items
+        → IsLeastUncovered kept.old.items clauses (Some clause) → IsWide (canonical (map principals clauses)) }
+    ensures unchanged { OnErr result (kept.new.items ≡ kept.old.items) }
 {
-    let mut kept: SmallVec<u64, 2> = SmallVec::new(alloc);
-    while let Some(clause) = least_uncovered(left, right, kept.as_slice()) {
-        if kept.len() == MAX_CLAUSES {
-            return Err(FormFault::Wide);
-        }
-        let place = place_of(kept.as_slice(), clause);
-        kept.insert(place, clause).map_err(|_| FormFault::NoMemory)?;
+    if kept.len() == MAX_CLAUSES {
+        return Err(FormFault::Wide);
     }
-    Ok(kept)
+    let place = place_of(kept.as_slice(), clause);
+    kept.insert(place, clause)?;
+    Ok(())
+}
+
+/// The clauses of a conjunction.
+#[derive(Clone, Copy)]
+pub(crate) enum Conjuncts<'a> {
+    /// The clauses of both sides.
+    Both(&'a [u64], &'a [u64]),
+    /// The unions of a clause of each side.
+    Unions(&'a [u64], &'a [u64]),
+}
+
+impl<'a> Conjuncts<'a> {
+    ghost use Rattle.lio_clauses.specs.Conjuncts.{clauses_of};
+
+    /// The minimal clauses, in lexicographic order: the canonical form.
+    pub(crate) fn minimal(self, alloc: Global) -> Result<Kept, FormFault>
+        ensures formula { IfOk result (λ kept. IsFormula kept.items) }
+        ensures canonical { IfOk result (λ kept. map principals kept.items ≡ canonical (map principals (clauses_of self.entry))) }
+        ensures wide { result ≡ Err FormFault.Wide → IsWide (canonical (map principals (clauses_of self.entry))) }
+    {
+        let mut kept = Kept::new(alloc);
+        'rounds: while let Some(clause) = self.least_uncovered(kept.as_slice()) {
+            keep(&mut kept, clause)?;
+        }
+        Ok(kept)
+    }
+
+    /// The least clause, as a number, that contains no kept one.
+    fn least_uncovered(self, kept: &[u64]) -> Option<u64>
+        ensures least { IsLeastUncovered kept.now (clauses_of self.entry) result }
+        ensures fits { All (λ m. m < 2 ^ 64) (clauses_of self.entry) }
+    {
+        match self {
+            Conjuncts::Both(left, right) => least_among(least_among(None, left, kept), right, kept),
+            Conjuncts::Unions(left, right) => least_union(left, right, kept),
+        }
+    }
+}
+
+/// The least clause, as a number, among those before and these that contains no kept one.
+fn least_among(before: Option<u64>, clauses: &[u64], kept: &[u64]) -> Option<u64>
+    ensures least { (others : List ℕ) → IsLeastUncovered kept.now others before
+        → IsLeastUncovered kept.now (others ++ clauses.now) result }
+    ensures fits { All (λ m. m < 2 ^ 64) clauses.now }
+{
+    let mut least = before;
+    for clause in clauses {
+        least = lesser_uncovered(least, *clause, kept);
+    }
+    least
 }
 
 /// The least union, as a number, of a clause of each side that contains no kept clause.
-fn least_uncovered(left: &[u64], right: &[u64], kept: &[u64]) -> Option<u64>
-    ensures { IsLeastUncovered kept.now (unions left.now right.now) result }
+fn least_union(left: &[u64], right: &[u64], kept: &[u64]) -> Option<u64>
+    ensures least { IsLeastUncovered kept.now (unions left.now right.now) result }
+    ensures fits { All (λ m. m < 2 ^ 64) (unions left.now right.now) }
 {
     let mut least = None;
     for a in left {
@@ -66,7 +114,7 @@ pub(crate) fn lesser_uncovered(least: Option<u64>, clause: u64, kept: &[u64]) ->
 }
 
 /// Where a clause has its place among kept ones in lexicographic order, where none contains another.
-pub(crate) fn place_of(kept: &[u64], clause: u64) -> usize
+fn place_of(kept: &[u64], clause: u64) -> usize
     requires { All (λ k. (bit_and k clause ≢ k) × (bit_and clause k ≢ clause)) kept.now }
     ensures within { result ≤ length kept.now }
     ensures before { (k : ℕ) → k < result → mask_before clause (slice_index kept.now k) ≡ false }

@@ -1,15 +1,9 @@
-use Rattle.std.proofs.Common.{◌≡◌, ℕ, List, [], ◌∷◌, map, sym, ◌∙◌, ap, subst, arith}
-use Rattle.lio_clauses.specs.Principals.{principals}
-use Rattle.lio_clauses.specs.Bits.{IsFormula}
-use Rattle.lio_clauses.proofs.Answered.{value_ok}
+use Rattle.std.proofs.Common.{◌∷◌, [], ap, lit<}
 use Rattle.lio_clauses.proofs.ClauseBits.{IsFormula-one, principals-zero}
 use Rattle.lio_clauses.proofs.formula.Formula.falsity.Goals as goal
 
-items : (c : goal.In_ok-masks) → c.in_ok-masks.masks.items ≡ 0 ∷ []
-items c = value_ok (λ v. v.items ≡ 0 ∷ []) _ c.from_slice.result c.map_err.result c.in_ok-masks.masks c.map_err.ensures.cases c.map_err.ensures.variant c.in_ok-masks.was c.from_slice.ensures.ok
-
 pub invariant_of-result : goal.invariant_of-result
-invariant_of-result c = let P : List ℕ → Type 0 = λ v. IsFormula v in subst P (sym (items c)) (IsFormula-one 0 (omega arith))
+invariant_of-result c = record { formula = IsFormula-one 0 (lit< tt); shared = tt }
 
 pub returns-clause-ok : goal.returns-clause-ok
-returns-clause-ok c = ap (map principals) (items c) ∙ ap (λ v. v ∷ []) principals-zero
+returns-clause-ok c = ap (λ v. v ∷ []) principals-zero

@@ -1,10 +1,11 @@
-use Rattle.std.proofs.Common.{◌≡◌, ℕ, List, map, sym, ◌∙◌, ap}
+use Rattle.std.proofs.Common.{◌≡◌, ℕ, List, ◌||◌, map, sym, ◌∙◌, ap}
 use Rattle.lio_clauses.specs.Principals.{principals}
+use Rattle.lio_clauses.specs.Satisfaction.{sat}
 use Rattle.lio_clauses.specs.Canonical.{canonical, or}
 use Rattle.lio_clauses.specs.Bits.{unions}
-use Rattle.lio_clauses.proofs.Forms.{or-is}
+use Rattle.lio_clauses.proofs.Forms.{or-is, sat-or}
 use Rattle.lio_clauses.proofs.ClauseBits.{principals-clauses, sat-unions}
-use Rattle.lio_clauses.proofs.Answered.{IfOk-same, IsWideExactly-same}
+use Rattle.lio_clauses.proofs.Answered.{IfOk-same, IfOk-sets, IsWideExactly-same}
 use Rattle.lio_clauses.proofs.formula.Formula.or.Goals as goal
 
 joined : (ms ns : List ℕ) (A B : List (List ℕ)) → map principals ms ≡ A → map principals ns ≡ B → canonical (map principals (unions ms ns)) ≡ or A B
@@ -15,12 +16,17 @@ joined ms ns A B e f =
 
 pub returns-clause-ok : goal.returns-clause-ok
 returns-clause-ok c =
-    IfOk-same c.of_unions.result _ _
+    IfOk-same c.of_conjuncts.result _ _
     (joined c.clauses.result.now c.clauses-2.result.now c.args.self.now c.args.other.now c.clauses.ensures.masks c.clauses-2.ensures.masks)
-    c.of_unions.ensures.ok
+    c.of_conjuncts.ensures.ok
+
+pub returns-clause-sets : goal.returns-clause-sets
+returns-clause-sets c =
+    IfOk-sets c.of_conjuncts.result (or c.args.self.now c.args.other.now) (λ who. sat who c.args.self.now || sat who c.args.other.now)
+    (λ who. sat-or who c.args.self.now c.args.other.now) (returns-clause-ok c)
 
 pub returns-clause-wide : goal.returns-clause-wide
 returns-clause-wide c =
-    IsWideExactly-same c.of_unions.result _ _
+    IsWideExactly-same c.of_conjuncts.result _ _
     (joined c.clauses.result.now c.clauses-2.result.now c.args.self.now c.args.other.now c.clauses.ensures.masks c.clauses-2.ensures.masks)
-    c.of_unions.ensures.wide
+    c.of_conjuncts.ensures.wide
