@@ -7,11 +7,29 @@ use Rattle.std.proofs.lemmas.List.Elements.{filter-append, Contains-get_or}
 use Rattle.std.proofs.lemmas.Nat.Bits.{shr_and_one, bit_at-trailing_zeros}
 use Rattle.std.proofs.Math.Pow.{pow-lt, pow_mono}
 use Rattle.std.proofs.lemmas.Option.{get_or_from_slice_get}
+use Rattle.std.proofs.Math.Seq.{take-append_seam}
 use Rattle.lio_clauses.specs.Principals.{principals, numbers_below}
 use Rattle.lio_clauses.proofs.Members.{In, All-In, In-map, In-from_Contains}
 use Rattle.lio_clauses.proofs.ClauseBits.{principals-In, principals-parts, principals-pow, principals-same, principals-zero}
 use Rattle.lio_clauses.proofs.MaskLemmas.{pow_shift}
-use Rattle.lio_clauses.specs.FormulaPrint.{joined, name_of, clause_text, formula_text}
+use Rattle.lio_clauses.specs.FormulaPrint.{Extends, joined, name_of, clause_text, formula_text}
+
+-- what is appended leaves what was there
+pub Extends-refl : (xs : List ℕ) → Extends xs xs
+Extends-refl xs = record { more = []; appended = sym (append-nil xs) }
+
+pub Extends-by : (old new more : List ℕ) → new ≡ old ++ more → Extends old new
+Extends-by old new more e = record { more = more; appended = e }
+
+pub Extends-if : (ok : Bool) (old new more : List ℕ) → new ≡ (if ok then old ++ more else old) → Extends old new
+Extends-if true old new more e = Extends-by old new more e
+Extends-if false old new more e = Extends-by old new [] (e ∙ sym (append-nil old))
+
+pub Extends-after : (old mid new more : List ℕ) → mid ≡ old ++ more → Extends mid new → Extends old new
+Extends-after old mid new more e h = Extends-by old new (more ++ h.more) (h.appended ∙ ap (λ t. t ++ h.more) e ∙ append_assoc old more h.more)
+
+pub take-Extends : (old new : List ℕ) (n : ℕ) → n ≡ length old → Extends old new → take n new ≡ old
+take-Extends old new n e h = ap (λ n. take n new) e ∙ ap (take (length old)) h.appended ∙ take-append_seam old h.more
 
 -- one more text after others, behind the sign
 pub joined-push : (sign : List ℕ) (ts : List (List ℕ)) (t : List ℕ) (first : Bool) → (first ≡ true → ts ≡ []) → (first ≡ false → ts ≢ [])
@@ -125,13 +143,13 @@ clause_text-several names [] h = refl
 clause_text-several names (m ∷ []) h = absurd (h m refl)
 clause_text-several names (m ∷ n ∷ c) h = refl
 
-pub appended-several : (names : List (List ℕ)) (clause : ℕ) (old opened named closed : List ℕ) → clause < 2 ^ 64
+pub appended-several : (names : List (List ℕ)) (clause : ℕ) (old opened named : List ℕ) → clause < 2 ^ 64
     → (trailing_zeros w64 clause < 64 → clause ≢ 1 * 2 ^ trailing_zeros w64 clause % 18446744073709551616)
-    → opened ≡ old ++ codes "(" → named ≡ opened ++ joined (codes " \\/ ") (map (name_of names) (principals clause)) → closed ≡ named ++ codes ")"
-    → closed ≡ old ++ clause_text names (principals clause)
-appended-several names clause old opened named closed fits other begins middle close =
+    → opened ≡ old ++ codes "(" → named ≡ opened ++ joined (codes " \\/ ") (map (name_of names) (principals clause))
+    → named ++ codes ")" ≡ old ++ clause_text names (principals clause)
+appended-several names clause old opened named fits other begins middle =
     let inner : List ℕ = joined (codes " \\/ ") (map (name_of names) (principals clause)) in
-    close ∙ ap (λ t. t ++ codes ")") (middle ∙ ap (λ t. t ++ inner) begins ∙ append_assoc old (codes "(") inner)
+    ap (λ t. t ++ codes ")") (middle ∙ ap (λ t. t ++ inner) begins ∙ append_assoc old (codes "(") inner)
     ∙ append_assoc old (codes "(" ++ inner) (codes ")")
     ∙ ap (λ t. old ++ t) (sym (clause_text-several names (principals clause) (not_lone clause fits other)))
 

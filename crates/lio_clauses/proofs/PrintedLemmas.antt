@@ -1,25 +1,30 @@
 -- What is printed is read as the same formula.
-use Rattle.std.proofs.Common.{◌≡◌, ◌≢◌, ℕ, suc, ◌+◌, ◌<◌, ◌≤◌, Bool, true, false, cond, if◌then◌else◌, List, [], ◌∷◌, ◌++◌, map, length, take, codes, Option, Some, Ok, Err, inl, inr, slice_get, nat_eq, nat_le, ne_eqb, leb-true, lit<, ◌&&◌, true≢false, le-ltb, length-append, drop, refl, sym, ap, subst, ◌∙◌, arith, append_assoc}
-use Rattle.lio_clauses.specs.declared.token.Token.TheVariants.{Truth, Falsity, Open, Close, And, Or, Principal, Stray}
+use Rattle.std.proofs.Common.{◌≡◌, ◌≢◌, ℕ, suc, ◌+◌, ◌<◌, ◌≤◌, Bool, true, false, cond, if◌then◌else◌, List, [], ◌∷◌, ◌++◌, map, length, take, codes, Option, Some, Ok, Err, inl, inr, slice_get, nat_eq, nat_lt, nat_le, ne_eqb, leb-true, lit<, ◌&&◌, true≢false, le-ltb, length-append, drop, refl, sym, ap, subst, ◌∙◌, arith, append_assoc}
+use Rattle.lio_clauses.specs.declared.text.token.Token.{Token}
+use Rattle.lio_clauses.specs.declared.text.token.Token.TheVariants.{Truth, Falsity, Open, Close, And, Or, Over, Principal, Stray}
 use Rattle.std.specs.List.{prefix_len, starts_with, All}
-use Rattle.std.proofs.lemmas.List.{append-nil}
+use Rattle.std.proofs.lemmas.List.{append-nil, length-map}
+use Rattle.lio_clauses.specs.Principals.{principals}
 use Rattle.std.specs.Cmp.Lexicographic.{pointwise}
 use Rattle.std.proofs.lemmas.Bool.{and_parts}
 use Rattle.std.proofs.Math.Seq.{take-append_seam, drop-append_seam}
 use Rattle.lio_clauses.specs.Names.{AreNames, is_letter, is_name_byte, number_of}
-use Rattle.lio_clauses.specs.Token.{Tokens, At, Lexeme, count_of, tokens, front, name_at_front, name_token}
+use Rattle.lio_clauses.specs.Token.{Tokens, At, Lexeme, symbols, tokens, tokens_of, front, name_at_front, name_token}
 use Rattle.lio_clauses.proofs.TokenLemmas.{tokens-token}
 use Rattle.lio_clauses.proofs.NameLemmas.{name_begins, number_of-own}
-use Rattle.lio_clauses.specs.FormulaText.{◌>>=◌, names_at, clause_at, clauses_at, formula_at, whole, narrow, written, reading}
+use Rattle.lio_clauses.specs.FormulaText.{◌>>=◌, narrow, written, written_two, reading, reading_two}
+use Rattle.lio_clauses.specs.Grammar as grammar
+use Rattle.lio_clauses.specs.Grammar.{ClauseTree, FormulaTree, name_tokens, repetition, clause_tokens, clause_value, formula_tokens, formula_value, Derives, DerivesTwo}
+use Rattle.lio_clauses.specs.Width.{IsWide}
 use Rattle.lio_clauses.proofs.Members.{In, All-In}
-use Rattle.lio_clauses.proofs.ClauseLemmas.{clauses_at-end, clauses_at-And, formula_at-conjunction}
+use Rattle.lio_clauses.proofs.GrammarLemmas.{derived_is_read, derived_two_are_read}
 use Rattle.lio_clauses.proofs.Forms.{canonical-itself, canonical-only}
 use Rattle.lio_clauses.proofs.Orders.{in_order-head}
 use Rattle.lio_clauses.proofs.Subsets.{within}
 use Rattle.lio_clauses.specs.Canonical.{IsCanonical, canonical, is_before}
-use Rattle.lio_clauses.specs.PrintedText.{ReadsPrinted}
+use Rattle.lio_clauses.specs.PrintedText.{ReadsPrinted, ReadsTwoPrinted}
 use Rattle.lio_clauses.specs.declared.faults.TextFault.TheVariants.{Wide}
-use Rattle.lio_clauses.specs.FormulaPrint.{AreNamed, joined, name_of, clause_text, formula_text}
+use Rattle.lio_clauses.specs.FormulaPrint.{AreNamed, joined, name_of, clause_text, formula_text, two_text}
 
 -- the signs, over any bytes behind them
 tokens-Open : (names : List (List ℕ)) (place : ℕ) (rest : List ℕ) → tokens names place 0 (40 ∷ rest) ≡ At place Open (tokens names (suc place) 0 rest)
@@ -45,6 +50,10 @@ tokens-Truth names place rest = refl
 tokens-Falsity : (names : List (List ℕ)) (place : ℕ) (rest : List ℕ) → tokens names place 0 (codes "False" ++ rest) ≡ At place Falsity (tokens names (suc (suc (suc (suc (suc place))))) 0 rest)
 unfolding front
 tokens-Falsity names place rest = refl
+
+tokens-Over : (names : List (List ℕ)) (place : ℕ) (rest : List ℕ) → tokens names place 0 (codes " %% " ++ rest) ≡ At (suc place) Over (tokens names (suc (suc (suc (suc place)))) 0 rest)
+unfolding front
+tokens-Over names place rest = refl
 
 -- what stands behind a name does not go on with it
 abbrev pub Ends : List ℕ → Type 0
@@ -117,106 +126,89 @@ joined-onto sign (t ∷ []) rest = refl
 joined-onto sign (t ∷ u ∷ ts) rest =
     append_assoc (t ++ sign) (joined sign (u ∷ ts)) rest ∙ append_assoc t sign (joined sign (u ∷ ts) ++ rest) ∙ ap (λ r. t ++ (sign ++ r)) (joined-onto sign (u ∷ ts) rest)
 
-module _ (names : List (List ℕ)) (known : AreNames names) where
-  -- the names of a clause are read again, up to its parenthesis
-  pub record ReadsNames (n : ℕ) (ns : List ℕ) (place : ℕ) (rest : List ℕ) : Type 0 where
-    pub more : Tokens
-    pub end : ℕ
-    pub begins : tokens names place 0 (joined_onto (codes " \\/ ") (map (name_of names) (n ∷ ns)) (41 ∷ rest)) ≡ At place (Principal n) more
-    pub reads : names_at more ≡ Ok (record { value = ns; rest = tokens names end 0 rest })
+-- the syntax of clauses that are printed
+abbrev clause_tree : List ℕ → ClauseTree
+clause_tree [] = grammar.Names 0 []
+clause_tree (n ∷ []) = grammar.Name n
+clause_tree (n ∷ m ∷ ns) = grammar.Names n (m ∷ ns)
 
-  reads_names : (n : ℕ) (ns : List ℕ) (place : ℕ) (rest : List ℕ) → ((m : ℕ) → In m (n ∷ ns) → m < length names) → ReadsNames n ns place rest
-  reads_names n [] place rest all = record {
-    more = tokens names (place + length (name_of names n)) 0 (41 ∷ rest);
+abbrev tree : List (List ℕ) → FormulaTree
+tree [] = grammar.Truth
+tree ([] ∷ []) = grammar.Falsity
+tree ((n ∷ ns) ∷ []) = grammar.Clauses (clause_tree (n ∷ ns)) []
+tree (c ∷ d ∷ A) = grammar.Clauses (clause_tree c) (map clause_tree (d ∷ A))
+
+clause_value-tree : (c : List ℕ) → c ≢ [] → clause_value (clause_tree c) ≡ c
+clause_value-tree [] some = absurd (some refl)
+clause_value-tree (n ∷ []) some = refl
+clause_value-tree (n ∷ m ∷ ns) some = refl
+
+values-trees : (A : List (List ℕ)) → ((c : List ℕ) → In c A → c ≢ []) → map clause_value (map clause_tree A) ≡ A
+values-trees [] some = refl
+values-trees (c ∷ A) some = ap (λ d. d ∷ map clause_value (map clause_tree A)) (clause_value-tree c (some c (inl refl))) ∙ ap (λ A. c ∷ A) (values-trees A (λ d h. some d (inr h)))
+
+-- the tokens of a text, before what stands behind it
+pub record Lexes (names : List (List ℕ)) (bytes : List ℕ) (place : ℕ) (ts : List Token) (rest : List ℕ) : Type 0 where
+  pub end : ℕ
+  pub tokens_are : symbols (tokens names place 0 bytes) ≡ ts ++ symbols (tokens names end 0 rest)
+
+module _ (names : List (List ℕ)) (known : AreNames names) where
+  lex_names : (n : ℕ) (ns : List ℕ) (place : ℕ) (rest : List ℕ) → ((m : ℕ) → In m (n ∷ ns) → m < length names)
+      → Lexes names (joined_onto (codes " \\/ ") (map (name_of names) (n ∷ ns)) (41 ∷ rest)) place (name_tokens n ++ repetition Or name_tokens ns ++ Close ∷ []) rest
+  lex_names n [] place rest all = record {
     end = suc (place + length (name_of names n));
-    begins = tokens-name names n place (41 ∷ rest) known (all n (inl refl)) refl;
-    reads = ap names_at (tokens-Close names (place + length (name_of names n)) rest);
+    tokens_are =
+        ap symbols (tokens-name names n place (41 ∷ rest) known (all n (inl refl)) refl)
+        ∙ ap (λ ts. Principal n ∷ symbols ts) (tokens-Close names (place + length (name_of names n)) rest);
   }
-  reads_names n (m ∷ ns) place rest all =
+  lex_names n (m ∷ ns) place rest all =
       let here : ℕ = place + length (name_of names n) in
       let text : List ℕ = joined_onto (codes " \\/ ") (map (name_of names) (m ∷ ns)) (41 ∷ rest) in
-      let later = reads_names m ns (suc (suc (suc (suc here)))) rest (λ k h. all k (inr h)) in
+      let later = lex_names m ns (suc (suc (suc (suc here)))) rest (λ k h. all k (inr h)) in
       record {
-        more = tokens names here 0 (codes " \\/ " ++ text);
         end = later.end;
-        begins = tokens-name names n place (codes " \\/ " ++ text) known (all n (inl refl)) refl;
-        reads =
-            ap names_at (tokens-Or names here text ∙ ap (At (suc here) Or) later.begins)
-            ∙ ap (λ r. r >>= λ ns. Ok (record { value = m ∷ ns.value; rest = ns.rest })) later.reads;
+        tokens_are =
+            ap symbols (tokens-name names n place (codes " \\/ " ++ text) known (all n (inl refl)) refl)
+            ∙ ap (λ ts. Principal n ∷ symbols ts) (tokens-Or names here text)
+            ∙ ap (λ ts. Principal n ∷ Or ∷ ts) later.tokens_are;
       }
 
-  -- and so is a clause
-  pub record ReadsClause (c : List ℕ) (place : ℕ) (rest : List ℕ) : Type 0 where
-    pub end : ℕ
-    pub reads : clause_at (tokens names place 0 (clause_text names c ++ rest)) ≡ Ok (record { value = c; rest = tokens names end 0 rest })
-    pub not_true : (at : ℕ) (more : Tokens) → tokens names place 0 (clause_text names c ++ rest) ≢ At at Truth more
-    pub not_false : (at : ℕ) (more : Tokens) → tokens names place 0 (clause_text names c ++ rest) ≢ At at Falsity more
-
-  reads_clause : (c : List ℕ) (place : ℕ) (rest : List ℕ) → c ≢ [] → ((m : ℕ) → In m c → m < length names) → Ends rest → ReadsClause c place rest
-  unfolding clause_at
-  reads_clause [] place rest some all ends = absurd (some refl)
-  reads_clause (n ∷ []) place rest some all ends =
-      let begins = tokens-name names n place rest known (all n (inl refl)) ends in
-      record {
-        end = place + length (name_of names n);
-        reads = ap clause_at begins;
-        not_true = λ at more e. let wrong = sym begins ∙ e in cc;
-        not_false = λ at more e. let wrong = sym begins ∙ e in cc;
-      }
-  reads_clause (n ∷ m ∷ c) place rest some all ends =
+  lex_clause : (c : List ℕ) (place : ℕ) (rest : List ℕ) → c ≢ [] → ((m : ℕ) → In m c → m < length names) → Ends rest → Lexes names (clause_text names c ++ rest) place (clause_tokens (clause_tree c)) rest
+  lex_clause [] place rest some all ends = absurd (some refl)
+  lex_clause (n ∷ []) place rest some all ends = record {
+    end = place + length (name_of names n);
+    tokens_are = ap symbols (tokens-name names n place rest known (all n (inl refl)) ends);
+  }
+  lex_clause (n ∷ m ∷ c) place rest some all ends =
       let inner : List ℕ = joined (codes " \\/ ") (map (name_of names) (n ∷ m ∷ c)) in
       let text : clause_text names (n ∷ m ∷ c) ++ rest ≡ 40 ∷ joined_onto (codes " \\/ ") (map (name_of names) (n ∷ m ∷ c)) (41 ∷ rest) =
       ap (λ t. 40 ∷ t) (append_assoc inner (codes ")") rest ∙ joined-onto (codes " \\/ ") (map (name_of names) (n ∷ m ∷ c)) (41 ∷ rest)) in
-      let later = reads_names n (m ∷ c) (suc place) rest all in
-      let begins : tokens names place 0 (clause_text names (n ∷ m ∷ c) ++ rest) ≡ At place Open (At (suc place) (Principal n) later.more) =
-      ap (tokens names place 0) text ∙ tokens-Open names place (joined_onto (codes " \\/ ") (map (name_of names) (n ∷ m ∷ c)) (41 ∷ rest)) ∙ ap (At place Open) later.begins in
+      let later = lex_names n (m ∷ c) (suc place) rest all in
       record {
         end = later.end;
-        reads = ap clause_at begins ∙ ap (λ r. r >>= λ ns. Ok (record { value = n ∷ ns.value; rest = ns.rest })) later.reads;
-        not_true = λ at more e. let wrong = sym begins ∙ e in cc;
-        not_false = λ at more e. let wrong = sym begins ∙ e in cc;
+        tokens_are =
+            ap (λ bytes. symbols (tokens names place 0 bytes)) text
+            ∙ ap symbols (tokens-Open names place (joined_onto (codes " \\/ ") (map (name_of names) (n ∷ m ∷ c)) (41 ∷ rest)))
+            ∙ ap (λ ts. Open ∷ ts) later.tokens_are;
       }
 
-  -- what stands behind a formula goes on with neither a name nor a clause
-  pub record Stops (rest : List ℕ) : Type 0 where
-    pub ends : Ends rest
-    pub last : (place at : ℕ) (more : Tokens) → tokens names place 0 rest ≢ At at And more
-
-  -- the clauses are read again
-  pub record ReadsClauses (c : List ℕ) (A : List (List ℕ)) (place : ℕ) (rest : List ℕ) : Type 0 where
-    pub end : ℕ
-    pub more : Tokens
-    pub first : clause_at (tokens names place 0 (joined_onto (codes " /\\ ") (map (clause_text names) (c ∷ A)) rest)) ≡ Ok (record { value = c; rest = more })
-    pub others : clauses_at (count_of more) more ≡ Ok (record { value = A; rest = tokens names end 0 rest })
-    pub not_true : (at : ℕ) (left : Tokens) → tokens names place 0 (joined_onto (codes " /\\ ") (map (clause_text names) (c ∷ A)) rest) ≢ At at Truth left
-    pub not_false : (at : ℕ) (left : Tokens) → tokens names place 0 (joined_onto (codes " /\\ ") (map (clause_text names) (c ∷ A)) rest) ≢ At at Falsity left
-
-  reads_clauses : (c : List ℕ) (A : List (List ℕ)) (place : ℕ) (rest : List ℕ) → ((d : List ℕ) → In d (c ∷ A) → d ≢ []) → ((d : List ℕ) → In d (c ∷ A) → (n : ℕ) → In n d → n < length names)
-      → Stops rest → ReadsClauses c A place rest
-  reads_clauses c [] place rest some all stops =
-      let own = reads_clause c place rest (some c (inl refl)) (all c (inl refl)) stops.ends in
-      record {
-        end = own.end;
-        more = tokens names own.end 0 rest;
-        first = own.reads;
-        others = clauses_at-end (count_of (tokens names own.end 0 rest)) (tokens names own.end 0 rest) (stops.last own.end);
-        not_true = own.not_true;
-        not_false = own.not_false;
-      }
-  reads_clauses c (d ∷ A) place rest some all stops =
+  lex_clauses : (c : List ℕ) (A : List (List ℕ)) (place : ℕ) (rest : List ℕ) → ((d : List ℕ) → In d (c ∷ A) → d ≢ []) → ((d : List ℕ) → In d (c ∷ A) → (n : ℕ) → In n d → n < length names) → Ends rest
+      → Lexes names (joined_onto (codes " /\\ ") (map (clause_text names) (c ∷ A)) rest) place (clause_tokens (clause_tree c) ++ repetition And clause_tokens (map clause_tree A)) rest
+  lex_clauses c [] place rest some all ends =
+      let own = lex_clause c place rest (some c (inl refl)) (all c (inl refl)) ends in
+      record { end = own.end; tokens_are = own.tokens_are ∙ ap (λ ts. ts ++ symbols (tokens names own.end 0 rest)) (sym (append-nil (clause_tokens (clause_tree c)))) }
+  lex_clauses c (d ∷ A) place rest some all ends =
       let text : List ℕ = joined_onto (codes " /\\ ") (map (clause_text names) (d ∷ A)) rest in
-      let own = reads_clause c place (codes " /\\ " ++ text) (some c (inl refl)) (all c (inl refl)) refl in
-      let later = reads_clauses d A (suc (suc (suc (suc own.end)))) rest (λ e h. some e (inr h)) (λ e h. all e (inr h)) stops in
+      let own = lex_clause c place (codes " /\\ " ++ text) (some c (inl refl)) (all c (inl refl)) refl in
+      let later = lex_clauses d A (suc (suc (suc (suc own.end)))) rest (λ e h. some e (inr h)) (λ e h. all e (inr h)) ends in
+      let behind : List Token = symbols (tokens names later.end 0 rest) in
       record {
         end = later.end;
-        more = tokens names own.end 0 (codes " /\\ " ++ text);
-        first = own.reads;
-        others =
-            clauses_at-And (suc own.end) (tokens names own.end 0 (codes " /\\ " ++ text)) (tokens names (suc (suc (suc (suc own.end)))) 0 text) (tokens-And names own.end text)
-            ∙ ap (λ r. r >>= λ e. clauses_at (count_of e.rest) e.rest >>= λ es. Ok (record { value = e.value ∷ es.value; rest = es.rest })) later.first
-            ∙ ap (λ r. r >>= λ es. Ok (record { value = d ∷ es.value; rest = es.rest })) later.others;
-        not_true = own.not_true;
-        not_false = own.not_false;
+        tokens_are =
+            own.tokens_are
+            ∙ ap (λ ts. clause_tokens (clause_tree c) ++ symbols ts) (tokens-And names own.end text)
+            ∙ ap (λ ts. clause_tokens (clause_tree c) ++ And ∷ ts) later.tokens_are
+            ∙ sym (append_assoc (clause_tokens (clause_tree c)) (repetition And clause_tokens (map clause_tree (d ∷ A))) behind);
       }
 
   -- a canonical formula with the empty clause is False
@@ -236,37 +228,69 @@ module _ (names : List (List ℕ)) (known : AreNames names) where
   formula_text-several [] (d ∷ A) some = refl
   formula_text-several (n ∷ c) (d ∷ A) some = refl
 
-  reads_several : (c : List ℕ) (A : List (List ℕ)) (place : ℕ) (rest : List ℕ) → ((e : List ℕ) → In e (c ∷ A) → e ≢ []) → AreNamed names (c ∷ A) → Stops rest
-      → (end : ℕ) × (formula_at (tokens names place 0 (formula_text names (c ∷ A) ++ rest)) ≡ Ok (record { value = c ∷ A; rest = tokens names end 0 rest }))
-  reads_several c A place rest some named stops =
-      let r = reads_clauses c A place rest some (λ d h n k. All-In (λ n. n < length names) d (All-In (λ c. All (λ n. n < length names) c) (c ∷ A) named d h) n k) stops in
+  lex_several : (c : List ℕ) (A : List (List ℕ)) (place : ℕ) (rest : List ℕ) → ((e : List ℕ) → In e (c ∷ A) → e ≢ []) → AreNamed names (c ∷ A) → Ends rest
+      → Lexes names (formula_text names (c ∷ A) ++ rest) place (clause_tokens (clause_tree c) ++ repetition And clause_tokens (map clause_tree A)) rest
+  lex_several c A place rest some named ends =
+      let r = lex_clauses c A place rest some (λ d h n k. All-In (λ n. n < length names) d (All-In (λ c. All (λ n. n < length names) c) (c ∷ A) named d h) n k) ends in
       let text : formula_text names (c ∷ A) ++ rest ≡ joined_onto (codes " /\\ ") (map (clause_text names) (c ∷ A)) rest =
-      ap (λ t. t ++ rest) (formula_text-several c A some) ∙ joined-onto (codes " /\\ ") (map (clause_text names) (c ∷ A)) rest in (
-        r.end,
-        ap (λ t. formula_at (tokens names place 0 t)) text
-            ∙ formula_at-conjunction (tokens names place 0 (joined_onto (codes " /\\ ") (map (clause_text names) (c ∷ A)) rest)) r.not_true r.not_false
-            ∙ ap (λ x. x >>= λ e. clauses_at (count_of e.rest) e.rest >>= λ es. Ok (record { value = e.value ∷ es.value; rest = es.rest })) r.first
-            ∙ ap (λ x. x >>= λ es. Ok (record { value = c ∷ es.value; rest = es.rest })) r.others,
+      ap (λ t. t ++ rest) (formula_text-several c A some) ∙ joined-onto (codes " /\\ ") (map (clause_text names) (c ∷ A)) rest in
+      record { end = r.end; tokens_are = ap (λ bytes. symbols (tokens names place 0 bytes)) text ∙ r.tokens_are }
+
+  one_some : (n : ℕ) (c e : List ℕ) → In e ((n ∷ c) ∷ []) → e ≢ []
+  one_some n c e (inl same) empty = let wrong = sym same ∙ empty in cc
+  one_some n c e (inr h) empty = absurd h
+
+  pub lex_formula : (A : List (List ℕ)) (place : ℕ) (rest : List ℕ) → IsCanonical A → AreNamed names A → Ends rest → Lexes names (formula_text names A ++ rest) place (formula_tokens (tree A)) rest
+  lex_formula [] place rest canon named ends = record { end = suc (suc (suc (suc place))); tokens_are = ap symbols (tokens-Truth names place rest) }
+  lex_formula ([] ∷ []) place rest canon named ends = record { end = suc (suc (suc (suc (suc place)))); tokens_are = ap symbols (tokens-Falsity names place rest) }
+  lex_formula ((n ∷ c) ∷ []) place rest canon named ends = lex_several (n ∷ c) [] place rest (one_some n c) named ends
+  lex_formula (c ∷ d ∷ A) place rest canon named ends = lex_several c (d ∷ A) place rest (no_empty c d A canon) named ends
+
+  pub formula_value-tree : (A : List (List ℕ)) → IsCanonical A → formula_value (tree A) ≡ A
+  formula_value-tree [] canon = refl
+  formula_value-tree ([] ∷ []) canon = refl
+  formula_value-tree ((n ∷ c) ∷ []) canon = values-trees ((n ∷ c) ∷ []) (one_some n c)
+  formula_value-tree (c ∷ d ∷ A) canon = values-trees (c ∷ d ∷ A) (no_empty c d A canon)
+
+  derives-printed : (A : List (List ℕ)) → IsCanonical A → AreNamed names A → Derives (symbols (tokens_of names (formula_text names A))) A
+  derives-printed A canon named =
+      let lexes = lex_formula A 0 [] canon named refl in
+      (tree A, ap (λ bytes. symbols (tokens_of names bytes)) (sym (append-nil (formula_text names A))) ∙ lexes.tokens_are ∙ append-nil (formula_tokens (tree A)), sym (formula_value-tree A canon))
+
+  derives_two-printed : (A B : List (List ℕ)) → IsCanonical A → IsCanonical B → AreNamed names A → AreNamed names B → DerivesTwo (symbols (tokens_of names (two_text names A B))) (A, B)
+  derives_two-printed A B a b named others =
+      let first = lex_formula A 0 (codes " %% " ++ (formula_text names B ++ [])) a named refl in
+      let second = lex_formula B (suc (suc (suc (suc first.end)))) [] b others refl in
+      let text : two_text names A B ≡ formula_text names A ++ (codes " %% " ++ (formula_text names B ++ [])) =
+      append_assoc (formula_text names A) (codes " %% ") (formula_text names B) ∙ ap (λ t. formula_text names A ++ (codes " %% " ++ t)) (sym (append-nil (formula_text names B))) in (
+        tree A,
+        tree B,
+        ap (λ bytes. symbols (tokens_of names bytes)) text ∙ first.tokens_are
+            ∙ ap (λ ts. formula_tokens (tree A) ++ symbols ts) (tokens-Over names first.end (formula_text names B ++ []))
+            ∙ ap (λ ts. formula_tokens (tree A) ++ Over ∷ ts) (second.tokens_are ∙ append-nil (formula_tokens (tree B))),
+        ap (λ A. (A, B)) (sym (formula_value-tree A a)) ∙ ap (λ B. (formula_value (tree A), B)) (sym (formula_value-tree B b)),
       )
 
-  -- and a formula
-  pub reads_formula : (A : List (List ℕ)) (place : ℕ) (rest : List ℕ) → IsCanonical A → AreNamed names A → Stops rest
-      → (end : ℕ) × (formula_at (tokens names place 0 (formula_text names A ++ rest)) ≡ Ok (record { value = A; rest = tokens names end 0 rest }))
-  unfolding formula_at
-  reads_formula [] place rest canon named stops = (suc (suc (suc (suc place))), ap formula_at (tokens-Truth names place rest))
-  reads_formula ([] ∷ []) place rest canon named stops = (suc (suc (suc (suc (suc place)))), ap formula_at (tokens-Falsity names place rest))
-  reads_formula ((n ∷ c) ∷ []) place rest canon named stops =
-      reads_several (n ∷ c) [] place rest (λ e h. elim h [ inl same ↦ λ empty. let wrong = sym same ∙ empty in cc | inr k ↦ absurd k ]) named stops
-  reads_formula (c ∷ d ∷ A) place rest canon named stops = reads_several c (d ∷ A) place rest (no_empty c d A canon) named stops
-
 -- reading the text of a formula gives the formula
-pub written-printed : (names A : List (List ℕ)) → AreNames names → IsCanonical A → AreNamed names A → written names (formula_text names A) ≡ Ok A
-unfolding written
-written-printed names A known canon named =
-    let r = reads_formula names known A 0 [] canon named (record { ends = refl; last = λ place at more e. cc }) in
-    ap (written names) (sym (append-nil (formula_text names A))) ∙ ap (λ x. x >>= whole) r.1
+narrow-itself : (A : List (List ℕ)) → IsCanonical A → ¬ IsWide A → narrow A ≡ Ok A
+narrow-itself A canon few =
+    let own = canonical-itself A canon in
+    ap (λ C. cond (nat_lt 64 (length C)) (Err Wide) (Ok C)) own ∙ ap (λ b. cond b (Err Wide) (Ok A)) (le-ltb 64 (length A) (omega (arith, few)))
 
 pub reads_printed : ReadsPrinted
 unfolding reading
 reads_printed names A known canon few named =
-    ap (λ r. r >>= λ A. narrow (canonical A)) (written-printed names A known canon named) ∙ ap narrow (canonical-itself A canon) ∙ ap (λ b. cond b (Err Wide) (Ok A)) (le-ltb 64 (length A) few)
+    ap (λ r. r >>= narrow) (derived_is_read names (formula_text names A) A (derives-printed names known A canon named)) ∙ narrow-itself A canon few
+
+pub reads_two_printed : ReadsTwoPrinted
+unfolding reading_two
+reads_two_printed names A B known a b few others named more =
+    ap (λ r. r >>= λ both. narrow both.0 >>= λ A. narrow both.1 >>= λ B. Ok (A, B)) (derived_two_are_read names (two_text names A B) (A, B) (derives_two-printed names known A B a b named more))
+    ∙ ap (λ r. r >>= λ A. narrow B >>= λ B. Ok (A, B)) (narrow-itself A a few) ∙ ap (λ r. r >>= λ B. Ok (A, B)) (narrow-itself B b others)
+
+-- the same of a formula by its clauses of 64 bits
+pub reads_kept : (names : List (List ℕ)) (masks : List ℕ) (A : List (List ℕ)) → AreNames names → IsCanonical A → map principals masks ≡ A → length masks ≤ 64 → AreNamed names A
+    → reading names (formula_text names A) ≡ Ok A
+reads_kept names masks A known canon same few named =
+    let short : length A ≤ 64 = subst (λ (A : List (List ℕ)). length A ≤ 64) same (simp length-map few) in
+    reads_printed names A known canon (λ wide. omega (arith, short, wide)) named

@@ -1,5 +1,5 @@
 -- The canonical text of a formula.
-use Rattle.std.specs.Prelude.{ℕ, ◌<◌, List, [], ◌∷◌, ◌++◌, map, length, All, codes, slice_index_or}
+use Rattle.std.specs.Prelude.{◌≡◌, ℕ, ◌<◌, List, [], ◌∷◌, ◌++◌, map, length, All, codes, slice_index_or}
 
 -- each principal of a formula has a name
 abbrev pub AreNamed : List (List ℕ) → List (List ℕ) → Type 0
@@ -25,3 +25,12 @@ abbrev pub formula_text : List (List ℕ) → List (List ℕ) → List ℕ
 formula_text names [] = codes "True"
 formula_text names ([] ∷ []) = codes "False"
 formula_text names A = joined (codes " /\\ ") (map (clause_text names) A)
+
+-- the text of two formulas, "%%" with a blank on each side between them
+abbrev pub two_text : List (List ℕ) → List (List ℕ) → List (List ℕ) → List ℕ
+two_text names A B = formula_text names A ++ codes " %% " ++ formula_text names B
+
+-- bytes stand behind others
+pub record Extends (old new : List ℕ) : Type 0 where
+  pub more : List ℕ
+  pub appended : new ≡ old ++ more

@@ -13,3 +13,4 @@ mod text;
 pub use faults::{FormFault, NameFault, NoMemory, TextFault};
 pub use formula::Formula;
 pub use names::Names;
+pub use text::laws as text_laws;

@@ -8,6 +8,7 @@
 mod clauses;
 mod cursor;
 mod grammar;
+pub mod laws;
 mod print;
 mod read;
 mod token;

@@ -1,35 +1,43 @@
 //! Printing formulas.
-ghost use Rattle.std.specs.Prelude.{◌≡◌, ◌<◌, ◌++◌, List, ℕ, [], map, codes, length, OnOk, IfOk, if◌then◌else◌};
+ghost use Rattle.std.specs.Prelude.{◌≡◌, ◌<◌, ◌++◌, List, ℕ, [], map, codes, length, OnOk, OnErr, IfOk, Ok, if◌then◌else◌};
 ghost use Rattle.std.specs.List.{All};
 ghost use Rattle.lio_clauses.specs.Principals.{principals};
-ghost use Rattle.lio_clauses.specs.FormulaPrint.{AreNamed, formula_text, clause_text, joined, name_of};
-ghost use Rattle.lio_clauses.specs.PrintedText.{ReadsPrinted};
+ghost use Rattle.lio_clauses.specs.FormulaText.{reading};
+ghost use Rattle.lio_clauses.specs.FormulaPrint.{AreNamed, Extends, formula_text, clause_text, joined, name_of};
 
 use crate::faults::NoMemory;
 use crate::formula::Formula;
 use crate::names::Names;
 use std::alloc::Global;
 
+/// Appends bytes.
+fn append(text: &mut Vec<u8>, bytes: &[u8]) -> Result<(), NoMemory>
+    ensures ok { OnOk result (text.new.items ≡ text.old.items ++ bytes.now) }
+    ensures kept { Extends text.old.items text.new.items }
+{
+    text.extend_from_slice(bytes)?;
+    Ok(())
+}
+
 /// Appends a sign, but not before the first item.
 fn append_sign(text: &mut Vec<u8>, sign: &[u8], first: bool) -> Result<(), NoMemory>
-    ensures { OnOk result (text.new.items ≡ text.old.items ++ (if first then [] else sign.now)) }
+    ensures ok { OnOk result (text.new.items ≡ text.old.items ++ (if first then [] else sign.now)) }
+    ensures kept { Extends text.old.items text.new.items }
 {
-    if !first {
-        text.extend_from_slice(sign)?;
-    }
-    Ok(())
+    append(text, if first { &[] } else { sign })
 }
 
 /// Appends the names of a clause's principals, in rising number.
 fn append_names(text: &mut Vec<u8>, clause: u64, names: &Names) -> Result<(), NoMemory>
     requires { All (λ n. n < length names.now) (principals clause) }
-    ensures { OnOk result (text.new.items ≡ text.old.items ++ joined (codes " \\/ ") (map (name_of names.now) (principals clause))) }
+    ensures ok { OnOk result (text.new.items ≡ text.old.items ++ joined (codes " \\/ ") (map (name_of names.now) (principals clause))) }
+    ensures kept { Extends text.old.items text.new.items }
 {
     let mut first = true;
     for n in 0..64 {
         if clause >> n & 1 == 1 {
             append_sign(text, b" \\/ ", first)?;
-            text.extend_from_slice(names.name(n))?;
+            append(text, names.name(n))?;
             first = false;
         }
     }
@@ -39,54 +47,66 @@ fn append_names(text: &mut Vec<u8>, clause: u64, names: &Names) -> Result<(), No
 /// Appends a clause.
 fn append_clause(text: &mut Vec<u8>, clause: u64, names: &Names) -> Result<(), NoMemory>
     requires { All (λ n. n < length names.now) (principals clause) }
-    ensures { OnOk result (text.new.items ≡ text.old.items ++ clause_text names.now (principals clause)) }
+    ensures ok { OnOk result (text.new.items ≡ text.old.items ++ clause_text names.now (principals clause)) }
+    ensures kept { Extends text.old.items text.new.items }
 {
     let first = clause.trailing_zeros();
     if first < 64 && clause == 1 << first {
-        text.extend_from_slice(names.name(first))?;
-        return Ok(());
+        return append(text, names.name(first));
     }
-    text.extend_from_slice(b"(")?;
+    append(text, b"(")?;
     append_names(text, clause, names)?;
-    text.extend_from_slice(b")")?;
+    append(text, b")")
+}
+
+/// Appends a formula. After want of memory a part of it may stand at the end.
+fn append_formula(text: &mut Vec<u8>, formula: &Formula, names: &Names) -> Result<(), NoMemory>
+    requires { AreNamed names.now formula.now }
+    ensures ok { OnOk result (text.new.items ≡ text.old.items ++ formula_text names.now formula.now) }
+    ensures kept { Extends text.old.items text.new.items }
+{
+    let clauses = formula.clauses();
+    if clauses.is_empty() {
+        return append(text, b"True");
+    }
+    if clauses.len() == 1 && clauses[0] == 0 {
+        return append(text, b"False");
+    }
+    for (place, &clause) in clauses.iter().enumerate() {
+        append_sign(text, b" /\\ ", place == 0)?;
+        append_clause(text, clause, names)?;
+    }
     Ok(())
 }
 
 impl Formula {
     /// Appends the canonical text: `True`, `False`, or clauses with ` /\ ` between them. A clause of one principal is its name,
-    /// another is like `(a \/ b)`. After want of memory a part of it may stand at the end.
+    /// another is like `(a \/ b)`. After want of memory the text is as before.
     pub fn print_to(&self, text: &mut Vec<u8>, names: &Names) -> Result<(), NoMemory>
         requires { AreNamed names.now self.now }
-        ensures { OnOk result (text.new.items ≡ text.old.items ++ formula_text names.now self.now) }
+        ensures ok { OnOk result (text.new.items ≡ text.old.items ++ formula_text names.now self.now) }
+        ensures err { OnErr result (text.new.items ≡ text.old.items) }
     {
-        let clauses = self.clauses();
-        if clauses.is_empty() {
-            text.extend_from_slice(b"True")?;
-            return Ok(());
+        let len = text.len();
+        let printed = append_formula(text, self, names);
+        if printed.is_err() {
+            text.truncate(len);
         }
-        if clauses.len() == 1 && clauses[0] == 0 {
-            text.extend_from_slice(b"False")?;
-            return Ok(());
-        }
-        for (place, &clause) in clauses.iter().enumerate() {
-            append_sign(text, b" /\\ ", place == 0)?;
-            append_clause(text, clause, names)?;
-        }
-        Ok(())
+        printed
     }
 
     /// The canonical text.
     pub fn print(&self, alloc: Global, names: &Names) -> Result<Vec<u8>, NoMemory>
         requires { AreNamed names.now self.now }
-        ensures { IfOk result (λ text. text.items ≡ formula_text names.now self.now) }
+        ensures ok { IfOk result (λ text. text.items ≡ formula_text names.now self.now) }
+        // Reading the text over the same names gives the formula again.
+        ensures read { IfOk result (λ text. reading names.now text.items ≡ Ok self.now) }
     {
         let mut text = Vec::new(alloc);
-        self.print_to(&mut text, names)?;
+        append_formula(&mut text, self, names)?;
+        // What these calls ensure is what reading the text asks for.
+        let _ = self.clauses();
+        let _ = names.len();
         Ok(text)
     }
 }
-
-/// What is printed is read as the same formula, over the same names.
-pub fn printed_is_read()
-    ensures { ReadsPrinted }
-{}

@@ -1,6 +1,6 @@
 use Rattle.std.proofs.Common.{codes, map, take, ◌==◌}
 use Rattle.lio_clauses.proofs.PrintLemmas.{Printed, mask_text}
-use Rattle.lio_clauses.proofs.formula.Formula.print_to.Given as goal
+use Rattle.lio_clauses.proofs.text.print.append_formula.Given as goal
 
 -- the clauses before the place are printed
 abbrev pub invariant-loop-place : goal.invariant-loop-place

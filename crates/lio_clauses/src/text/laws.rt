@@ -1,0 +1,39 @@
+//! The laws of the text of formulas. Each function does nothing: its contract is the law.
+ghost use Rattle.lio_clauses.specs.Grammar.{DerivedIsRead, DerivedTwoAreRead, ReadIsDerived, ReadTwoAreDerived};
+ghost use Rattle.lio_clauses.specs.PrintedText.{ReadsPrinted, ReadsTwoPrinted};
+
+/// What is read is of the grammar, with the clauses that were read.
+#[tactic(auto, using(crate::proofs::GrammarLemmas::read_is_derived))]
+pub fn read_is_derived()
+    ensures { ReadIsDerived }
+{}
+
+/// What is of the grammar is read.
+#[tactic(auto, using(crate::proofs::GrammarLemmas::derived_is_read))]
+pub fn derived_is_read()
+    ensures { DerivedIsRead }
+{}
+
+/// The two formulas that are read are of the grammar.
+#[tactic(auto, using(crate::proofs::GrammarLemmas::read_two_are_derived))]
+pub fn read_two_are_derived()
+    ensures { ReadTwoAreDerived }
+{}
+
+/// Two formulas that are of the grammar are read.
+#[tactic(auto, using(crate::proofs::GrammarLemmas::derived_two_are_read))]
+pub fn derived_two_are_read()
+    ensures { DerivedTwoAreRead }
+{}
+
+/// What is printed is read as the same formula, over the same names.
+#[tactic(auto, using(crate::proofs::PrintedLemmas::reads_printed))]
+pub fn printed_is_read()
+    ensures { ReadsPrinted }
+{}
+
+/// Two formulas that are printed are read as the same ones, over the same names.
+#[tactic(auto, using(crate::proofs::PrintedLemmas::reads_two_printed))]
+pub fn printed_two_are_read()
+    ensures { ReadsTwoPrinted }
+{}
