@@ -1,13 +1,17 @@
 -- The laws of implication, canonical form, conjunction and disjunction.
-use Rattle.std.proofs.Common.{◌≡◌, Bool, true, false, ◌&&◌, ◌||◌, inl, inr, [], ◌∷◌, refl, sym, ◌∙◌, ap}
+use Rattle.std.proofs.Common.{ℕ, ◌<◌, Bool, ◌&&◌, ◌||◌, inl, inr, List, [], ◌∷◌, ◌++◌, length, All, refl, sym, ◌∙◌, ap}
+use Rattle.std.proofs.Math.Bool.{and_comm, or_comm, and_assoc, or_assoc, and_self, or_self}
 use Rattle.std.proofs.lemmas.Bool.{true≢false, and_parts, and_from, or_cases, or_left, or_right}
 use Rattle.lio_clauses.specs.Satisfaction.{sat}
-use Rattle.lio_clauses.specs.Canonical.{and, or}
-use Rattle.lio_clauses.specs.Laws.{ImplicationIsTested, ImplicationIsReflexive, ImplicationIsTransitive, ImplicationIsAntisymmetric, ImplicationIsByClauses, FalsityIsLeast, TruthIsGreatest, CanonicalFormIsUnique, CanonicalFormIsCanonical, CanonicalFormMeansTheSame, CanonicalFormOfCanonical, ConjunctionIsCanonical, ConjunctionMeansBoth, DisjunctionIsCanonical, DisjunctionMeansEither, ConjunctionImpliesLeft, ConjunctionImpliesRight, ConjunctionIsGreatest, LeftImpliesDisjunction, RightImpliesDisjunction, DisjunctionIsLeast, ConjunctionIsCommutative, ConjunctionIsAssociative, ConjunctionIsIdempotent, DisjunctionIsCommutative, DisjunctionIsAssociative, DisjunctionIsIdempotent}
-use Rattle.lio_clauses.proofs.Members.{Contains-from_In, In-from_Contains, same_tests}
+use Rattle.lio_clauses.specs.Implication.{named}
+use Rattle.lio_clauses.specs.Canonical.{canonical_of, and, or}
+use Rattle.lio_clauses.specs.FormulaPrint.{AreNamed}
+use Rattle.lio_clauses.specs.Laws.{ImplicationIsTested, ImplicationIsReflexive, ImplicationIsTransitive, ImplicationIsAntisymmetric, ImplicationIsByClauses, FalsityIsLeast, TruthIsGreatest, CanonicalFormIsUnique, CanonicalFormIsCanonical, CanonicalFormMeansTheSame, CanonicalFormOfCanonical, ConjunctionIsCanonical, ConjunctionMeansBoth, DisjunctionIsCanonical, DisjunctionMeansEither, ConjunctionImpliesLeft, ConjunctionImpliesRight, ConjunctionIsGreatest, LeftImpliesDisjunction, RightImpliesDisjunction, DisjunctionIsLeast, ConjunctionIsCommutative, ConjunctionIsAssociative, ConjunctionIsIdempotent, DisjunctionIsCommutative, DisjunctionIsAssociative, DisjunctionIsIdempotent, ConjunctionIsNamed, DisjunctionIsNamed}
+use Rattle.lio_clauses.proofs.Members.{In, In-append_cases, All-In, In-All, Contains-from_In, In-from_Contains, same_tests}
 use Rattle.lio_clauses.proofs.Subsets.{set_of-In, In-set_of, within-at, within-by}
-use Rattle.lio_clauses.proofs.Implied.{implies-Implies, Implies-implies, Implies-clause, clause-Implies, Implies-at, Implies-by}
-use Rattle.lio_clauses.proofs.Minimal.{canonical-unique}
+use Rattle.lio_clauses.proofs.Sublists.{sublists-members}
+use Rattle.lio_clauses.proofs.Implied.{named-parts, implies-Implies, Implies-implies, Implies-clause, clause-Implies, Implies-at, Implies-by}
+use Rattle.lio_clauses.proofs.Minimal.{canonical-unique, canonical_of-sublist}
 use Rattle.lio_clauses.proofs.Forms.{sat-canonical, sat-and, sat-or, IsCanonical-canonical, IsCanonical-and, IsCanonical-or, canonical-itself}
 
 -- implication
@@ -93,34 +97,6 @@ disjunction_is_least A B C h k =
       | inr t ↦ implies-Implies B C k who t
     ])
 
-and_comm : (a b : Bool) → (a && b) ≡ (b && a)
-and_comm true true = refl
-and_comm true false = refl
-and_comm false true = refl
-and_comm false false = refl
-
-or_comm : (a b : Bool) → (a || b) ≡ (b || a)
-or_comm true true = refl
-or_comm true false = refl
-or_comm false true = refl
-or_comm false false = refl
-
-and_assoc : (a b c : Bool) → ((a && b) && c) ≡ (a && (b && c))
-and_assoc true b c = refl
-and_assoc false b c = refl
-
-or_assoc : (a b c : Bool) → ((a || b) || c) ≡ (a || (b || c))
-or_assoc true b c = refl
-or_assoc false b c = refl
-
-and_same : (a : Bool) → (a && a) ≡ a
-and_same true = refl
-and_same false = refl
-
-or_same : (a : Bool) → (a || a) ≡ a
-or_same true = refl
-or_same false = refl
-
 pub conjunction_is_commutative : ConjunctionIsCommutative
 conjunction_is_commutative A B h k =
     canonical-unique (and A B) (and B A) (IsCanonical-and A B h k) (IsCanonical-and B A k h)
@@ -136,7 +112,7 @@ conjunction_is_associative A B C h k l =
     ∙ ap (λ v. sat who A && v) (sym (sat-and who B C)) ∙ sym (sat-and who A (and B C)))
 
 pub conjunction_is_idempotent : ConjunctionIsIdempotent
-conjunction_is_idempotent A a = canonical-unique (and A A) A (IsCanonical-and A A a.clauses a.clauses) a (λ who. sat-and who A A ∙ and_same (sat who A))
+conjunction_is_idempotent A a = canonical-unique (and A A) A (IsCanonical-and A A a.clauses a.clauses) a (λ who. sat-and who A A ∙ and_self (sat who A))
 
 pub disjunction_is_commutative : DisjunctionIsCommutative
 disjunction_is_commutative A B h k =
@@ -153,4 +129,26 @@ disjunction_is_associative A B C h k l =
     ∙ ap (λ v. sat who A || v) (sym (sat-or who B C)) ∙ sym (sat-or who A (or B C)))
 
 pub disjunction_is_idempotent : DisjunctionIsIdempotent
-disjunction_is_idempotent A a = canonical-unique (or A A) A (IsCanonical-or A A a.clauses a.clauses) a (λ who. sat-or who A A ∙ or_same (sat who A))
+disjunction_is_idempotent A a = canonical-unique (or A A) A (IsCanonical-or A A a.clauses a.clauses) a (λ who. sat-or who A A ∙ or_self (sat who A))
+
+-- the principals of what is made are principals of what it is made of
+
+named-at : (names A : List (List ℕ)) → AreNamed names A → (c : List ℕ) → In c A → (n : ℕ) → In n c → n < length names
+named-at names A h c m n i = All-In (λ n. n < length names) c (All-In (λ c. All (λ n. n < length names) c) A h c m) n i
+
+named-both : (names A B : List (List ℕ)) (passes : (ℕ → Bool) → Bool) → AreNamed names A → AreNamed names B → AreNamed names (canonical_of (named (A ++ B)) passes)
+named-both names A B passes h k =
+    In-All (λ c. All (λ n. n < length names) c) (canonical_of (named (A ++ B)) passes) (λ c m. In-All (λ n. n < length names) c (λ n i.
+    let p = named-parts (A ++ B) n (sublists-members c (named (A ++ B)) (canonical_of-sublist (named (A ++ B)) passes c m) n i) in
+    elim (In-append_cases p.0 A B p.1.0) [
+      | inl a ↦ named-at names A h p.0 a n p.1.1
+      | inr b ↦ named-at names B k p.0 b n p.1.1
+    ]))
+
+pub conjunction_is_named : ConjunctionIsNamed
+unfolding and
+conjunction_is_named names A B h k = named-both names A B (λ who. sat who A && sat who B) h k
+
+pub disjunction_is_named : DisjunctionIsNamed
+unfolding or
+disjunction_is_named names A B h k = named-both names A B (λ who. sat who A || sat who B) h k

@@ -1,5 +1,5 @@
 -- Answers of calls that make a formula: the formula, or Wide exactly where it is wide.
-use Rattle.std.proofs.Common.{◌≡◌, ◌≢◌, ℕ, ◌≤◌, ◌↔◌, Bool, true, List, [], ◌∷◌, length, refl, sym, ◌∙◌, ap, subst, arith, Result, Ok, Err, IfOk, is_ok}
+use Rattle.std.proofs.Common.{◌≡◌, ◌≢◌, ℕ, ◌↔◌, Bool, true, List, [], ◌∷◌, refl, sym, ◌∙◌, ap, subst, Result, Ok, Err, IfOk}
 use Rattle.std.specs.Prelude.{nat_eq}
 use Rattle.std.specs.Cmp.Lexicographic.{pointwise, same_text}
 use Rattle.std.proofs.lemmas.Bool.{true≢false, and_parts, and_from, eq-eqb}
@@ -11,13 +11,6 @@ use Rattle.lio_clauses.specs.Satisfaction.{sat}
 -- Wide is answered exactly where the formula is wide, unless memory is wanting
 abbrev pub IsWideExactly : {X : Type 0} → Result X FormFault → List (List ℕ) → Type 0
 IsWideExactly {X} r A = r ≢ Err NoMemory → (r ≡ Err Wide) ↔ IsWide A
-
-pub IsWideExactly-err : {X : Type 0} (y : FormFault) (A : List (List ℕ)) → (y ≡ Wide → IsWide A) → IsWideExactly {X = X} (Err y) A
-IsWideExactly-err Wide A h n = (λ _. h refl, λ _. refl)
-IsWideExactly-err NoMemory A h n = absurd (n refl)
-
-pub IsWideExactly-ok : {X : Type 0} (x : X) (A : List (List ℕ)) → length A ≤ 64 → IsWideExactly {X = X} (Ok x) A
-IsWideExactly-ok x A h n = (λ e. absurd (true≢false (ap is_ok e)), λ w. absurd (omega arith))
 
 pub IsWideExactly-same : {X : Type 0} (r : Result X FormFault) (A B : List (List ℕ)) → A ≡ B → IsWideExactly r A → IsWideExactly r B
 IsWideExactly-same r A B e h = let P : List (List ℕ) → Type 0 = λ v. IsWideExactly r v in subst P e h

@@ -2,7 +2,6 @@
 use Rattle.std.proofs.Common.{◌≡◌, ℕ, suc, zero, ◌+◌, ◌*◌, ◌/◌, ◌%◌, ◌^◌, ◌<◌, ◌≤◌, min, max, Bool, true, false, not, ◌&&◌, ◌||◌, ◌⊎◌, inl, inr, List, [], ◌∷◌, ◌++◌, map, refl, sym, ◌∙◌, ap, subst, arith}
 use Rattle.std.specs.Prelude.{nat_lt, ◌==◌, bit_and, bit_or, bit_xor}
 use Rattle.std.specs.Int.{bit_at, w64, trailing_zeros}
-use Rattle.std.specs.Int.Bits.{or_zero_r}
 use Rattle.std.specs.List.{list_all, list_any}
 use Rattle.std.proofs.lemmas.Bool.{both_ways, and_from, or_cases, or_left, or_right, cases_Bool, eqb-true, eq-eqb, ne_eqb, lt-ltb, ltb-true, false_from_ne_true, cases_order, cases_eq, not_from_false, not-true}
 use Rattle.std.proofs.lemmas.List.{map-append}
@@ -317,11 +316,6 @@ unions-below left right f g u h =
     let r = unions-parts left right u h in
     let P : ℕ → Type 0 = λ v. v < 2 ^ 64 in
     subst P (sym r.1.1.1.1) (or_lt 64 r.0 r.1.0 (f r.0 r.1.1.0) (g r.1.0 r.1.1.1.0))
-
--- with the empty clause alone on one side they are the other side
-pub unions-empty : (left : List ℕ) → unions left (0 ∷ []) ≡ left
-unions-empty [] = refl
-unions-empty (a ∷ left) = let e : bit_or a 0 ≡ a = or_zero_r a in let r : unions left (0 ∷ []) ≡ left = unions-empty left in cc
 
 -- exactly the sets satisfy them that satisfy at least one side
 pub sat-unions : (left right : List ℕ) (P : ℕ → Bool) → sat P (map principals (unions left right)) ≡ (sat P (map principals left) || sat P (map principals right))

@@ -102,13 +102,6 @@ any_none p [] a x h = absurd h
 any_none p (y ∷ xs) a x (inl e) = ap p e ∙ (or_parts (p y) (list_any p xs) a).0
 any_none p (y ∷ xs) a x (inr h) = any_none p xs (or_parts (p y) (list_any p xs) a).1 x h
 
-pub none_by : {X : Type 0} (p : X → Bool) (xs : List X) → ((x : X) → In x xs → p x ≡ false) → list_any p xs ≡ false
-none_by p xs h =
-    elim (cases_Bool (list_any p xs)) [
-      | inl t ↦ let r = any_some p xs t in absurd (true≢false (sym r.1.1 ∙ h r.0 r.1.0))
-      | inr f ↦ f
-    ]
-
 -- two facts about two tests that come to one answer
 pub same_tests : (a b : Bool) → (a ≡ true → b ≡ true) → (b ≡ true → a ≡ true) → a ≡ b
 same_tests true b f g = sym (f refl)

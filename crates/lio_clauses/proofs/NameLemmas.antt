@@ -1,5 +1,5 @@
 -- On the names of principals: the number of a name is its place.
-use Rattle.std.proofs.Common.{◌≡◌, ◌≢◌, ℕ, zero, suc, ◌+◌, ◌<◌, ◌≤◌, ◌⊎◌, inl, inr, Bool, true, false, cond, not, if◌then◌else◌, ◌||◌, List, [], ◌∷◌, ◌++◌, length, get_or, map, position, Option, Some, None, IfSome, slice_get, Contains, AllPairs, Vec, refl, sym, ap, subst, ◌∙◌, arith, length-append, ne_eqb, add-one, add_comm, ◌==◌, true≢false, nat_lt, nat_le, ◌&&◌, bytes_eq}
+use Rattle.std.proofs.Common.{◌≡◌, ◌≢◌, ℕ, zero, suc, ◌+◌, ◌<◌, ◌≤◌, ◌⊎◌, inl, inr, Bool, true, false, cond, not, if◌then◌else◌, ◌||◌, List, [], ◌∷◌, ◌++◌, length, get_or, map, position, Option, Some, None, slice_get, Contains, AllPairs, Vec, refl, sym, ap, subst, ◌∙◌, arith, length-append, ne_eqb, add-one, add_comm, ◌==◌, true≢false, nat_lt, nat_le, ◌&&◌, bytes_eq}
 use Rattle.std.specs.Global.{Global}
 use Rattle.std.proofs.lemmas.Bool.{and_parts}
 use Rattle.std.specs.List.{list_any, prefix_len, position_or_len}
@@ -53,13 +53,6 @@ pub place_of-Some : (names : List (List ℕ)) (name : List ℕ) (n : ℕ) → nu
 place_of-Some names name n h =
     let at = position-Some (bytes_eq name) names n [] h in
     slice_get-get_or names n [] at.0 ∙ ap Some (sym ((bytes_eq-Decides name (get_or names n [])).0 at.1))
-
-pub number_of-place : (names : List (List ℕ)) (name : List ℕ) → IfSome (number_of names name) (λ n. slice_get names n ≡ Some name)
-number_of-place names name = by (number_of names name) refl
-  where
-    by : (o : Option ℕ) → number_of names name ≡ o → IfSome o (λ n. slice_get names n ≡ Some name)
-    by None e = tt
-    by (Some n) e = place_of-Some names name n e
 
 pub None-absent : (names : List (List ℕ)) (name : List ℕ) → number_of names name ≡ None → Contains names name → ⊥
 None-absent names name h in' = others-None names name h in'.0 name in'.1 in'.2

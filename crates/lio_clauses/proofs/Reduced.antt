@@ -53,18 +53,6 @@ insert-cases z x [] (suc i) h = h
 insert-cases z x (y ∷ ys) zero h = h
 insert-cases z x (y ∷ ys) (suc i) h = elim h [ inl e ↦ inr (inl e) | inr m ↦ elim (insert-cases z x ys i m) [ inl e ↦ inl e | inr q ↦ inr (inr q) ] ]
 
-pub insert-new : {X : Type 0} (x : X) (ys : List X) (i : ℕ) → In x (insert ys i x)
-insert-new x [] zero = inl refl
-insert-new x [] (suc i) = inl refl
-insert-new x (y ∷ ys) zero = inl refl
-insert-new x (y ∷ ys) (suc i) = inr (insert-new x ys i)
-
-pub insert-old : {X : Type 0} (z x : X) (ys : List X) (i : ℕ) → In z ys → In z (insert ys i x)
-insert-old z x [] i h = absurd h
-insert-old z x (y ∷ ys) zero h = inr h
-insert-old z x (y ∷ ys) (suc i) (inl e) = inl e
-insert-old z x (y ∷ ys) (suc i) (inr m) = inr (insert-old z x ys i m)
-
 pub in_order-insert : {X : Type 0} (before : X → X → Bool) → ((x y z : X) → before x y ≡ true → before y z ≡ true → before x z ≡ true)
     → (x d : X) (ys : List X) (i : ℕ) → in_order before ys ≡ true → i ≤ length ys
     → ((y : X) → In y ys → before x y ≡ false → before y x ≡ true)

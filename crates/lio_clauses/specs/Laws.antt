@@ -3,6 +3,7 @@ use Rattle.std.specs.Prelude.{◌≡◌, ℕ, Bool, List, [], ◌∷◌, ◌&&�
 use Rattle.std.specs.List.{list_all, Contains}
 use Rattle.lio_clauses.specs.Satisfaction.{sat, set_of}
 use Rattle.lio_clauses.specs.Implication.{Implies, implies}
+use Rattle.lio_clauses.specs.FormulaPrint.{AreNamed}
 use Rattle.lio_clauses.specs.Canonical.{is_clause, IsCanonical, canonical, and, or}
 
 -- a list of clauses: each is a list of numbers below 64 in rising order
@@ -103,3 +104,10 @@ DisjunctionIsAssociative = (A B C : List (List ℕ)) → AreClauses A → AreCla
 
 abbrev pub DisjunctionIsIdempotent : Type 0
 DisjunctionIsIdempotent = (A : List (List ℕ)) → IsCanonical A → or A A ≡ A
+
+-- the conjunction and the disjunction name no principal that neither formula names: where the principals of both have names, so have theirs
+abbrev pub ConjunctionIsNamed : Type 0
+ConjunctionIsNamed = (names A B : List (List ℕ)) → AreNamed names A → AreNamed names B → AreNamed names (and A B)
+
+abbrev pub DisjunctionIsNamed : Type 0
+DisjunctionIsNamed = (names A B : List (List ℕ)) → AreNamed names A → AreNamed names B → AreNamed names (or A B)

@@ -1,7 +1,7 @@
 //! The names of principals.
 ghost use Rattle.std.specs.Prelude.{◌≡◌, ◌↔◌, ◌<◌, ◌≤◌, ◌++◌, [], ◌∷◌, length, slice_get, Contains, IsTrue, IsNone, IfSome, IfOk, OnOk, OnErr, IsOkAnd, MatchOption, IsOkUnless};
 ghost use Rattle.lio_clauses.specs.Names as spec;
-ghost use Rattle.lio_clauses.specs.Names.{name_fault, number_of};
+ghost use Rattle.lio_clauses.specs.Names.{AreNames, name_fault, number_of};
 
 use crate::faults::{NameFault, NoMemory};
 use indexmap::IndexSet;
@@ -106,10 +106,11 @@ impl Names {
         Some(place as u32)
     }
 
-    /// How many names there are.
+    /// How many names there are. What they hold are names, at most 64 and distinct.
     pub fn len(&self) -> u32
         ensures len { result ≡ length self.now }
         ensures most { result ≤ 64 }
+        ensures names { AreNames self.now }
     {
         self.set.len() as u32
     }

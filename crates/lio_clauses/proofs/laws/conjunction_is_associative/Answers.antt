@@ -1,5 +1,0 @@
-use Rattle.lio_clauses.proofs.Algebra.{conjunction_is_associative}
-use Rattle.lio_clauses.proofs.laws.conjunction_is_associative.Goals as goal
-
-pub returns : goal.returns
-returns c = conjunction_is_associative

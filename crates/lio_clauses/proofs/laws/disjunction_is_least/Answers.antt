@@ -1,5 +1,0 @@
-use Rattle.lio_clauses.proofs.Algebra.{disjunction_is_least}
-use Rattle.lio_clauses.proofs.laws.disjunction_is_least.Goals as goal
-
-pub returns : goal.returns
-returns c = disjunction_is_least

@@ -1,5 +1,0 @@
-use Rattle.lio_clauses.proofs.Algebra.{implication_is_reflexive}
-use Rattle.lio_clauses.proofs.laws.implication_is_reflexive.Goals as goal
-
-pub returns : goal.returns
-returns c = implication_is_reflexive
