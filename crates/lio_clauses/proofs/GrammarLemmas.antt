@@ -1,13 +1,12 @@
 -- What is read is derived, and what is derived is read.
-use Rattle.std.proofs.Common.{◌≡◌, ◌≢◌, ℕ, zero, suc, ◌+◌, ◌<◌, ◌≤◌, List, [], ◌∷◌, ◌++◌, map, length, length-append, Option, Some, None, Result, Ok, Err, refl, sym, ap, subst, ◌∙◌, arith, append_assoc}
+use Rattle.std.proofs.Common.{◌≡◌, ◌≢◌, ℕ, zero, suc, ◌<◌, ◌≤◌, List, [], ◌∷◌, ◌++◌, map, length, length-append, Option, Some, None, Result, Ok, Err, refl, sym, ap, ◌∙◌, arith, append_assoc}
 use Rattle.std.proofs.lemmas.List.{append-nil}
-use Rattle.std.specs.List.{flat_map}
 use Rattle.lio_clauses.specs.declared.text.token.Token.{Token}
 use Rattle.lio_clauses.specs.declared.text.token.Token.TheVariants as token
 use Rattle.lio_clauses.specs.declared.faults.TextFault.{TextFault}
 use Rattle.lio_clauses.specs.Token.{Tokens, At, End, place_of, count_of, symbols, after, tokens_of}
 use Rattle.lio_clauses.specs.FormulaText.{Read, Reading, ◌>>=◌, if_next, misplaced, expected, ended, name_at, repeated, listed, names_at, one_at, clause_at, formula_at, two_at, whole, written, written_two}
-use Rattle.lio_clauses.specs.Grammar.{ClauseTree, Name, Names, FormulaTree, Truth, Falsity, Clauses, name_tokens, repetition, clause_tokens, clause_value, formula_tokens, formula_value, Derives, DerivesTwo, ReadIsDerived, DerivedIsRead, ReadTwoAreDerived, DerivedTwoAreRead}
+use Rattle.lio_clauses.specs.Grammar.{ClauseTree, Name, Names, FormulaTree, Truth, Falsity, Clauses, name_tokens, repetition, clause_tokens, clause_value, formula_tokens, formula_value, ReadIsDerived, DerivedIsRead, ReadTwoAreDerived, DerivedTwoAreRead}
 use Rattle.lio_clauses.proofs.TokenLemmas.{symbols-cons, after-At, after-Some, after-symbols, after-other, count_of-symbols}
 
 -- the parts of two steps that succeed
@@ -397,22 +396,27 @@ unfolding written
 read_is_derived names text A e =
     let w = whole-sound (formula_at (tokens_of names text)) A e in
     let a = formula_at-sound (tokens_of names text) w.0 w.1 in
-    (a.0, a.2 ∙ ap (λ ts. formula_tokens a.0 ++ ts) w.3 ∙ append-nil (formula_tokens a.0), w.2 ∙ a.1)
+    record { formula = a.0; written = a.2 ∙ ap (λ ts. formula_tokens a.0 ++ ts) w.3 ∙ append-nil (formula_tokens a.0); means = w.2 ∙ a.1 }
 
 pub derived_is_read : DerivedIsRead
 unfolding written
 derived_is_read names text A d =
-    let a = formula_at-complete d.0 (tokens_of names text) [] (λ more h. cc) (d.1 ∙ sym (append-nil (formula_tokens d.0))) in
-    whole-complete (formula_at (tokens_of names text)) (formula_value d.0) a ∙ ap Ok (sym d.2)
+    let a = formula_at-complete d.formula (tokens_of names text) [] (λ more h. cc) (d.written ∙ sym (append-nil (formula_tokens d.formula))) in
+    whole-complete (formula_at (tokens_of names text)) (formula_value d.formula) a ∙ ap Ok (sym d.means)
 
 pub read_two_are_derived : ReadTwoAreDerived
 unfolding written_two
 read_two_are_derived names text both e =
     let w = whole-sound (two_at (tokens_of names text)) both e in
     let a = two_at-sound (tokens_of names text) w.0 w.1 in
-    (a.0, a.1, a.3 ∙ ap (λ ts. (formula_tokens a.0 ++ token.Over ∷ formula_tokens a.1) ++ ts) w.3 ∙ append-nil (formula_tokens a.0 ++ token.Over ∷ formula_tokens a.1), w.2 ∙ a.2)
+    record {
+      first = a.0;
+      second = a.1;
+      written = a.3 ∙ ap (λ ts. (formula_tokens a.0 ++ token.Over ∷ formula_tokens a.1) ++ ts) w.3 ∙ append-nil (formula_tokens a.0 ++ token.Over ∷ formula_tokens a.1);
+      means = w.2 ∙ a.2;
+    }
 
 pub derived_two_are_read : DerivedTwoAreRead
 unfolding written_two
 derived_two_are_read names text both d =
-    whole-complete (two_at (tokens_of names text)) (formula_value d.0, formula_value d.1) (two_at-complete d.0 d.1 (tokens_of names text) d.2) ∙ ap Ok (sym d.3)
+    whole-complete (two_at (tokens_of names text)) (formula_value d.first, formula_value d.second) (two_at-complete d.first d.second (tokens_of names text) d.written) ∙ ap Ok (sym d.means)

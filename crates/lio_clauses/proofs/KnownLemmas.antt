@@ -7,7 +7,7 @@ use Rattle.lio_clauses.specs.declared.text.token.Token.{Token}
 use Rattle.lio_clauses.specs.declared.text.token.Token.TheVariants as token
 use Rattle.lio_clauses.specs.declared.faults.TextFault.TheVariants.{Wide}
 use Rattle.lio_clauses.specs.Names.{is_letter, is_name_byte, number_of}
-use Rattle.lio_clauses.specs.Token.{At, Lexeme, name_token, name_at_front, front, tokens, tokens_of, symbols}
+use Rattle.lio_clauses.specs.Token.{At, Lexeme, name_token, name_at_front, front, tokens, symbols}
 use Rattle.lio_clauses.specs.FormulaText.{◌>>=◌, written, written_two, narrow, reading, reading_two}
 use Rattle.lio_clauses.specs.Grammar.{ClauseTree, Name, Names, FormulaTree, Truth, Falsity, Clauses, name_tokens, repetition, clause_tokens, clause_value, formula_tokens, formula_value}
 use Rattle.lio_clauses.specs.Canonical.{canonical}
@@ -135,8 +135,8 @@ unfolding reading
 reading-named names text A e =
     let p = bind-Ok (written names text) narrow A e in
     let d = read_is_derived names text p.0 p.1 in
-    let below = formula-below (length names) d.0 (subst (AreBelow (length names)) d.1 (tokens-below names 0 0 text)) in
-    narrow-named names p.0 A (subst (BelowInEach (length names)) (sym d.2) below) p.2
+    let below = formula-below (length names) d.formula (subst (AreBelow (length names)) d.written (tokens-below names 0 0 text)) in
+    narrow-named names p.0 A (subst (BelowInEach (length names)) (sym d.means) below) p.2
 
 pub reading_two-named : (names : List (List ℕ)) (text : List ℕ) (both : List (List ℕ) × List (List ℕ)) → reading_two names text ≡ Ok both → AreNamed names both.0 × AreNamed names both.1
 unfolding reading_two
@@ -145,11 +145,11 @@ reading_two-named names text both e =
     let q = bind-Ok (narrow p.0.0) (λ A. narrow p.0.1 >>= λ B. Ok (A, B)) both p.2 in
     let u = bind-Ok (narrow p.0.1) (λ B. Ok (q.0, B)) both q.2 in
     let d = read_two_are_derived names text p.0 p.1 in
-    let all = subst (AreBelow (length names)) d.2 (tokens-below names 0 0 text) in
-    let first = formula-below (length names) d.0 (below-left (length names) (formula_tokens d.0) (token.Over ∷ formula_tokens d.1) all) in
-    let second = formula-below (length names) d.1 (below-right (length names) (formula_tokens d.0) (token.Over ∷ formula_tokens d.1) all).1 in
+    let all = subst (AreBelow (length names)) d.written (tokens-below names 0 0 text) in
+    let first = formula-below (length names) d.first (below-left (length names) (formula_tokens d.first) (token.Over ∷ formula_tokens d.second) all) in
+    let second = formula-below (length names) d.second (below-right (length names) (formula_tokens d.first) (token.Over ∷ formula_tokens d.second) all).1 in
     let one : both ≡ (q.0, u.0) = let last = u.2 in cc in
     subst (λ (b : List (List ℕ) × List (List ℕ)). AreNamed names b.0 × AreNamed names b.1) (sym one) (
-      narrow-named names p.0.0 q.0 (subst (λ (b : List (List ℕ) × List (List ℕ)). BelowInEach (length names) b.0) (sym d.3) first) q.1,
-      narrow-named names p.0.1 u.0 (subst (λ (b : List (List ℕ) × List (List ℕ)). BelowInEach (length names) b.1) (sym d.3) second) u.1,
+      narrow-named names p.0.0 q.0 (subst (λ (b : List (List ℕ) × List (List ℕ)). BelowInEach (length names) b.0) (sym d.means) first) q.1,
+      narrow-named names p.0.1 u.0 (subst (λ (b : List (List ℕ) × List (List ℕ)). BelowInEach (length names) b.1) (sym d.means) second) u.1,
     )

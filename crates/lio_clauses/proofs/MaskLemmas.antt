@@ -1,5 +1,5 @@
 -- The principals of clauses as they are written, and of their masks.
-use Rattle.std.proofs.Common.{◌≡◌, ◌≢◌, ℕ, ◌<◌, ◌≤◌, ◌^◌, ◌*◌, ◌%◌, bit_or, Bool, true, false, cond, ◌&&◌, ◌⊎◌, inl, inr, List, [], ◌∷◌, map, length, Ok, Err, nat_lt, max, refl, sym, ap, subst, ◌∙◌, arith, lt-ltb, ltb-true, ltb-false}
+use Rattle.std.proofs.Common.{◌≡◌, ◌≢◌, ℕ, ◌<◌, ◌^◌, ◌*◌, ◌%◌, bit_or, Bool, true, false, cond, ◌&&◌, ◌⊎◌, inl, inr, List, [], ◌∷◌, map, length, Ok, Err, nat_lt, max, refl, sym, ap, ◌∙◌, arith, lt-ltb, ltb-true, ltb-false}
 use Rattle.std.specs.Int.{bit_at}
 use Rattle.std.proofs.Math.Nat.{mod-eq_of_lt}
 use Rattle.std.proofs.Math.Pow.{pow-lt}
@@ -17,7 +17,7 @@ use Rattle.lio_clauses.proofs.Members.{In, In-map, All-In, any_by, any_some, sam
 use Rattle.lio_clauses.proofs.ClauseBits.{principals-parts, principals-In, principals-clauses}
 use Rattle.lio_clauses.proofs.Implied.{named-parts}
 use Rattle.lio_clauses.proofs.Minimal.{IsCanonical-canonical_of, canonical-unique}
-use Rattle.lio_clauses.proofs.Forms.{Grows-sat, sat-canonical, IsCanonical-canonical, canonical-itself}
+use Rattle.lio_clauses.proofs.Forms.{Grows-sat, sat-canonical, IsCanonical-canonical}
 
 same_number : (m n : ℕ) → (m ≡ n) ⊎ (m ≢ n)
 same_number m n = grind arith

@@ -9,10 +9,10 @@ use Rattle.std.specs.Cmp.Lexicographic.{pointwise}
 use Rattle.std.proofs.lemmas.Bool.{and_parts}
 use Rattle.std.proofs.Math.Seq.{take-append_seam, drop-append_seam}
 use Rattle.lio_clauses.specs.Names.{AreNames, is_letter, is_name_byte, number_of}
-use Rattle.lio_clauses.specs.Token.{Tokens, At, Lexeme, symbols, tokens, tokens_of, front, name_at_front, name_token}
+use Rattle.lio_clauses.specs.Token.{At, Lexeme, symbols, tokens, tokens_of, front, name_at_front, name_token}
 use Rattle.lio_clauses.proofs.TokenLemmas.{tokens-token}
 use Rattle.lio_clauses.proofs.NameLemmas.{name_begins, number_of-own}
-use Rattle.lio_clauses.specs.FormulaText.{◌>>=◌, narrow, written, written_two, reading, reading_two}
+use Rattle.lio_clauses.specs.FormulaText.{◌>>=◌, narrow, reading, reading_two}
 use Rattle.lio_clauses.specs.Grammar as grammar
 use Rattle.lio_clauses.specs.Grammar.{ClauseTree, FormulaTree, name_tokens, repetition, clause_tokens, clause_value, formula_tokens, formula_value, Derives, DerivesTwo}
 use Rattle.lio_clauses.specs.Width.{IsWide}
@@ -255,21 +255,27 @@ module _ (names : List (List ℕ)) (known : AreNames names) where
   derives-printed : (A : List (List ℕ)) → IsCanonical A → AreNamed names A → Derives (symbols (tokens_of names (formula_text names A))) A
   derives-printed A canon named =
       let lexes = lex_formula A 0 [] canon named refl in
-      (tree A, ap (λ bytes. symbols (tokens_of names bytes)) (sym (append-nil (formula_text names A))) ∙ lexes.tokens_are ∙ append-nil (formula_tokens (tree A)), sym (formula_value-tree A canon))
+      record {
+        formula = tree A;
+        written = ap (λ bytes. symbols (tokens_of names bytes)) (sym (append-nil (formula_text names A))) ∙ lexes.tokens_are ∙ append-nil (formula_tokens (tree A));
+        means = sym (formula_value-tree A canon);
+      }
 
   derives_two-printed : (A B : List (List ℕ)) → IsCanonical A → IsCanonical B → AreNamed names A → AreNamed names B → DerivesTwo (symbols (tokens_of names (two_text names A B))) (A, B)
   derives_two-printed A B a b named others =
       let first = lex_formula A 0 (codes " %% " ++ (formula_text names B ++ [])) a named refl in
       let second = lex_formula B (suc (suc (suc (suc first.end)))) [] b others refl in
       let text : two_text names A B ≡ formula_text names A ++ (codes " %% " ++ (formula_text names B ++ [])) =
-      append_assoc (formula_text names A) (codes " %% ") (formula_text names B) ∙ ap (λ t. formula_text names A ++ (codes " %% " ++ t)) (sym (append-nil (formula_text names B))) in (
-        tree A,
-        tree B,
-        ap (λ bytes. symbols (tokens_of names bytes)) text ∙ first.tokens_are
+      append_assoc (formula_text names A) (codes " %% ") (formula_text names B) ∙ ap (λ t. formula_text names A ++ (codes " %% " ++ t)) (sym (append-nil (formula_text names B))) in
+      record {
+        first = tree A;
+        second = tree B;
+        written =
+            ap (λ bytes. symbols (tokens_of names bytes)) text ∙ first.tokens_are
             ∙ ap (λ ts. formula_tokens (tree A) ++ symbols ts) (tokens-Over names first.end (formula_text names B ++ []))
-            ∙ ap (λ ts. formula_tokens (tree A) ++ Over ∷ ts) (second.tokens_are ∙ append-nil (formula_tokens (tree B))),
-        ap (λ A. (A, B)) (sym (formula_value-tree A a)) ∙ ap (λ B. (formula_value (tree A), B)) (sym (formula_value-tree B b)),
-      )
+            ∙ ap (λ ts. formula_tokens (tree A) ++ Over ∷ ts) (second.tokens_are ∙ append-nil (formula_tokens (tree B)));
+        means = ap (λ A. (A, B)) (sym (formula_value-tree A a)) ∙ ap (λ B. (formula_value (tree A), B)) (sym (formula_value-tree B b));
+      }
 
 -- reading the text of a formula gives the formula
 narrow-itself : (A : List (List ℕ)) → IsCanonical A → ¬ IsWide A → narrow A ≡ Ok A

@@ -6,7 +6,7 @@ use Rattle.lio_clauses.specs.declared.text.token.Token.TheVariants.{And, Or, Ope
 use Rattle.lio_clauses.specs.declared.faults.TextFault.{TextFault}
 use Rattle.lio_clauses.specs.declared.faults.TextFault.TheVariants.{NoMemory}
 use Rattle.lio_clauses.specs.declared.text.clauses.Clauses.{Clauses}
-use Rattle.lio_clauses.specs.Token.{Tokens, place_of, count_of, after, tokens_of}
+use Rattle.lio_clauses.specs.Token.{Tokens, count_of, after, tokens_of}
 use Rattle.lio_clauses.specs.FormulaText.{Read, Reading, ◌>>=◌, narrow, written, written_two, reading, reading_two, if_next, expected, ended, whole, two_at, name_at, repeated, listed, names_at, one_at, clause_at, formula_at}
 use Rattle.lio_clauses.specs.Grammar.{name_tokens, clause_tokens, clause_value}
 use Rattle.lio_clauses.specs.Cursor.{with_value, mask_of, AreMasksOf, Gives, HasMasks, HaveMasks}
@@ -15,7 +15,7 @@ use Rattle.lio_clauses.specs.Principals.{principals}
 use Rattle.lio_clauses.proofs.TokenLemmas.{after-Some}
 use Rattle.lio_clauses.proofs.GrammarLemmas.{name_at-sound, name_tokens-some, clause_at-sound, clause_tokens-some, repeated-end, repeated-next, item-fewer}
 use Rattle.lio_clauses.proofs.MaskLemmas.{narrow-masks, pow_shift, or_nothing, or_together}
-use Rattle.lio_clauses.proofs.KnownLemmas.{reading-named, reading_two-named}
+use Rattle.lio_clauses.proofs.KnownLemmas.{reading-named}
 
 -- what a reading with other values says of the reading
 pub value_of : {A B : Type 0} (f : A → B) (r : Reading A) (value : B) (rest : Tokens) → Ok (record { value = value; rest = rest }) ≡ with_value f r

@@ -1,6 +1,6 @@
 -- What a cursor has left of a text, and the clauses that were read from it.
 use Rattle.std.specs.Prelude.{◌≡◌, ℕ, ◌^◌, List, [], ◌∷◌, map, IsTrue, Option, Some, None, Result, Ok, Err, bit_or}
-use Rattle.lio_clauses.specs.FormulaText.{Reading, Read, written, written_two}
+use Rattle.lio_clauses.specs.FormulaText.{Reading, written, written_two}
 use Rattle.lio_clauses.specs.Token.{Tokens, At, End, tokens}
 use Rattle.lio_clauses.specs.declared.text.token.Token.{Token}
 use Rattle.lio_clauses.specs.declared.faults.TextFault.{TextFault}

@@ -46,12 +46,17 @@ formula_value Falsity = [] ∷ []
 formula_value (Clauses c cs) = map clause_value (c ∷ cs)
 
 -- the tokens are those of a formula with these clauses
-abbrev pub Derives : List Token → List (List ℕ) → Type 0
-Derives tokens A = (f : FormulaTree) × (tokens ≡ formula_tokens f) × (A ≡ formula_value f)
+pub record Derives (tokens : List Token) (A : List (List ℕ)) : Type 0 where
+  pub formula : FormulaTree
+  pub written : tokens ≡ formula_tokens formula
+  pub means : A ≡ formula_value formula
 
--- formula "%%" formula
-abbrev pub DerivesTwo : List Token → List (List ℕ) × List (List ℕ) → Type 0
-DerivesTwo tokens both = (f : FormulaTree) × (g : FormulaTree) × (tokens ≡ formula_tokens f ++ token.Over ∷ formula_tokens g) × (both ≡ (formula_value f, formula_value g))
+-- the tokens are those of two formulas with these clauses: formula "%%" formula
+pub record DerivesTwo (tokens : List Token) (both : List (List ℕ) × List (List ℕ)) : Type 0 where
+  pub first : FormulaTree
+  pub second : FormulaTree
+  pub written : tokens ≡ formula_tokens first ++ token.Over ∷ formula_tokens second
+  pub means : both ≡ (formula_value first, formula_value second)
 
 -- what is read is derived, and what is derived is read
 abbrev pub ReadIsDerived : Type 0

@@ -9,7 +9,6 @@ pub fn read_is_derived()
 {}
 
 /// What is of the grammar is read.
-#[tactic(auto, using(crate::proofs::GrammarLemmas::derived_is_read))]
 pub fn derived_is_read()
     ensures { DerivedIsRead }
 {}
@@ -21,7 +20,6 @@ pub fn read_two_are_derived()
 {}
 
 /// Two formulas that are of the grammar are read.
-#[tactic(auto, using(crate::proofs::GrammarLemmas::derived_two_are_read))]
 pub fn derived_two_are_read()
     ensures { DerivedTwoAreRead }
 {}

@@ -23,7 +23,11 @@ fn read_clauses(alloc: Global, text: &[u8], names: &Names) -> Result<Clauses, Te
 }
 
 /// The clauses of the text of two formulas with `%%` between them.
-fn read_two_clauses(alloc: Global, text: &[u8], names: &Names) -> Result<(Clauses, Clauses), TextFault>
+fn read_two_clauses(
+    alloc: Global,
+    text: &[u8],
+    names: &Names,
+) -> Result<(Clauses, Clauses), TextFault>
     ensures ok { IfOk result (λ r. HaveMasks names.now text.now r.0 r.1) }
     ensures fault { IfErr result (λ fault. written_two names.now text.now ≡ Err fault) }
 {
@@ -52,7 +56,11 @@ impl Formula {
     }
 
     /// The canonical forms of a text of two formulas with `%%` between them. Wide comes only where the whole text is of the grammar.
-    pub fn read_two(alloc: Global, text: &[u8], names: &Names) -> Result<(Formula, Formula), TextFault>
+    pub fn read_two(
+        alloc: Global,
+        text: &[u8],
+        names: &Names,
+    ) -> Result<(Formula, Formula), TextFault>
         ensures ok { IfOk result (λ both. reading_two names.now text.now ≡ Ok both) }
         ensures named { IfOk result (λ both. AreNamed names.now both.0 × AreNamed names.now both.1) }
         ensures fault { IfErr result (λ fault. (fault ≡ TextFault.NoMemory) ⊎ (reading_two names.now text.now ≡ Err fault)) }

@@ -1,4 +1,4 @@
-use Rattle.std.proofs.Common.{inr, Err}
+use Rattle.std.proofs.Common.{inr}
 use Rattle.std.proofs.lemmas.Result.{err_from_is_err_and}
 use Rattle.lio_clauses.proofs.ReadLemmas.{reading-fault, reading-masks, written-Ok}
 use Rattle.lio_clauses.proofs.formula.Formula.read.Goals as goal

@@ -1,4 +1,4 @@
-use Rattle.std.proofs.Common.{inr, Err}
+use Rattle.std.proofs.Common.{inr}
 use Rattle.std.proofs.lemmas.Result.{err_from_is_err_and}
 use Rattle.lio_clauses.proofs.KnownLemmas.{reading_two-named}
 use Rattle.lio_clauses.proofs.ReadLemmas.{reading_two-fault, two-first_fault, two-second_fault, two-Ok}

@@ -1,6 +1,6 @@
 use Rattle.std.proofs.Common.{◌≡◌, ◌∙◌, sym, ap, subst, arith, codes, ◌++◌, true}
 use Rattle.lio_clauses.specs.FormulaPrint.{joined}
-use Rattle.lio_clauses.proofs.PrintLemmas.{Extends-by, Extends-after, Printed, Printed-start, Printed-out, Printed-in, names_below, names_below-start, names_below-all, known-in}
+use Rattle.lio_clauses.proofs.PrintLemmas.{Extends-after, Printed, Printed-start, Printed-out, Printed-in, names_below, names_below-start, names_below-all, known-in}
 use Rattle.lio_clauses.proofs.text.print.append_names.Goals as goal
 use Rattle.lio_clauses.proofs.text.print.append_names.Goals.{then-clause-n-eq1+in_ok-append_sign+in_ok-append, else-clause-n-eq1}
 

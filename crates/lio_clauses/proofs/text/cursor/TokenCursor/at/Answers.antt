@@ -1,6 +1,4 @@
-use Rattle.std.proofs.Common.{◌≡◌, ◌∙◌, ◌<◌, ◌≤◌, ◌+◌, sym, ap, subst, arith, length, drop, take, ℕ}
-use Rattle.std.proofs.lemmas.List.{take_all}
-use Rattle.lio_clauses.specs.Token.{At, tokens}
+use Rattle.std.proofs.Common.{◌∙◌, ◌<◌, arith, length}
 use Rattle.lio_clauses.proofs.TokenLemmas.{next-token}
 use Rattle.lio_clauses.proofs.text.cursor.TokenCursor.at.Goals as goal
 

@@ -1,6 +1,6 @@
-use Rattle.std.proofs.Common.{◌∙◌, sym, ap, subst, Err, IfOk, IfErr}
+use Rattle.std.proofs.Common.{◌∙◌, sym, ap}
 use Rattle.std.specs.Option.{option_map}
-use Rattle.lio_clauses.specs.Cursor.{left, Gives}
+use Rattle.lio_clauses.specs.Cursor.{left}
 use Rattle.lio_clauses.proofs.ReadLemmas.{formula-truth, formula-falsity, formula-conjunction}
 use Rattle.lio_clauses.proofs.text.cursor.TokenCursor.formula.Goals as goal
 

@@ -1,8 +1,8 @@
-use Rattle.std.proofs.Common.{◌∙◌, sym, ap, Err}
+use Rattle.std.proofs.Common.{◌∙◌, sym, ap}
 use Rattle.std.specs.Option.{option_map}
 use Rattle.std.proofs.lemmas.Result.{err_from_is_err_and}
-use Rattle.lio_clauses.specs.Cursor.{left, seen}
-use Rattle.lio_clauses.proofs.ReadLemmas.{names-first, names-next, names-last, names-fault_first, names-fault_next}
+use Rattle.lio_clauses.specs.Cursor.{left}
+use Rattle.lio_clauses.proofs.ReadLemmas.{names-next, names-last, names-fault_next}
 use Rattle.lio_clauses.proofs.text.cursor.TokenCursor.names.Goals as goal
 
 pub returns-in_err-number-2 : goal.returns-in_err-number-2
