@@ -7,34 +7,34 @@ use Rattle.lio_labels.specs.Flow.{flows}
 use Rattle.lio_labels.specs.Bounds.{join, meet}
 use Rattle.lio_labels.specs.IsLabel.{IsLabel, IsWide}
 use Rattle.lio_labels.specs.Laws.{LeftFlowsToJoin, RightFlowsToJoin, JoinIsLeast, MeetFlowsToLeft, MeetFlowsToRight, MeetIsGreatest, JoinIsLabel, MeetIsLabel, JoinWithAbove, MeetWithAbove}
-use Rattle.lio_labels.proofs.FlowLemmas.{flows-from, flows-secrecy, flows-integrity, flows-both_ways, flows-reflexive}
+use Rattle.lio_labels.proofs.FlowLemmas.{flows-from, flows-secrecy, flows-integrity, flows-both_ways, flow_is_reflexive}
 
-pub flows-join_left : LeftFlowsToJoin
+pub left_flows_to_join : LeftFlowsToJoin
 unfolding join
-flows-join_left a b = flows-from a (join a b) (conjunction_implies_left a.secrecy b.secrecy) (left_implies_disjunction a.integrity b.integrity)
+left_flows_to_join a b = flows-from a (join a b) (conjunction_implies_left a.secrecy b.secrecy) (left_implies_disjunction a.integrity b.integrity)
 
-pub flows-join_right : RightFlowsToJoin
+pub right_flows_to_join : RightFlowsToJoin
 unfolding join
-flows-join_right a b = flows-from b (join a b) (conjunction_implies_right a.secrecy b.secrecy) (right_implies_disjunction a.integrity b.integrity)
+right_flows_to_join a b = flows-from b (join a b) (conjunction_implies_right a.secrecy b.secrecy) (right_implies_disjunction a.integrity b.integrity)
 
-pub join-least : JoinIsLeast
+pub join_is_least : JoinIsLeast
 unfolding join
-join-least a b c h k =
+join_is_least a b c h k =
     flows-from (join a b) c
     (conjunction_is_greatest a.secrecy b.secrecy c.secrecy (flows-secrecy a c h) (flows-secrecy b c k))
     (disjunction_is_least a.integrity b.integrity c.integrity (flows-integrity a c h) (flows-integrity b c k))
 
-pub flows-meet_left : MeetFlowsToLeft
+pub meet_flows_to_left : MeetFlowsToLeft
 unfolding meet
-flows-meet_left a b = flows-from (meet a b) a (left_implies_disjunction a.secrecy b.secrecy) (conjunction_implies_left a.integrity b.integrity)
+meet_flows_to_left a b = flows-from (meet a b) a (left_implies_disjunction a.secrecy b.secrecy) (conjunction_implies_left a.integrity b.integrity)
 
-pub flows-meet_right : MeetFlowsToRight
+pub meet_flows_to_right : MeetFlowsToRight
 unfolding meet
-flows-meet_right a b = flows-from (meet a b) b (right_implies_disjunction a.secrecy b.secrecy) (conjunction_implies_right a.integrity b.integrity)
+meet_flows_to_right a b = flows-from (meet a b) b (right_implies_disjunction a.secrecy b.secrecy) (conjunction_implies_right a.integrity b.integrity)
 
-pub meet-greatest : MeetIsGreatest
+pub meet_is_greatest : MeetIsGreatest
 unfolding meet
-meet-greatest a b c h k =
+meet_is_greatest a b c h k =
     flows-from c (meet a b)
     (disjunction_is_least a.secrecy b.secrecy c.secrecy (flows-secrecy c a h) (flows-secrecy c b k))
     (conjunction_is_greatest a.integrity b.integrity c.integrity (flows-integrity c a h) (flows-integrity c b k))
@@ -56,18 +56,18 @@ meet-integrity : (a b : Label) → IsLabel a → IsLabel b → IsCanonical (meet
 unfolding meet
 meet-integrity a b la lb = conjunction_is_canonical a.integrity b.integrity la.integrity.clauses lb.integrity.clauses
 
-pub join-label : JoinIsLabel
-join-label a b la lb narrow = record { secrecy = join-secrecy a b la lb; integrity = join-integrity a b la lb; narrow = narrow }
+pub join_is_label : JoinIsLabel
+join_is_label a b la lb narrow = record { secrecy = join-secrecy a b la lb; integrity = join-integrity a b la lb; narrow = narrow }
 
-pub meet-label : MeetIsLabel
-meet-label a b la lb narrow = record { secrecy = meet-secrecy a b la lb; integrity = meet-integrity a b la lb; narrow = narrow }
+pub meet_is_label : MeetIsLabel
+meet_is_label a b la lb narrow = record { secrecy = meet-secrecy a b la lb; integrity = meet-integrity a b la lb; narrow = narrow }
 
-pub join-above : JoinWithAbove
-join-above a b la lb h =
+pub join_with_above : JoinWithAbove
+join_with_above a b la lb h =
     flows-both_ways (join a b) b (join-secrecy a b la lb) (join-integrity a b la lb) lb.secrecy lb.integrity
-    (join-least a b b h (flows-reflexive b)) (flows-join_right a b)
+    (join_is_least a b b h (flow_is_reflexive b)) (right_flows_to_join a b)
 
-pub meet-above : MeetWithAbove
-meet-above a b la lb h =
+pub meet_with_above : MeetWithAbove
+meet_with_above a b la lb h =
     flows-both_ways (meet a b) a (meet-secrecy a b la lb) (meet-integrity a b la lb) la.secrecy la.integrity
-    (flows-meet_left a b) (meet-greatest a b a (flows-reflexive a) h)
+    (meet_flows_to_left a b) (meet_is_greatest a b a (flow_is_reflexive a) h)

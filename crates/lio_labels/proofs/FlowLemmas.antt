@@ -4,8 +4,7 @@ use Rattle.std.specs.Prelude.{◌↔◌}
 use Rattle.std.proofs.lemmas.Bool.{and_parts, and_from}
 use Rattle.lio_clauses.specs.Implication.{implies}
 use Rattle.lio_clauses.specs.Canonical.{IsCanonical}
-use Rattle.lio_clauses.proofs.Implied.{implies-Implies, Implies-implies}
-use Rattle.lio_clauses.proofs.Algebra.{implication_is_reflexive, implication_is_transitive, implication_is_antisymmetric, falsity_is_least, truth_is_greatest}
+use Rattle.lio_clauses.proofs.Algebra.{implication_is_tested, implication_is_reflexive, implication_is_transitive, implication_is_antisymmetric, falsity_is_least, truth_is_greatest}
 use Rattle.lio_labels.specs.declared.label.Label.{Label}
 use Rattle.lio_labels.specs.Flow.{Flows, flows}
 use Rattle.lio_labels.specs.IsLabel.{IsLabel}
@@ -25,17 +24,17 @@ pub flows-from : (a b : Label) → IsTrue (implies b.secrecy a.secrecy) → IsTr
 unfolding flows
 flows-from a b s i = and_from (implies b.secrecy a.secrecy) (implies a.integrity b.integrity) s i
 
-pub flows-tested : FlowIsTested
-flows-tested a b = (
-  λ h. (implies-Implies b.secrecy a.secrecy (flows-secrecy a b h), implies-Implies a.integrity b.integrity (flows-integrity a b h)),
-  λ h. flows-from a b (Implies-implies b.secrecy a.secrecy h.0) (Implies-implies a.integrity b.integrity h.1),
+pub flow_is_tested : FlowIsTested
+flow_is_tested a b = (
+  λ h. ((implication_is_tested b.secrecy a.secrecy).0 (flows-secrecy a b h), (implication_is_tested a.integrity b.integrity).0 (flows-integrity a b h)),
+  λ h. flows-from a b ((implication_is_tested b.secrecy a.secrecy).1 h.0) ((implication_is_tested a.integrity b.integrity).1 h.1),
 )
 
-pub flows-reflexive : FlowIsReflexive
-flows-reflexive a = flows-from a a (implication_is_reflexive a.secrecy) (implication_is_reflexive a.integrity)
+pub flow_is_reflexive : FlowIsReflexive
+flow_is_reflexive a = flows-from a a (implication_is_reflexive a.secrecy) (implication_is_reflexive a.integrity)
 
-pub flows-transitive : FlowIsTransitive
-flows-transitive a b c h k =
+pub flow_is_transitive : FlowIsTransitive
+flow_is_transitive a b c h k =
     flows-from a c
     (implication_is_transitive c.secrecy b.secrecy a.secrecy (flows-secrecy b c k) (flows-secrecy a b h))
     (implication_is_transitive a.integrity b.integrity c.integrity (flows-integrity a b h) (flows-integrity b c k))
@@ -55,14 +54,14 @@ flows-both_ways a b sa ia sb ib h k =
     (implication_is_antisymmetric a.secrecy b.secrecy sa sb (flows-secrecy b a k) (flows-secrecy a b h))
     (implication_is_antisymmetric a.integrity b.integrity ia ib (flows-integrity a b h) (flows-integrity b a k))
 
-pub flows-antisymmetric : FlowIsAntisymmetric
-flows-antisymmetric a b la lb h k = flows-both_ways a b la.secrecy la.integrity lb.secrecy lb.integrity h k
+pub flow_is_antisymmetric : FlowIsAntisymmetric
+flow_is_antisymmetric a b la lb h k = flows-both_ways a b la.secrecy la.integrity lb.secrecy lb.integrity h k
 
-pub flows-least : LeastFlowsToAll
-flows-least a = flows-from least a (truth_is_greatest a.secrecy) (falsity_is_least a.integrity)
+pub least_flows_to_all : LeastFlowsToAll
+least_flows_to_all a = flows-from least a (truth_is_greatest a.secrecy) (falsity_is_least a.integrity)
 
-pub flows-greatest : AllFlowToGreatest
-flows-greatest a = flows-from a greatest (falsity_is_least a.secrecy) (truth_is_greatest a.integrity)
+pub all_flow_to_greatest : AllFlowToGreatest
+all_flow_to_greatest a = flows-from a greatest (falsity_is_least a.secrecy) (truth_is_greatest a.integrity)
 
 -- a test that is made of two, where the second is made only after the first
 pub after-both : (a b x y : Bool) → a ≡ true → a ≡ x → b ≡ y → b ≡ (x && y)
@@ -73,4 +72,4 @@ after-first a x y t e = t ∙ ap (λ v. v && y) (sym t ∙ e)
 
 -- what computes the test of flow tells flow
 pub flows-by : (r : Bool) (a b : Label) → r ≡ flows a b → (IsTrue r → Flows a b) × (Flows a b → IsTrue r)
-flows-by r a b e = (λ t. (flows-tested a b).0 (sym e ∙ t), λ h. e ∙ (flows-tested a b).1 h)
+flows-by r a b e = (λ t. (flow_is_tested a b).0 (sym e ∙ t), λ h. e ∙ (flow_is_tested a b).1 h)

@@ -1,8 +1,8 @@
 -- The canonical text of a label.
-use Rattle.std.specs.Prelude.{◌≡◌, ℕ, List, ◌++◌, codes, Ok}
+use Rattle.std.specs.Prelude.{◌≡◌, ℕ, List, Ok}
 use Rattle.lio_clauses.specs.Names.{AreNames}
 use Rattle.lio_clauses.specs.FormulaPrint as formula
-use Rattle.lio_clauses.specs.FormulaPrint.{formula_text}
+use Rattle.lio_clauses.specs.FormulaPrint.{two_text}
 use Rattle.lio_labels.specs.declared.label.Label.{Label}
 use Rattle.lio_labels.specs.IsLabel.{IsLabel}
 use Rattle.lio_labels.specs.Bounds.{join, meet}
@@ -14,7 +14,7 @@ AreNamed names l = formula.AreNamed names l.secrecy × formula.AreNamed names l.
 
 -- the secrecy, "%%" with a blank on each side, and the integrity
 abbrev pub label_text : List (List ℕ) → Label → List ℕ
-label_text names l = formula_text names l.secrecy ++ codes " %% " ++ formula_text names l.integrity
+label_text names l = two_text names l.secrecy l.integrity
 
 -- reading the text of a label gives the label
 abbrev pub ReadsPrinted : Type 0

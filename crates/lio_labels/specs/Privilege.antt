@@ -1,16 +1,13 @@
 -- Flow with a privilege (Disjunction Category Labels, 2011).
-use Rattle.std.specs.Prelude.{ℕ, Bool, ◌&&◌, ◌++◌, IsTrue}
-use Rattle.lio_clauses.specs.Satisfaction.{sat}
-use Rattle.lio_clauses.specs.Implication.{implies}
+use Rattle.std.specs.Prelude.{Bool, ◌&&◌, ◌++◌}
+use Rattle.lio_clauses.specs.Implication.{ImplyTogether, implies}
 use Rattle.lio_labels.specs.declared.label.Label.{Label}
 use Rattle.lio_labels.specs.declared.privilege.Priv.{Priv}
 
 -- a label flows to another with a privilege: each set of principals that satisfies the privilege and the other's secrecy satisfies its secrecy,
 -- and each that satisfies the privilege and its integrity satisfies the other's (Disjunction Category Labels, 2011)
 abbrev pub FlowsWith : Priv → Label → Label → Type 0
-FlowsWith p from to =
-    ((who : ℕ → Bool) → IsTrue (sat who p.power) → IsTrue (sat who to.secrecy) → IsTrue (sat who from.secrecy))
-    × ((who : ℕ → Bool) → IsTrue (sat who p.power) → IsTrue (sat who from.integrity) → IsTrue (sat who to.integrity))
+FlowsWith p from to = ImplyTogether p.power to.secrecy from.secrecy × ImplyTogether p.power from.integrity to.integrity
 
 -- the same as a test: the clauses of two formulas together are satisfied where both formulas are
 unfoldable pub flows_with : Priv → Label → Label → Bool

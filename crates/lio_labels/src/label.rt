@@ -85,7 +85,7 @@ impl Label {
     /// An equal label.
     pub fn copy(&self, alloc: Global) -> Result<Label, NoMemory>
         ensures ok { IfOk result (λ label. label ≡ self.now) }
-        ensures takes_no_memory { length self.now.secrecy ≤ 2 → length self.now.integrity ≤ 2 → IsOk result }
+        ensures takes_no_memory { length self.now.secrecy ≤ 1 → length self.now.integrity ≤ 1 → IsOk result }
     {
         let secrecy = self.secrecy.copy(alloc)?;
         let integrity = self.integrity.copy(alloc)?;

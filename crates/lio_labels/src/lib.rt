@@ -3,11 +3,10 @@
 #![tactic(auto)]
 
 mod equality;
-pub mod label;
+mod label;
 pub mod laws;
-mod masks;
-pub mod privilege;
-pub mod text;
+mod privilege;
+mod text;
 
 pub use label::Label;
 pub use privilege::Priv;

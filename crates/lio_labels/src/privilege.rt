@@ -2,7 +2,6 @@
 ghost use Rattle.std.specs.Prelude.{◌≡◌, ◌↔◌, ◌≤◌, length, IfOk, IsOk, IsTrue};
 
 use crate::label::Label;
-use crate::masks::both_imply;
 use lio_clauses::{Formula, NoMemory};
 use std::alloc::Global;
 
@@ -17,7 +16,7 @@ impl Priv {
     /// An equal privilege.
     pub fn copy(&self, alloc: Global) -> Result<Priv, NoMemory>
         ensures ok { IfOk result (λ privilege. privilege ≡ self.now) }
-        ensures takes_no_memory { length self.now.power ≤ 2 → IsOk result }
+        ensures takes_no_memory { length self.now.power ≤ 1 → IsOk result }
     {
         Ok(Priv {
             power: self.power.copy(alloc)?,
@@ -34,7 +33,7 @@ impl Label {
         ensures test { result ≡ flows_with p.now self.now to.now }
         ensures all_sets { IsTrue result ↔ FlowsWith p.now self.now to.now }
     {
-        both_imply(&p.power, &to.secrecy, &self.secrecy)
-            && both_imply(&p.power, &self.integrity, &to.integrity)
+        p.power.implies_with(&to.secrecy, &self.secrecy)
+            && p.power.implies_with(&self.integrity, &to.integrity)
     }
 }

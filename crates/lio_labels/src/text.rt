@@ -1,11 +1,12 @@
 //! The text of labels.
 ghost use Rattle.std.specs.Prelude.{◌≡◌, ◌⊎◌, IfOk, IfErr, Ok, Err};
-ghost use Rattle.lio_labels.specs.LabelText.{after_over, written, reading};
-ghost use Rattle.lio_clauses.specs.Cursor.{left};
-ghost use Rattle.lio_labels.specs.LabelPrint.{AreNamed, JoinIsNamed, label_text, MeetIsNamed, ReadsPrinted};
+ghost use Rattle.lio_clauses.specs.FormulaText.{written_two};
+ghost use Rattle.lio_labels.specs.LabelText.{reading};
+ghost use Rattle.lio_labels.specs.LabelPrint.{AreNamed, label_text};
 
 use crate::label::Label;
-use lio_clauses::{Names, NoMemory, TextFault, Token, TokenCursor};
+use crate::laws::label_is_canonical;
+use lio_clauses::{Formula, Names, NoMemory, TextFault};
 use std::alloc::Global;
 
 impl Label {
@@ -22,53 +23,27 @@ impl Label {
         ensures named { IfOk result (AreNamed names.now) }
         ensures fault { IfErr result (λ fault. (fault ≡ TextFault.NoMemory) ⊎ (reading names.now text.now ≡ Err fault)) }
 
-        // A text that is not of the grammar is refused without memory.
-        ensures grammar { IfErr (written names.now text.now) (λ fault. result ≡ Err fault) }
+        // A text that is not of the grammar is refused for that, also where memory is wanting.
+        ensures grammar { IfErr (written_two names.now text.now) (λ fault. result ≡ Err fault) }
     {
-        let secrecy = TokenCursor::new(names, text);
-        let integrity = past_over(secrecy.past_formula()?)?;
-        integrity.past_formula()?.end()?;
-        Ok(Label {
-            secrecy: secrecy.formula(alloc)?,
-            integrity: integrity.formula(alloc)?,
-        })
+        let (secrecy, integrity) = Formula::read_two(alloc, text, names)?;
+        Ok(Label { secrecy, integrity })
     }
 
     /// The canonical text: that of the secrecy, ` %% `, and that of the integrity.
     pub fn print(&self, alloc: Global, names: &Names) -> Result<Vec<u8>, NoMemory>
         requires { AreNamed names.now self.now }
-        ensures { IfOk result (λ text. text.items ≡ label_text names.now self.now) }
+        ensures ok { IfOk result (λ text. text.items ≡ label_text names.now self.now) }
+        // Reading the text over the same names gives the label again.
+        ensures read { IfOk result (λ text. reading names.now text.items ≡ Ok self.now) }
     {
         let mut text = Vec::new(alloc);
         self.secrecy.print_to(&mut text, names)?;
         text.extend_from_slice(b" %% ")?;
         self.integrity.print_to(&mut text, names)?;
+        // What these calls ensure is what reading the text asks for.
+        label_is_canonical(self);
+        let _ = names.len();
         Ok(text)
     }
 }
-
-/// The place after `%%`, which has to be next.
-fn past_over<'a>(cursor: TokenCursor<'a>) -> Result<TokenCursor<'a>, TextFault>
-    ensures ok { IfOk result (λ rest. after_over (left cursor.entry) ≡ Ok (left rest)) }
-    ensures fault { IfErr result (λ fault. after_over (left cursor.entry) ≡ Err fault) }
-{
-    match cursor.after(Token::Over) {
-        Some(rest) => Ok(rest),
-        None => Err(TextFault::BadText(cursor.place())),
-    }
-}
-
-/// What is printed is read as the same label, over the same names.
-pub fn printed_is_read()
-    ensures { ReadsPrinted }
-{}
-
-/// The principals of a join have names where those of both labels have.
-pub fn join_is_named()
-    ensures { JoinIsNamed }
-{}
-
-/// The principals of a meet have names where those of both labels have.
-pub fn meet_is_named()
-    ensures { MeetIsNamed }
-{}

@@ -1,5 +1,5 @@
-use Rattle.lio_labels.proofs.BoundLemmas.{join-label}
+use Rattle.lio_labels.proofs.BoundLemmas.{join_is_label}
 use Rattle.lio_labels.proofs.laws.join_is_label.Goals as goal
 
 pub returns : goal.returns
-returns c = join-label
+returns c = join_is_label

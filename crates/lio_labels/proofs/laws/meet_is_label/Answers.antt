@@ -1,5 +1,5 @@
-use Rattle.lio_labels.proofs.BoundLemmas.{meet-label}
+use Rattle.lio_labels.proofs.BoundLemmas.{meet_is_label}
 use Rattle.lio_labels.proofs.laws.meet_is_label.Goals as goal
 
 pub returns : goal.returns
-returns c = meet-label
+returns c = meet_is_label
