@@ -1,5 +1,7 @@
 -- Membership in a list by recursion, and what the list functions of std say of members.
 use Rattle.std.proofs.Common.{◌≡◌, ℕ, suc, zero, ◌<◌, Bool, true, false, cond, ◌&&◌, ◌||◌, ◌⊎◌, inl, inr, List, [], ◌∷◌, ◌++◌, map, length, get_or, refl, sym, ◌∙◌, ap, subst, arith}
+-- two facts about two tests that come to one answer
+pub use Rattle.std.specs.Cmp.{both_ways as same_tests}
 use Rattle.std.specs.List.{list_any, list_all, filter, Contains, All}
 use Rattle.std.proofs.lemmas.List.Elements.{All-contains}
 use Rattle.std.proofs.lemmas.Bool.{true≢false, and_parts, and_from, and_cases, or_cases, or_parts, or_left, or_right, cases_Bool}
@@ -101,12 +103,6 @@ pub any_none : {X : Type 0} (p : X → Bool) (xs : List X) → list_any p xs ≡
 any_none p [] a x h = absurd h
 any_none p (y ∷ xs) a x (inl e) = ap p e ∙ (or_parts (p y) (list_any p xs) a).0
 any_none p (y ∷ xs) a x (inr h) = any_none p xs (or_parts (p y) (list_any p xs) a).1 x h
-
--- two facts about two tests that come to one answer
-pub same_tests : (a b : Bool) → (a ≡ true → b ≡ true) → (b ≡ true → a ≡ true) → a ≡ b
-same_tests true b f g = sym (f refl)
-same_tests false true f g = g refl
-same_tests false false f g = refl
 
 -- `Contains` of std
 
