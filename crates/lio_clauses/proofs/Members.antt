@@ -1,7 +1,9 @@
 -- Membership in a list by recursion, and what the list functions of std say of members.
 use Rattle.std.proofs.Common.{◌≡◌, ℕ, suc, zero, ◌<◌, Bool, true, false, cond, ◌&&◌, ◌||◌, ◌⊎◌, inl, inr, List, [], ◌∷◌, ◌++◌, map, length, get_or, refl, sym, ◌∙◌, ap, subst, arith}
+-- two facts about two tests that come to one answer
+pub use Rattle.std.specs.Cmp.{both_ways as same_tests}
 use Rattle.std.specs.List.{list_any, list_all, filter, Contains, All}
-use Rattle.std.proofs.lemmas.List.Elements.{All-contains}
+use Rattle.std.proofs.lemmas.List.Elements.{All-contains, Contains-get_or}
 use Rattle.std.proofs.lemmas.Bool.{true≢false, and_parts, and_from, and_cases, or_cases, or_parts, or_left, or_right, cases_Bool}
 
 -- x is an element of the list
@@ -102,12 +104,6 @@ any_none p [] a x h = absurd h
 any_none p (y ∷ xs) a x (inl e) = ap p e ∙ (or_parts (p y) (list_any p xs) a).0
 any_none p (y ∷ xs) a x (inr h) = any_none p xs (or_parts (p y) (list_any p xs) a).1 x h
 
--- two facts about two tests that come to one answer
-pub same_tests : (a b : Bool) → (a ≡ true → b ≡ true) → (b ≡ true → a ≡ true) → a ≡ b
-same_tests true b f g = sym (f refl)
-same_tests false true f g = g refl
-same_tests false false f g = refl
-
 -- `Contains` of std
 
 pub Contains-from_In : {X : Type 0} (x : X) (xs : List X) → In x xs → Contains xs x
@@ -133,9 +129,7 @@ places-In P d (y ∷ xs) h x (inr m) = places-In P d xs (λ k l. h (suc k) (omeg
 
 -- an element at a place is a member
 pub In-place : {X : Type 0} (d : X) (xs : List X) (k : ℕ) → k < length xs → In (get_or xs k d) xs
-In-place d [] k l = absurd (omega arith)
-In-place d (y ∷ xs) zero l = inl refl
-In-place d (y ∷ xs) (suc k) l = inr (In-place d xs k (omega arith))
+In-place d xs k l = In-from_Contains (get_or xs k d) xs (Contains-get_or xs k d l)
 
 -- `All` of std
 pub All-In : {X : Type 0} (P : X → Type 0) (xs : List X) → All P xs → (x : X) → In x xs → P x

@@ -56,7 +56,8 @@ impl Formula {
 
     /// True, the formula without a clause.
     pub fn truth(_alloc: Global) -> Formula
-        ensures { result ≡ [] }
+        ensures clauses { result ≡ [] }
+        ensures sets { (who : ℕ → Bool) → IsTrue (sat who result) }
     {
         Formula {
             kept: Clauses::Truth,
@@ -66,6 +67,7 @@ impl Formula {
     /// False, the formula of the empty clause.
     pub fn falsity(_alloc: Global) -> Result<Formula, NoMemory>
         ensures ok { IfOk result (λ f. f ≡ [] ∷ []) }
+        ensures sets { IfOk result (λ f. (who : ℕ → Bool) → ¬ IsTrue (sat who f)) }
         ensures takes_no_memory { IsOk result }
     {
         Ok(Formula {
@@ -77,6 +79,7 @@ impl Formula {
     pub fn of_one(_alloc: Global, n: u32) -> Result<Formula, NoMemory>
         requires { n < 64 }
         ensures ok { IfOk result (λ f. f ≡ (n ∷ []) ∷ []) }
+        ensures sets { IfOk result (λ f. (who : ℕ → Bool) → sat who f ≡ who n) }
         ensures takes_no_memory { IsOk result }
     {
         Ok(Formula {

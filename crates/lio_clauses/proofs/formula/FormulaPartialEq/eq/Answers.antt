@@ -1,10 +1,9 @@
 use Rattle.std.proofs.Common.{◌≡◌, ◌<◌, ◌^◌, true, inl, inr, map, sym, ◌∙◌, ap}
 use Rattle.std.specs.Prelude.{nat_eq}
-use Rattle.std.specs.Cmp.Lexicographic.{pointwise, same_text, other_text}
+use Rattle.std.specs.Cmp.Lexicographic.{pointwise, pointwise_decides, bytes_decides, same_text, other_text}
 use Rattle.std.proofs.lemmas.Bool.{cases_Bool}
 use Rattle.lio_clauses.specs.Principals.{principals}
 use Rattle.lio_clauses.proofs.Members.{All-In, same_tests}
-use Rattle.lio_clauses.proofs.Answered.{same_clauses, clauses_same}
 use Rattle.lio_clauses.proofs.ClauseBits.{principals-equal}
 use Rattle.lio_clauses.proofs.formula.FormulaPartialEq.eq.Goals as goal
 
@@ -27,8 +26,8 @@ back c e =
 pub returns-clause-test : goal.returns-clause-test
 returns-clause-test c =
     same_tests c.eq.result (pointwise (pointwise nat_eq) c.args.self.now c.args.other.now)
-    (λ t. same_clauses c.args.self.now c.args.other.now (same c t))
-    (λ t. back c (clauses_same c.args.self.now c.args.other.now t))
+    (λ t. (pointwise_decides bytes_decides c.args.self.now c.args.other.now).1 (same c t))
+    (λ t. back c ((pointwise_decides bytes_decides c.args.self.now c.args.other.now).0 t))
 
 pub returns-clause-same : goal.returns-clause-same
 returns-clause-same c = (same c, back c)
