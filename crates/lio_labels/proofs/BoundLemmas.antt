@@ -1,11 +1,9 @@
 -- The join is the least label above both, and the meet the greatest below both.
-use Rattle.std.proofs.Common.{◌≡◌, ◌≢◌, ◌<◌}
-use Rattle.lio_clauses.specs.Canonical.{IsCanonical, and, or}
+use Rattle.lio_clauses.specs.Canonical.{IsCanonical}
 use Rattle.lio_clauses.proofs.Algebra.{conjunction_is_canonical, disjunction_is_canonical, conjunction_implies_left, conjunction_implies_right, conjunction_is_greatest, left_implies_disjunction, right_implies_disjunction, disjunction_is_least}
 use Rattle.lio_labels.specs.declared.label.Label.{Label}
-use Rattle.lio_labels.specs.Flow.{flows}
 use Rattle.lio_labels.specs.Bounds.{join, meet}
-use Rattle.lio_labels.specs.IsLabel.{IsLabel, IsWide}
+use Rattle.lio_labels.specs.IsLabel.{IsLabel}
 use Rattle.lio_labels.specs.Laws.{LeftFlowsToJoin, RightFlowsToJoin, JoinIsLeast, MeetFlowsToLeft, MeetFlowsToRight, MeetIsGreatest, JoinIsLabel, MeetIsLabel, JoinWithAbove, MeetWithAbove}
 use Rattle.lio_labels.proofs.FlowLemmas.{flows-from, flows-secrecy, flows-integrity, flows-both_ways, flow_is_reflexive}
 

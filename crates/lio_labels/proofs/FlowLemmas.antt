@@ -1,13 +1,11 @@
 -- Flow is a partial order on labels, with a least and a greatest one.
 use Rattle.std.proofs.Common.{◌≡◌, ℕ, Bool, true, false, ◌&&◌, List, ap, sym, ◌∙◌, IsTrue}
-use Rattle.std.specs.Prelude.{◌↔◌}
 use Rattle.std.proofs.lemmas.Bool.{and_parts, and_from}
 use Rattle.lio_clauses.specs.Implication.{implies}
 use Rattle.lio_clauses.specs.Canonical.{IsCanonical}
 use Rattle.lio_clauses.proofs.Algebra.{implication_is_tested, implication_is_reflexive, implication_is_transitive, implication_is_antisymmetric, falsity_is_least, truth_is_greatest}
 use Rattle.lio_labels.specs.declared.label.Label.{Label}
 use Rattle.lio_labels.specs.Flow.{Flows, flows}
-use Rattle.lio_labels.specs.IsLabel.{IsLabel}
 use Rattle.lio_labels.specs.Extremes.{least, greatest}
 use Rattle.lio_labels.specs.Laws.{FlowIsTested, FlowIsReflexive, FlowIsTransitive, FlowIsAntisymmetric, LeastFlowsToAll, AllFlowToGreatest}
 

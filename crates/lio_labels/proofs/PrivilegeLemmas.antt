@@ -1,5 +1,5 @@
 -- Flow with a privilege grows with the privilege, and composes with flow.
-use Rattle.std.proofs.Common.{◌≡◌, ℕ, Bool, true, ◌&&◌, List, [], ◌++◌, ap, sym, ◌∙◌, refl, IsTrue}
+use Rattle.std.proofs.Common.{◌≡◌, ℕ, Bool, List, ◌++◌, sym, ◌∙◌, refl, IsTrue}
 use Rattle.std.proofs.lemmas.Bool.{and_parts, and_from}
 use Rattle.lio_clauses.specs.Implication.{ImplyTogether, implies}
 use Rattle.lio_clauses.proofs.Implied.{together-Implies, Implies-together}

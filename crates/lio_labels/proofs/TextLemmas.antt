@@ -1,18 +1,15 @@
 -- On the text of labels: what is read is derived, what is derived is read, and what is printed is read.
-use Rattle.std.proofs.Common.{◌≡◌, ℕ, ◌≤◌, ◌<◌, Bool, true, false, cond, nat_lt, List, length, ◌++◌, codes, ◌⊎◌, inl, inr, Result, Ok, Err, le-ltb, refl, sym, ap, ◌∙◌, arith}
+use Rattle.std.proofs.Common.{◌≡◌, ℕ, Bool, true, false, cond, nat_lt, List, length, ◌⊎◌, inl, inr, Ok, Err, le-ltb, sym, ap, ◌∙◌, arith}
 use Rattle.lio_clauses.specs.declared.faults.TextFault.{TextFault}
 use Rattle.lio_clauses.specs.declared.faults.TextFault.TheVariants.{Wide, NoMemory}
 use Rattle.lio_clauses.specs.Canonical.{canonical}
 use Rattle.lio_clauses.specs.Width as formula
-use Rattle.lio_clauses.specs.Names.{AreNames}
 use Rattle.lio_clauses.specs.FormulaText.{◌>>=◌, narrow, written_two, reading_two}
-use Rattle.lio_clauses.specs.FormulaPrint.{formula_text}
 use Rattle.lio_clauses.proofs.GrammarLemmas.{bind-Ok, read_two_are_derived, derived_two_are_read}
 use Rattle.lio_clauses.proofs.PrintedLemmas.{reads_two_printed}
 use Rattle.lio_labels.specs.declared.label.Label.{Label}
-use Rattle.lio_labels.specs.IsLabel.{IsLabel}
-use Rattle.lio_labels.specs.LabelText.{label_of, canonical_label, reading, ReadIsDerived, DerivedIsRead}
-use Rattle.lio_labels.specs.LabelPrint.{AreNamed, label_text, ReadsPrinted}
+use Rattle.lio_labels.specs.LabelText.{label_of, reading, ReadIsDerived, DerivedIsRead}
+use Rattle.lio_labels.specs.LabelPrint.{label_text, ReadsPrinted}
 
 -- a label is read where its formulas are
 pub reading-Ok : (names : List (List ℕ)) (text : List ℕ) (both : List (List ℕ) × List (List ℕ)) → reading_two names text ≡ Ok both → reading names text ≡ Ok (label_of both)

@@ -1,5 +1,5 @@
 -- When the parts of a label answer Wide, so does the label.
-use Rattle.std.proofs.Common.{◌≡◌, ◌≢◌, ◌↔◌, ℕ, List, ◌⊎◌, inl, inr, refl, ap, Result, Ok, Err, is_ok}
+use Rattle.std.proofs.Common.{◌≡◌, ◌≢◌, ◌↔◌, ℕ, List, inl, inr, refl, ap, Result, Ok, Err, is_ok}
 use Rattle.std.proofs.lemmas.Bool.{true≢false}
 use Rattle.lio_clauses.specs.declared.faults.FormFault.{FormFault}
 use Rattle.lio_clauses.specs.declared.faults.FormFault.TheVariants.{Wide, NoMemory}

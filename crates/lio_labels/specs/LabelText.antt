@@ -2,9 +2,8 @@
 --   label = formula "%%" formula
 -- with the secrecy first. A text has one fault: that of the first token that may not stand where it does, and where there is none,
 -- that a formula is wide.
-use Rattle.std.specs.Prelude.{◌≡◌, ℕ, List, Result, Ok, Err}
+use Rattle.std.specs.Prelude.{◌≡◌, ℕ, List, Result, Ok}
 use Rattle.lio_clauses.specs.Canonical.{canonical}
-use Rattle.lio_clauses.specs.Width as formula
 use Rattle.lio_clauses.specs.Token.{symbols, tokens_of}
 use Rattle.lio_clauses.specs.FormulaText.{◌>>=◌, reading_two}
 use Rattle.lio_clauses.specs.Grammar.{DerivesTwo}

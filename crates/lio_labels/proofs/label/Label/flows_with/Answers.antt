@@ -1,4 +1,4 @@
-use Rattle.std.proofs.Common.{◌≡◌, ◌++◌}
+use Rattle.std.proofs.Common.{◌++◌}
 use Rattle.lio_clauses.specs.Implication.{implies}
 use Rattle.lio_labels.specs.Privilege.{flows_with}
 use Rattle.lio_labels.proofs.FlowLemmas.{after-both, after-first}

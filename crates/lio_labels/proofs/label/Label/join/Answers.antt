@@ -1,12 +1,9 @@
-use Rattle.std.proofs.Common.{◌≡◌, ◌∙◌, sym, ap, inl, inr, ◌≢◌, ◌↔◌, Ok, Err}
+use Rattle.std.proofs.Common.{inl, inr}
 use Rattle.std.proofs.lemmas.Result.{err_from_is_err_and}
-use Rattle.lio_clauses.specs.declared.faults.FormFault.{FormFault}
-use Rattle.lio_clauses.specs.Canonical.{and, or}
-use Rattle.lio_labels.specs.declared.label.Label.{Label}
 use Rattle.lio_labels.specs.Bounds.{join}
 use Rattle.lio_labels.specs.IsLabel.{IsWide}
 use Rattle.lio_labels.proofs.FlowLemmas.{same-label}
-use Rattle.lio_labels.proofs.WidthLemmas.{WideWhere, wide-part, wide-neither}
+use Rattle.lio_labels.proofs.WidthLemmas.{wide-part, wide-neither}
 use Rattle.lio_labels.proofs.label.Label.join.Goals as goal
 
 pub returns-in_err-secrecy-clause-wide : goal.returns-in_err-secrecy-clause-wide

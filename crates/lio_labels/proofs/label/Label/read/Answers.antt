@@ -1,4 +1,3 @@
-use Rattle.std.proofs.Common.{◌≡◌, ◌⊎◌, inl, inr, Err}
 use Rattle.std.proofs.lemmas.Result.{err_from_is_err_and}
 use Rattle.lio_labels.proofs.TextLemmas.{reading-Ok, reading-refused}
 use Rattle.lio_labels.proofs.label.Label.read.Goals as goal
