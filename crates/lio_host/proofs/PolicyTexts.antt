@@ -1,8 +1,7 @@
 -- What is cut out of a policy's text.
-use Rattle.std.proofs.Common.{◌≡◌, ◌≢◌, ℕ, ◌+◌, ◌-◌, ◌≤◌, List, ◌∷◌, [], ◌++◌, length, take, drop, refl, ap, ◌∙◌, sym, subst, arith, Option, Some, None, Bool, true, false, append_assoc, length-append, Bor}
+use Rattle.std.proofs.Common.{◌≡◌, ◌≢◌, ℕ, ◌≤◌, List, ◌∷◌, [], ◌++◌, length, refl, ap, ◌∙◌, sym, arith, Option, Some, None, length-append, Bor}
 use Rattle.std.specs.Option.{MatchOption}
 use Rattle.std.specs.Fmt.{decimal}
-use Rattle.std.proofs.Math.Seq.{take-append_seam}
 use Rattle.lio_host.specs.PolicyText.{IsPolicy, before_turns, after_turns}
 
 -- what follows a beginning is determined

@@ -1,9 +1,8 @@
 -- What a machine that has run by rounds shows of its journal.
-use Rattle.std.proofs.Common.{◌≡◌, ℕ, List, [], ◌++◌, length, refl, ap, ◌∙◌, sym, subst, Option, Some}
+use Rattle.std.proofs.Common.{◌≡◌, ℕ, List, [], sym, subst}
 use Rattle.lio_values.specs.declared.entry.Entry.{Entry}
 use Rattle.lio_syntax.specs.declared.script.Stmt.{Stmt}
-use Rattle.lio_rounds.specs.Step.{Configuration}
-use Rattle.lio_rounds.specs.Run.{Run, run_from, actors, IsComplete}
+use Rattle.lio_rounds.specs.Run.{IsComplete}
 use Rattle.lio_rounds.specs.Start.{start}
 use Rattle.lio_rounds.specs.MachineState.{MachineState, RunsByRounds}
 use Rattle.lio_host.specs.PolicyText.{longest}

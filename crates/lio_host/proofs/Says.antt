@@ -1,19 +1,13 @@
 -- How the answers of the steps make the answer of the call.
-use Rattle.std.proofs.Common.{◌≡◌, ℕ, ◌≤◌, List, [], refl, ap, ◌∙◌, sym, subst, arith, Option, Some, None, inl, inr}
-use Rattle.lio_values.specs.declared.entry.Entry.{Entry}
-use Rattle.lio_syntax.specs.declared.script.Stmt.{Stmt}
-use Rattle.lio_rounds.specs.ChannelBytes.{channel_bytes}
+use Rattle.std.proofs.Common.{◌≡◌, ℕ, ◌≤◌, List, sym, subst, arith, Option, Some, inl, inr}
 use Rattle.lio_outside.specs.FileMap.{FileMap}
-use Rattle.lio_outside.specs.Fetch.{IsGiven, IsMissing}
-use Rattle.lio_outside.specs.Keep.{told_with, PartlyKept}
-use Rattle.lio_outside.specs.Count.{Rose}
+use Rattle.lio_outside.specs.Fetch.{IsMissing}
 use Rattle.lio_outside.proofs.CountLemmas.{Rose-in_part, IsMissing-in_part}
 use Rattle.lio_host.specs.declared.status.HostStatus.{HostStatus}
 use Rattle.lio_host.specs.declared.status.HostStatus.TheVariants.{Done, BadWords, Missing, ReadFault, NotYet, WriteFault, NoMemory}
 use Rattle.lio_host.specs.Command.{Command, command_of}
-use Rattle.lio_host.specs.PolicyText.{out_file}
-use Rattle.lio_host.specs.Headline.{PolicyGiven, ScriptGiven, IsRunOf, Ran}
-use Rattle.lio_host.specs.Answers.{Call, NothingDone, IsRead, Refused, SaysDone, SaysWriteFault, Says}
+use Rattle.lio_host.specs.Headline.{PolicyGiven}
+use Rattle.lio_host.specs.Answers.{Call, NothingDone, Says}
 use Rattle.lio_host.specs.Steps.{FetchSays, LoadSays}
 
 -- a policy that isn't fetched

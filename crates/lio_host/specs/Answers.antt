@@ -1,5 +1,5 @@
 -- What each answer of the host says.
-use Rattle.std.specs.Prelude.{◌≡◌, ◌≢◌, ℕ, zero, List, [], Option, None, Some, Err, ◌⊎◌}
+use Rattle.std.specs.Prelude.{◌≡◌, ℕ, zero, List, [], Option, None, Some, Err, ◌⊎◌}
 use Rattle.lio_values.specs.declared.entry.Entry.{Entry}
 use Rattle.lio_syntax.specs.ScriptText.{script_of}
 use Rattle.lio_rounds.specs.ChannelBytes.{channel_bytes}

@@ -1,10 +1,14 @@
 //! Runs a script under a policy, and writes what it sends to its channel.
 #![tactic(auto)]
 
+#[cfg(test)]
+mod cases;
 mod command;
 mod host;
 mod policy;
 mod refusal;
+#[cfg(test)]
+mod rows;
 mod status;
 #[cfg(test)]
 mod tests;

@@ -4,21 +4,24 @@ ghost use Rattle.lio_outside.specs.Count.{counted};
 
 use crate::pieces::{read_up_to, write_whole};
 use crate::store::{FetchFault, KeepFault, Store};
-use std::alloc::Global;
+use std::alloc::{AllocError, Global};
 use std::fs::{OpenFile, OpenOptions, Permissions};
-use std::io::ErrorKind;
+use std::io::{ErrorKind, Write};
 use std::marker::Model;
 use std::rt::Files;
 use std::{fs, io};
+
+/// How many names are tried for a new file beside an old one.
+const NEIGHBOURS: u32 = 8;
 
 /// A store over files, whose names are paths in UTF-8. It tells nothing of what they hold, and counts
 /// a fault at each answer `Missing` and `Failed`. It is seen as that count.
 ///
 /// `Missing` is the answer for a name that isn't UTF-8 or under which there is no file; `keep` answers
 /// `Failed` for a name that isn't UTF-8. What is kept
-/// goes into a new file beside the old one, named with `.part` at the end, which then takes the name,
-/// so that a failure loses nothing. Where the name is no plain file, as a device or a link, or where
-/// that neighbour can't be made, it is written in place.
+/// goes into a new file beside the old one, named with `.part0` at the end, or with `.part1` and so on up to `.part7` where
+/// a run that was cut off left such a file, and this then takes the name, so that a failure loses nothing. Where the name is no
+/// plain file, as a device or a link, or where no such neighbour can be made, it is written in place.
 #[derive(Drop)]
 pub struct RealStore<R> {
     rt: R,
@@ -121,38 +124,75 @@ fn read_fault(error: &io::Error) -> FetchFault {
     }
 }
 
-/// Puts the bytes under the name. Memory is taken before any file is touched.
-fn keep_file<R: Files>(rt: &R, alloc: Global, name: &[u8], bytes: &[u8]) -> Result<(), KeepFault> {
-    let path = str::from_utf8(name).map_err(|_| KeepFault::Failed)?;
-    let neighbour = format!(in alloc; "{path}.part").map_err(|_| KeepFault::NoMemory)?;
-    write_file(rt, path, neighbour.as_str(), bytes).map_err(|_| KeepFault::Failed)
+/// What stands under a name.
+enum Place {
+    /// No file.
+    Free,
+    /// A plain file with these permissions, which may be written.
+    Plain(Permissions),
+    /// A device, a link or the like.
+    Other,
 }
 
-/// Writes a file whole, by way of its neighbour where that can be had.
-fn write_file<R: Files>(rt: &R, path: &str, neighbour: &str, bytes: &[u8]) -> io::Result<()> {
-    let permissions = match fs::symlink_metadata(rt, path) {
+/// Puts the bytes under the name, by way of a new file beside it where that can be had. Memory is taken before any file is
+/// touched.
+fn keep_file<R: Files>(rt: &R, alloc: Global, name: &[u8], bytes: &[u8]) -> Result<(), KeepFault> {
+    let path = str::from_utf8(name).map_err(|_| KeepFault::Failed)?;
+    let permissions = match place_of(rt, path).map_err(|_| KeepFault::Failed)? {
+        Place::Free => None,
+        Place::Plain(permissions) => Some(permissions),
+        Place::Other => return write_in_place(rt, path, bytes).map_err(|_| KeepFault::Failed),
+    };
+    match new_neighbour(rt, alloc, path).map_err(|_| KeepFault::NoMemory)? {
+        Some(neighbour) => replace(rt, path, neighbour, permissions, bytes),
+        None => write_in_place(rt, path, bytes),
+    }
+    .map_err(|_| KeepFault::Failed)
+}
+
+/// What stands under a name. It fails where a plain file may not be written.
+fn place_of<R: Files>(rt: &R, path: &str) -> io::Result<Place> {
+    match fs::symlink_metadata(rt, path) {
         Ok(data) if data.is_file() => {
             require_writable(rt, path)?;
-            Some(data.permissions())
+            Ok(Place::Plain(data.permissions()))
         }
-        Ok(_) => return write_in_place(rt, path, bytes),
-        Err(error) if error.kind() == ErrorKind::NotFound => None,
-        Err(error) => return Err(error),
-    };
-    match OpenOptions::new()
+        Ok(_) => Ok(Place::Other),
+        Err(error) if error.kind() == ErrorKind::NotFound => Ok(Place::Free),
+        Err(error) => Err(error),
+    }
+}
+
+/// A new file, and its name.
+#[derive(Drop)]
+struct Neighbour<F> {
+    file: F,
+    name: String,
+}
+
+/// Makes a new file beside a path, under the first of a few names that is free; none where it can't be made.
+fn new_neighbour<R: Files>(
+    rt: &R,
+    alloc: Global,
+    path: &str,
+) -> Result<Option<Neighbour<R::File>>, AllocError> {
+    for number in 0..NEIGHBOURS {
+        let name = format!(in alloc; "{path}.part{number}")?;
+        match create_new(rt, name.as_str()) {
+            Ok(file) => return Ok(Some(Neighbour { file, name })),
+            Err(error) if error.kind() == ErrorKind::AlreadyExists => {}
+            Err(_) => return Ok(None),
+        }
+    }
+    Ok(None)
+}
+
+/// Makes a new file, which may not be there.
+fn create_new<R: Files>(rt: &R, path: &str) -> io::Result<R::File> {
+    OpenOptions::new()
         .write(true)
         .create_new(true)
-        .open(rt, neighbour)
-    {
-        Ok(file) => {
-            let replaced = replace(rt, path, neighbour, file, permissions, bytes);
-            if replaced.is_err() {
-                let _ = fs::remove_file(rt, neighbour);
-            }
-            replaced
-        }
-        Err(_) => write_in_place(rt, path, bytes),
-    }
+        .open(rt, path)
 }
 
 /// Fails where a file may not be written.
@@ -161,20 +201,32 @@ fn require_writable<R: Files>(rt: &R, path: &str) -> io::Result<()> {
     Ok(())
 }
 
-/// Fills the neighbour and gives it the name.
+/// Fills the neighbour and gives it the name, or removes it.
 fn replace<R: Files>(
     rt: &R,
     path: &str,
-    neighbour: &str,
-    mut file: R::File,
+    neighbour: Neighbour<R::File>,
+    permissions: Option<Permissions>,
+    bytes: &[u8],
+) -> io::Result<()> {
+    let Neighbour { file, name } = neighbour;
+    let replaced = fill(file, permissions, bytes).and_then(|()| fs::rename(rt, &name, path));
+    if replaced.is_err() {
+        let _ = fs::remove_file(rt, &name);
+    }
+    replaced
+}
+
+/// Writes a new file whole, with these permissions.
+fn fill<F: OpenFile + Write + Drop>(
+    mut file: F,
     permissions: Option<Permissions>,
     bytes: &[u8],
 ) -> io::Result<()> {
     if let Some(permissions) = permissions {
         file.set_permissions(permissions)?;
     }
-    write_whole(&mut file, bytes)?;
-    fs::rename(rt, neighbour, path)
+    write_whole(&mut file, bytes)
 }
 
 /// Writes a file whole where it stands.

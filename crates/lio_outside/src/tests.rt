@@ -113,7 +113,8 @@ fn real_store_over_a_folder(rt: HostRuntime) -> Result<(), Fail> {
     let alloc = rt.alloc();
     let folder = new_folder(&rt, rt.process())?;
     let file = format!(in alloc; "{folder}/a.txt")?;
-    let part = format!(in alloc; "{file}.part")?;
+    let part = format!(in alloc; "{file}.part0")?;
+    let next_part = format!(in alloc; "{file}.part1")?;
     let (path, part_path) = (file.as_bytes(), part.as_bytes());
     let mut store = RealStore::new(&rt);
 
@@ -153,12 +154,19 @@ fn real_store_over_a_folder(rt: HostRuntime) -> Result<(), Fail> {
         Err(FetchFault::Missing),
     );
 
-    // Where the neighbour's name is taken, that file stays and the bytes are written in place.
+    // Where a neighbour's name is taken, that file stays, and another name is tried, under which nothing is left.
     fs::write(&rt, part.as_str(), "mine")?;
     check_keep(&rt, &mut store, alloc, (path, b"bye"), Ok(()));
     check_fetch(&rt, &mut store, alloc, (path, 9), Ok(b"bye"));
     check_fetch(&rt, &mut store, alloc, (part_path, 9), Ok(b"mine"));
-    assert_eq!(rt; store.fault_count(), 5);
+    check_fetch(
+        &rt,
+        &mut store,
+        alloc,
+        (next_part.as_bytes(), 9),
+        Err(FetchFault::Missing),
+    );
+    assert_eq!(rt; store.fault_count(), 6);
     fs::remove_dir_all(&rt, folder.as_str())?;
     Ok(())
 }
@@ -255,10 +263,17 @@ impl Files for FakeFiles {
     type Dir = FakeFile;
 
     fn open_file(&self, _how: &OpenOptions, path: &str) -> io::Result<FakeFile> {
-        let (left, piece, end) = match path.strip_suffix(".part").unwrap_or(path) {
-            "slow" => (5, 1, End::Nothing),
-            "broken" => (3, 2, End::Failure),
-            "busy" => (3, 2, End::Interruption),
+        let (left, piece, end) = match path {
+            "slow" | "slow.part0" | "held.part3" => (5, 1, End::Nothing),
+            "broken" | "broken.part0" => (3, 2, End::Failure),
+            "busy" | "busy.part0" => (3, 2, End::Interruption),
+            "full" => (4, 4, End::Nothing),
+            "held.part0" | "held.part1" | "held.part2" => {
+                return Err(io::Error::from(ErrorKind::AlreadyExists));
+            }
+            _ if path.starts_with("full.part") => {
+                return Err(io::Error::from(ErrorKind::AlreadyExists));
+            }
             _ => return Err(io::Error::from(ErrorKind::NotFound)),
         };
         Ok(FakeFile { left, piece, end })
@@ -325,12 +340,16 @@ fn real_store_over_failing_files(rt: HostRuntime) -> Result<(), Fail> {
     }
     assert_eq!(rt; store.fault_count(), 2);
 
-    // Short writes are joined, and a piece that writes nothing is a failure, which leaves no neighbour.
+    // Short writes are joined, and a piece that writes nothing is a failure, which leaves no neighbour. Neighbours that are there
+    // already are passed over, and where all are, or none can be made, the file is written in place.
     for (name, text, want) in [
         ("slow", "five!", Ok(())),
         ("slow", "sixth!", Err(KeepFault::Failed)),
         ("broken", "four", Err(KeepFault::Failed)),
         ("busy", "four", Err(KeepFault::Failed)),
+        ("held", "five!", Ok(())),
+        ("full", "four", Ok(())),
+        ("gone", "four", Err(KeepFault::Failed)),
     ] {
         check_keep(
             &rt,
@@ -340,7 +359,7 @@ fn real_store_over_failing_files(rt: HostRuntime) -> Result<(), Fail> {
             want,
         );
     }
-    assert_eq!(rt; (files.renamed.get(), files.removed.get()), (1, 3));
-    assert_eq!(rt; store.fault_count(), 5);
+    assert_eq!(rt; (files.renamed.get(), files.removed.get()), (2, 3));
+    assert_eq!(rt; store.fault_count(), 6);
     Ok(())
 }

@@ -1,7 +1,7 @@
 //! Journals.
 
 ghost use Rattle.std.specs.Prelude.{◌≡◌, [], IfOk};
-ghost use Rattle.lio_rounds.specs.ChannelBytes.{channel_bytes};
+ghost use Rattle.lio_rounds.specs.ChannelBytes.{channel_bytes, sent_to};
 
 use lio_clauses::NoMemory;
 use lio_values::{Act, Entry};
@@ -53,12 +53,18 @@ impl Journal {
     {
         let mut bytes = Vec::new(alloc);
         for entry in self.entries() {
-            if entry.target == Some(channel)
-                && let Act::Send(text) = &entry.act
-            {
-                bytes.extend_from_slice(text.bytes())?;
-            }
+            bytes.extend_from_slice(sent_to(channel, entry))?;
         }
         Ok(bytes)
+    }
+}
+
+/// What an entry sends to a channel.
+fn sent_to(channel: u32, entry: &Entry) -> &[u8]
+    ensures { result.now ≡ sent_to channel entry.now.target entry.now.act }
+{
+    match (entry.target, &entry.act) {
+        (Some(target), Act::Send(text)) if target == channel => text.bytes(),
+        _ => &[],
     }
 }

@@ -12,6 +12,3 @@ pub use journal::Journal;
 pub use machine::{Machine, TurnFault};
 pub use state::State;
 pub use task::{Next, Task};
-
-#[cfg(test)]
-mod tests;

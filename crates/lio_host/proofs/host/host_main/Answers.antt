@@ -1,11 +1,10 @@
-use Rattle.std.proofs.Common.{◌≡◌, ◌∙◌, sym, ap, subst, refl, Option, List, ℕ, arith}
+use Rattle.std.proofs.Common.{◌∙◌, ap, subst, Option, List, ℕ, arith}
 use Rattle.lio_rounds.specs.ChannelBytes.{channel_bytes}
 use Rattle.lio_outside.specs.FileMap.{FileMap}
 use Rattle.lio_outside.specs.Keep.{told_with, PartlyKept}
 use Rattle.lio_outside.proofs.CountLemmas.{Rose-in_part}
 use Rattle.lio_host.specs.PolicyText.{out_file}
-use Rattle.lio_host.specs.Steps.{named, OutSays}
-use Rattle.lio_host.specs.declared.host.OutFault.TheVariants as out
+use Rattle.lio_host.specs.Steps.{named}
 use Rattle.lio_host.proofs.host.host_main.Goals as goal
 
 pub returns-in-Ok-write_out-clause-says : goal.returns-in-Ok-write_out-clause-says
@@ -33,3 +32,6 @@ returns-in-Err-WriteFault-clause-bad_words g c = let some = c.in-Some.ensures in
 
 pub returns-in-Err-NoMemory-clause-bad_words : goal.returns-in-Err-NoMemory-clause-bad_words
 returns-in-Err-NoMemory-clause-bad_words g c = let some = c.in-Some.ensures in let status = c.refused-in-Err-NoMemory.ensures.status in ((λ e. absurd (cc)), (λ none. absurd (cc)))
+
+pub returns-in-Ok-write_out-clause-bad_words : goal.returns-in-Ok-write_out-clause-bad_words
+returns-in-Ok-write_out-clause-bad_words g c = let some = c.in-Some.ensures in ((λ e. absurd (cc)), (λ none. absurd (cc)))

@@ -7,8 +7,6 @@ use Rattle.lio_host.specs.PolicyText.{IsPolicy}
 use Rattle.lio_syntax.specs.ScriptText.{script_of}
 use Rattle.lio_outside.specs.FileMap.{FileMap}
 use Rattle.lio_outside.specs.Fetch.{IsGiven}
-use Rattle.lio_host.specs.Headline.{PolicyGiven, ScriptGiven}
-use Rattle.lio_host.specs.Steps.{named}
 use Rattle.lio_host.proofs.host.load.Goals as goal
 
 pub returns-in-Ok-clause-script : goal.returns-in-Ok-clause-script

@@ -1,7 +1,7 @@
-use Rattle.std.proofs.Common.{◌≡◌, ◌∙◌, ap, [], arith}
+use Rattle.std.proofs.Common.{◌∙◌, ap, [], arith}
 use Rattle.lio_rounds.specs.Step.{Configuration}
 use Rattle.lio_rounds.specs.MachineState.{MachineState}
-use Rattle.lio_host.proofs.RunOf.{run_of, at_start}
+use Rattle.lio_host.proofs.RunOf.{run_of}
 use Rattle.lio_host.proofs.host.run.Goals as goal
 
 pub new-requires : goal.new-requires

@@ -1,7 +1,7 @@
 use Rattle.std.proofs.Common.{◌++◌, None, Some}
 use Rattle.std.proofs.lemmas.Bool.Decides.{Decides-eqb}
 use Rattle.std.proofs.lemmas.Slice.Eq.{strip_prefix_is, strip_suffix_is}
-use Rattle.lio_host.proofs.PolicyTexts.{nothing_between, between_is}
+use Rattle.lio_host.proofs.PolicyTexts.{between_is}
 use Rattle.lio_host.proofs.policy.between.Goals as goal
 
 pub returns-in_err-rest : goal.returns-in_err-rest

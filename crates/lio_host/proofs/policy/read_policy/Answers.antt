@@ -1,5 +1,4 @@
-use Rattle.std.proofs.Common.{◌≡◌, ◌++◌, List, ℕ, None, Some}
-use Rattle.lio_host.specs.PolicyText.{before_turns, after_turns, IsPolicy}
+use Rattle.lio_host.specs.PolicyText.{before_turns, after_turns}
 use Rattle.lio_host.proofs.PolicyTexts.{policy_is}
 use Rattle.lio_host.proofs.policy.read_policy.Goals as goal
 

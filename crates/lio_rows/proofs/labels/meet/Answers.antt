@@ -1,0 +1,5 @@
+use Rattle.lio_rows.proofs.labels.meet.Goals as goal
+
+pub shown-requires : goal.shown-requires
+shown-requires c =
+    rw c.in_ok-meet.ensures.ok (c.meet_is_named.ensures c.args.names.now c.in_ok-one.one c.in_ok-other.other c.in_ok-one.ensures c.in_ok-other.ensures)

@@ -1,0 +1,65 @@
+//! What a command answers, and how it is written.
+
+use crate::escape::escape;
+use lio_clauses::{FormFault, NameFault, NoMemory, TextFault};
+use std::alloc::{AllocError, AllocFailed, Global};
+use std::io;
+use std::io::Write;
+use thiserror::Error;
+
+/// What a command answers where nothing refuses.
+#[derive(Debug, Drop)]
+pub enum Answer {
+    /// The text of a value.
+    Text(Vec<u8>),
+    Truth(bool),
+    Number(u32),
+}
+
+/// Why a command has no other answer.
+#[derive(Debug, Drop, Error)]
+pub enum Refusal {
+    /// The line is no command.
+    #[error("no command")]
+    NoCommand,
+    #[error("{0:?}")]
+    Name(#[from] NameFault),
+    #[error("{0:?}")]
+    Text(#[from] TextFault),
+    #[error("{0:?}")]
+    Form(#[from] FormFault),
+    #[error("NoMemory")]
+    NoMemory,
+}
+
+impl From<NoMemory> for Refusal {
+    fn from(_: NoMemory) -> Refusal {
+        Refusal::NoMemory
+    }
+}
+
+impl From<AllocError> for Refusal {
+    fn from(_: AllocError) -> Refusal {
+        Refusal::NoMemory
+    }
+}
+
+impl<T: Drop> From<AllocFailed<T>> for Refusal {
+    fn from(_: AllocFailed<T>) -> Refusal {
+        Refusal::NoMemory
+    }
+}
+
+/// Writes an answer, without a line end.
+pub fn write_answer<W: Write>(
+    alloc: Global,
+    answer: Result<Answer, Refusal>,
+    output: &mut W,
+) -> io::Result<()> {
+    match answer {
+        Ok(Answer::Text(text)) => output.write_all(escape(alloc, text.as_slice())?.as_slice()),
+        Ok(Answer::Truth(flag)) => write!(output, "{flag}"),
+        Ok(Answer::Number(number)) => write!(output, "{number}"),
+        Err(refusal) => write!(output, "{refusal}"),
+    }
+}
