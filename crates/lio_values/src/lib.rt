@@ -8,6 +8,3 @@ pub mod value;
 pub use entry::{Act, Entry, Reply};
 pub use text::Text;
 pub use value::{Content, Fault, FaultKind, Plain};
-
-#[cfg(test)]
-mod tests;
