@@ -3,8 +3,8 @@ ghost use Rattle.std.specs.Prelude.{IfOk};
 ghost use Rattle.lio_clauses.specs.FormulaPrint.{AreNamed};
 
 use crate::answer::{Answer, Refusal};
+use lio_clauses::laws::{conjunction_is_named, disjunction_is_named};
 use lio_clauses::{Formula, Names, TextFault};
-use lio_labels::text::{join_is_named, meet_is_named};
 use std::alloc::Global;
 use std::fmt::Write;
 
@@ -54,7 +54,7 @@ fn formula(alloc: Global, names: &Names, text: &[u8]) -> Result<Answer, Refusal>
 fn and(alloc: Global, names: &Names, one: &[u8], other: &[u8]) -> Result<Answer, Refusal> {
     let one = read(alloc, names, one)?;
     let other = read(alloc, names, other)?;
-    join_is_named();
+    conjunction_is_named();
     let both = one.and(alloc, &other)?;
     shown(alloc, names, &both)
 }
@@ -63,7 +63,7 @@ fn and(alloc: Global, names: &Names, one: &[u8], other: &[u8]) -> Result<Answer,
 fn or(alloc: Global, names: &Names, one: &[u8], other: &[u8]) -> Result<Answer, Refusal> {
     let one = read(alloc, names, one)?;
     let other = read(alloc, names, other)?;
-    meet_is_named();
+    disjunction_is_named();
     let either = one.or(alloc, &other)?;
     shown(alloc, names, &either)
 }

@@ -6,7 +6,7 @@ ghost use Rattle.lio_labels.specs.LabelPrint.{AreNamed};
 use crate::answer::{Answer, Refusal};
 use crate::formulas;
 use lio_clauses::{Names, TextFault};
-use lio_labels::text::{join_is_named, meet_is_named};
+use lio_labels::laws::{join_is_named, meet_is_named};
 use lio_labels::{Label, Priv};
 use std::alloc::Global;
 
