@@ -1,31 +1,14 @@
-//! What a turn does, what it is answered, and the entry that records both.
-
+//! The record of a turn.
 ghost use Rattle.std.specs.Prelude.{◌≡◌, IfOk};
 
-use crate::text::Text;
-use crate::value::Content;
-use lio_clauses::NoMemory;
+use crate::act::{Act, Reply};
+use lio_clauses::{Formula, NoMemory};
 use lio_labels::Label;
 use std::alloc::Global;
+use std::mem::size_of;
 
-/// What a task does in a turn.
-#[derive(Debug, PartialEq, Drop)]
-pub enum Act {
-    /// Sends the text to a channel.
-    Send(Text),
-    /// Ends with this content.
-    Ended(Content),
-}
-
-/// What a turn is answered.
-#[derive(Debug, PartialEq, Drop)]
-pub enum Reply {
-    Done,
-}
-
-/// One turn of one task, as a journal records it. Source: the small steps of the concurrent calculus
-/// of LIO, ICFP 2012.
-#[derive(Debug, PartialEq, Drop)]
+/// One turn of one task, as a journal records it. Source: the small steps of the concurrent calculus of LIO, ICFP 2012.
+#[derive(Debug, PartialEq, Eq, Drop)]
 pub struct Entry {
     /// How many turns came before it.
     pub ticket: u64,
@@ -39,28 +22,12 @@ pub struct Entry {
     pub reply: Reply,
 }
 
-impl Act {
-    /// An equal act.
-    pub fn copy(&self, alloc: Global) -> Result<Act, NoMemory>
-        ensures { IfOk result (λ act. act ≡ self.now) }
-    {
-        match self {
-            Act::Send(text) => Ok(Act::Send(text.copy(alloc)?)),
-            Act::Ended(content) => Ok(Act::Ended(content.copy(alloc)?)),
-        }
-    }
-}
+// An entry is made in every turn and kept in the journal, so its size and that of what stands in it are held here.
+const _: () = prove!(size_of::<Formula>() == 16);
 
-impl Reply {
-    /// An equal reply.
-    pub fn copy(&self, _alloc: Global) -> Result<Reply, NoMemory>
-        ensures { IfOk result (λ reply. reply ≡ self.now) }
-    {
-        match self {
-            Reply::Done => Ok(Reply::Done),
-        }
-    }
-}
+const _: () = prove!(size_of::<Label>() == 32);
+
+const _: () = prove!(size_of::<Entry>() <= 128);
 
 impl Entry {
     /// An equal entry.

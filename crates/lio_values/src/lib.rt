@@ -1,10 +1,24 @@
-//! Texts, plain values, faults, acts and the entries of a journal.
+//! What the calculus speaks of: texts, values, faults, acts, replies and the entries of a journal.
 #![tactic(auto)]
 
-pub mod entry;
-pub mod text;
-pub mod value;
+mod act;
+mod entry;
+mod erase;
+mod fault;
+mod held;
+pub mod laws;
+mod list;
+mod print;
+mod print_values;
+mod text;
+mod value;
 
-pub use entry::{Act, Entry, Reply};
+pub use act::{Act, Birth, Op, Reply};
+pub use entry::Entry;
+pub use fault::{Fault, FaultKind};
+pub use held::Held;
+pub use list::List;
+pub use print::{print_label, print_number, print_power, print_quoted};
+pub use print_values::{print_content, print_fault, print_labels, print_value};
 pub use text::Text;
-pub use value::{Content, Fault, FaultKind, Plain};
+pub use value::{Content, Handle, Plain, Value, Values};

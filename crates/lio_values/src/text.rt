@@ -1,15 +1,18 @@
 //! Texts: lists of bytes.
 
-ghost use Rattle.std.specs.Prelude.{◌≡◌, ◌++◌, IfOk, OnOk, OnErr};
+ghost use Rattle.std.specs.Prelude.{◌≡◌, ◌++◌, ◌↔◌, ◌≤◌, length, IfOk, IsOk, IsTrue, OnOk, OnErr, nat_eq};
+ghost use Rattle.std.specs.Cmp.{nat_eq_equiv, partial_equiv_from_equiv};
+ghost use Rattle.std.specs.Cmp.Lexicographic.{pointwise, lists_equiv};
 
 use lio_clauses::NoMemory;
+use smallvec::SmallVec;
 use std::alloc::Global;
 use std::marker::Model;
 
-/// A list of bytes.
+/// A list of bytes. One of at most 24 bytes takes no memory.
 #[derive(Debug, Drop)]
 pub struct Text {
-    bytes: Vec<u8>,
+    bytes: SmallVec<u8, 24>,
 }
 
 impl Model for Text {
@@ -23,9 +26,10 @@ impl Model for Text {
 impl Text {
     /// A text with these bytes.
     pub fn of(alloc: Global, bytes: &[u8]) -> Result<Text, NoMemory>
-        ensures { IfOk result (λ text. text ≡ bytes.now) }
+        ensures ok { IfOk result (λ text. text ≡ bytes.now) }
+        ensures takes_no_memory { length bytes.now ≤ 24 → IsOk result }
     {
-        let bytes = Vec::from_slice(alloc, bytes)?;
+        let bytes = SmallVec::from_slice(alloc, bytes)?;
         Ok(Text { bytes })
     }
 
@@ -38,7 +42,8 @@ impl Text {
 
     /// An equal text.
     pub fn copy(&self, alloc: Global) -> Result<Text, NoMemory>
-        ensures { IfOk result (λ text. text ≡ self.now) }
+        ensures ok { IfOk result (λ text. text ≡ self.now) }
+        ensures takes_no_memory { length self.now ≤ 24 → IsOk result }
     {
         Text::of(alloc, self.bytes())
     }
@@ -54,15 +59,18 @@ impl Text {
 }
 
 impl PartialEq for Text {
-    ghost use Rattle.std.specs.Prelude.{nat_eq};
-    ghost use Rattle.std.specs.Cmp.{partial_equiv_from_equiv};
-    ghost use Rattle.std.specs.Cmp.Lexicographic.{pointwise, nat_list_eq_equiv};
-
     ghost eq = { pointwise nat_eq };
 
-    ghost laws = { partial_equiv_from_equiv nat_list_eq_equiv };
+    ghost laws = { partial_equiv_from_equiv (lists_equiv nat_eq_equiv) };
 
-    fn eq(&self, other: &Text) -> bool {
+    fn eq(&self, other: &Text) -> bool
+        ensures test { result ≡ pointwise nat_eq self.now other.now }
+        ensures same { IsTrue result ↔ (self.now ≡ other.now) }
+    {
         self.bytes() == other.bytes()
     }
+}
+
+impl Eq for Text {
+    ghost laws = { lists_equiv nat_eq_equiv };
 }

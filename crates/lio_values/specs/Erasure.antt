@@ -1,0 +1,59 @@
+-- What an observer sees of values and entries: a content under a label that doesn't flow to the observer's is hidden
+-- (the erasure of the concurrent calculus of LIO, ICFP 2012).
+use Rattle.std.specs.Prelude.{List, map, Option, if◌then◌else◌}
+use Rattle.std.specs.Option.{option_map}
+use Rattle.lio_labels.specs.declared.label.Label.{Label}
+use Rattle.lio_labels.specs.Flow.{flows}
+use Rattle.lio_values.specs.declared.value.Content.{Content}
+use Rattle.lio_values.specs.declared.value.Content.TheVariants.{Hidden}
+use Rattle.lio_values.specs.declared.value.Value.{Value}
+use Rattle.lio_values.specs.declared.value.Value.TheVariants.{Bare, Sealed}
+use Rattle.lio_values.specs.declared.act.Act.{Act}
+use Rattle.lio_values.specs.declared.act.Act.TheVariants.{Step, Seal, Raise, Lower, Release, NewRef, NewVar, Fork, Spawn, Read, Write, Take, Put, Wait, Send, Ended}
+use Rattle.lio_values.specs.declared.act.Birth.{Birth}
+use Rattle.lio_values.specs.declared.act.Reply.{Reply}
+use Rattle.lio_values.specs.declared.act.Reply.TheVariants.{Done, Got, Told, Refused}
+use Rattle.lio_values.specs.declared.entry.Entry.{Entry}
+
+-- a content under a label, as the observer sees it
+unfoldable pub erase_content : Label → Label → Content → Content
+erase_content observer label content = if flows label observer then content else Hidden
+
+-- a value: the content of a sealed one is hidden where its label doesn't flow to the observer's
+abbrev pub erase_value : Label → Value → Value
+erase_value observer (Bare plain) = Bare plain
+erase_value observer (Sealed label content) = Sealed label (erase_content observer label content)
+
+-- a birth, with its arguments erased
+abbrev pub erase_birth : Label → Birth → Birth
+erase_birth observer birth = record birth { args = map (erase_value observer) birth.args }
+
+-- an act, with its values erased; the content of a release is hidden where the label that it comes to doesn't flow to the observer's
+abbrev pub erase_act : Label → Act → Act
+erase_act observer (Release source target power content) = Release source target power (erase_content observer target content)
+erase_act observer (NewRef label value) = NewRef label (erase_value observer value)
+erase_act observer (NewVar label value) = NewVar label (option_map (erase_value observer) value)
+erase_act observer (Fork birth) = Fork (erase_birth observer birth)
+erase_act observer (Spawn birth) = Spawn (erase_birth observer birth)
+erase_act observer (Write value) = Write (erase_value observer value)
+erase_act observer (Put value) = Put (erase_value observer value)
+erase_act observer Step = Step
+erase_act observer (Seal label) = Seal label
+erase_act observer (Raise op label) = Raise op label
+erase_act observer (Lower label) = Lower label
+erase_act observer Read = Read
+erase_act observer Take = Take
+erase_act observer Wait = Wait
+erase_act observer (Send text) = Send text
+erase_act observer (Ended content) = Ended content
+
+-- a reply, with its value erased
+abbrev pub erase_reply : Label → Reply → Reply
+erase_reply observer (Got value) = Got (erase_value observer value)
+erase_reply observer Done = Done
+erase_reply observer (Told content) = Told content
+erase_reply observer (Refused fault) = Refused fault
+
+-- an entry, with all its values erased
+abbrev pub erase_entry : Label → Entry → Entry
+erase_entry observer entry = record entry { act = erase_act observer entry.act; reply = erase_reply observer entry.reply }

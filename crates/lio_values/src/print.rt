@@ -1,0 +1,131 @@
+//! Printing texts, labels and plain values, as scripts and journals have them.
+ghost use Rattle.std.specs.Prelude.{◌≡◌, ◌++◌, ◌^◌, ◌<◌, List, ℕ, codes, decimal, OnOk};
+ghost use Rattle.std.specs.Fmt.{signed_decimal};
+ghost use Rattle.lio_labels.specs.LabelPrint.{AreNamed};
+ghost use Rattle.lio_values.specs.Quoted.{hex_digit, escaped, quoted};
+ghost use Rattle.lio_values.specs.PlainText.{label_in_brackets, power_text, handle_text, plain_text, IsPowerNamed, IsPlainNamed};
+
+use crate::value::{Handle, Plain};
+use itoa::Buffer;
+use lio_clauses::{Names, NoMemory};
+use lio_labels::{Label, Priv};
+
+/// Appends a number.
+pub fn print_number(out: &mut Vec<u8>, number: u64) -> Result<(), NoMemory>
+    ensures { OnOk result (out.new.items ≡ out.old.items ++ decimal number) }
+{
+    let mut buffer = Buffer::new();
+    out.extend_from_slice(buffer.format(number).as_bytes())?;
+    Ok(())
+}
+
+/// Appends a number with a sign.
+fn print_whole(out: &mut Vec<u8>, number: i64) -> Result<(), NoMemory>
+    ensures { OnOk result (out.new.items ≡ out.old.items ++ signed_decimal number) }
+{
+    let mut buffer = Buffer::new();
+    out.extend_from_slice(buffer.format(number).as_bytes())?;
+    Ok(())
+}
+
+/// A hexadecimal digit.
+fn hex_digit(digit: u8) -> u8
+    requires { digit < 16 }
+    ensures { result ≡ hex_digit digit }
+{
+    if digit < 10 {
+        digit + b'0'
+    } else {
+        digit - 10 + b'a'
+    }
+}
+
+/// Appends a byte as it stands in quotes.
+#[tactic(auto, unfolding(crate::specs::Quoted::escaped))]
+fn print_escaped(out: &mut Vec<u8>, byte: u8) -> Result<(), NoMemory>
+    ensures { OnOk result (out.new.items ≡ out.old.items ++ escaped byte) }
+{
+    match byte {
+        b'"' => out.extend_from_slice(b"\\\"")?,
+        b'\\' => out.extend_from_slice(b"\\\\")?,
+        b'\n' => out.extend_from_slice(b"\\n")?,
+        0x20..=0x7e => out.push(byte)?,
+        _ => out.extend_from_slice(&[b'\\', b'x', hex_digit(byte / 16), hex_digit(byte % 16)])?,
+    }
+    Ok(())
+}
+
+/// Appends bytes in quotes.
+pub fn print_quoted(out: &mut Vec<u8>, bytes: &[u8]) -> Result<(), NoMemory>
+    ensures { OnOk result (out.new.items ≡ out.old.items ++ quoted bytes.now) }
+{
+    out.push(b'"')?;
+    for byte in bytes {
+        print_escaped(out, *byte)?;
+    }
+    out.push(b'"')?;
+    Ok(())
+}
+
+/// Appends a label between `<` and `>`.
+pub fn print_label(out: &mut Vec<u8>, label: &Label, names: &Names) -> Result<(), NoMemory>
+    requires { AreNamed names.now label.now }
+    ensures { OnOk result (out.new.items ≡ out.old.items ++ label_in_brackets names.now label.now) }
+{
+    out.push(b'<')?;
+    label.secrecy.print_to(out, names)?;
+    out.extend_from_slice(b" %% ")?;
+    label.integrity.print_to(out, names)?;
+    out.push(b'>')?;
+    Ok(())
+}
+
+/// Appends a privilege.
+pub fn print_power(out: &mut Vec<u8>, privilege: &Priv, names: &Names) -> Result<(), NoMemory>
+    requires { IsPowerNamed names.now privilege.now }
+    ensures { OnOk result (out.new.items ≡ out.old.items ++ power_text names.now privilege.now) }
+{
+    out.extend_from_slice(b"power<")?;
+    privilege.power.print_to(out, names)?;
+    out.push(b'>')?;
+    Ok(())
+}
+
+/// Appends a handle of a kind.
+fn print_handle(
+    out: &mut Vec<u8>,
+    kind: &[u8],
+    handle: &Handle,
+    names: &Names,
+) -> Result<(), NoMemory>
+    requires { AreNamed names.now handle.now.label }
+    ensures { OnOk result (out.new.items ≡ out.old.items ++ handle_text names.now kind.now handle.now) }
+{
+    out.extend_from_slice(kind)?;
+    print_number(out, u64::from(handle.number))?;
+    print_label(out, &handle.label, names)
+}
+
+impl Plain {
+    /// Appends its text: `unit`, `true`, `-5`, `"text"`, `<label>`, `power<formula>`, `ref#3<label>` and so on.
+    /// After want of memory a part of it may stand at the end.
+    pub fn print_to(&self, out: &mut Vec<u8>, names: &Names) -> Result<(), NoMemory>
+        requires { IsPlainNamed names.now self.now }
+        ensures { OnOk result (out.new.items ≡ out.old.items ++ plain_text names.now self.now) }
+    {
+        match self {
+            Plain::Unit => out.extend_from_slice(b"unit")?,
+            Plain::Flag(true) => out.extend_from_slice(b"true")?,
+            Plain::Flag(false) => out.extend_from_slice(b"false")?,
+            Plain::Whole(number) => print_whole(out, *number)?,
+            Plain::Bytes(text) => print_quoted(out, text.bytes())?,
+            Plain::Lab(label) => print_label(out, label, names)?,
+            Plain::Power(privilege) => print_power(out, privilege, names)?,
+            Plain::RefOf(handle) => print_handle(out, b"ref#", handle, names)?,
+            Plain::VarOf(handle) => print_handle(out, b"var#", handle, names)?,
+            Plain::ResultOf(handle) => print_handle(out, b"result#", handle, names)?,
+            Plain::ChanOf(handle) => print_handle(out, b"chan#", handle, names)?,
+        }
+        Ok(())
+    }
+}
