@@ -3,11 +3,11 @@
 
 mod files;
 pub mod laws;
-pub mod mem_store;
+mod mem_store;
 mod pieces;
-pub mod real_store;
-pub mod store;
-pub mod sure_store;
+mod real_store;
+mod store;
+mod sure_store;
 
 pub use mem_store::MemStore;
 pub use real_store::RealStore;
