@@ -1,0 +1,10 @@
+//! Journals, and their text.
+#![tactic(auto)]
+
+mod channel;
+mod journal;
+mod print;
+
+pub use channel::channel_bytes;
+pub use journal::Journal;
+pub use print::{print_entry, print_journal};
