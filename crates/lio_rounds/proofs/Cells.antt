@@ -3,17 +3,15 @@ use Rattle.std.proofs.Common.{◌≡◌, ℕ, ◌<◌, List, length, get_or, ref
 use Rattle.std.specs.Vec.{with_item}
 use Rattle.std.proofs.lemmas.List.{map-set, get_or-map}
 use Rattle.lio_values.specs.declared.value.Content.{Content}
-use Rattle.lio_values.specs.declared.entry.Act.{Act}
-use Rattle.lio_values.specs.declared.entry.Act.TheVariants.{Send, Ended}
+use Rattle.lio_values.specs.declared.act.Act.{Act}
 use Rattle.lio_syntax.specs.declared.script.Stmt.{Stmt}
 use Rattle.lio_rounds.specs.declared.state.State.{State}
 use Rattle.lio_rounds.specs.declared.task.Task.{Task}
 use Rattle.lio_rounds.specs.declared.config.Holder.{Holder}
 use Rattle.lio_rounds.specs.declared.config.Config.{Config}
-use Rattle.lio_rounds.specs.Node.{served, settled, ended}
+use Rattle.lio_rounds.specs.Node.{served, settled, ended, content_ended}
 use Rattle.lio_rounds.specs.Task.{plan, gone_on}
 use Rattle.lio_rounds.specs.Step.{Cell, Configuration, blank, cell_at, with_cell, met_at, gone_on_at}
-use Rattle.lio_rounds.specs.Took.{result_of}
 use Rattle.lio_rounds.specs.StateOf.{state_of, cell_of, configuration_of}
 
 -- the cell of a holder that is there
@@ -43,11 +41,9 @@ gone_on-at script config k holder state task next act inside is does goes =
     ∙ rw (cell_at-configuration_of script config k holder inside is, does, goes) refl
 
 -- the turn that ends a task settles its job
-pub settled-some : (state : State) (act : Act) (content : Content) → result_of act ≡ Some content → ended state content ≡ settled state act
-settled-some state (Send text) content is = absurd (cc)
-settled-some state (Ended other) content is = let same : other ≡ content = cc in rw same refl
+pub settled-some : (state : State) (act : Act) (content : Content) → content_ended act ≡ Some content → ended state content ≡ settled state act
+settled-some state act content is = rw is refl
 
 -- another turn leaves it
-pub settled-none : (state : State) (act : Act) → result_of act ≡ None → state ≡ settled state act
-settled-none state (Send text) is = refl
-settled-none state (Ended content) is = absurd (cc)
+pub settled-none : (state : State) (act : Act) → content_ended act ≡ None → state ≡ settled state act
+settled-none state act is = rw is refl

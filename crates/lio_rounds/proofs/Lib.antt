@@ -5,3 +5,5 @@ pub mod Tasks
 pub mod Measure
 pub mod Rounds
 pub mod Runs
+pub mod MachineLemmas
+pub mod Moves

@@ -4,8 +4,8 @@ use Rattle.std.proofs.Math.ListN.{set}
 use Rattle.std.specs.Prelude.{sum_by}
 use Rattle.std.proofs.lemmas.List.Sums.{sum_by-set}
 use Rattle.std.proofs.lemmas.Bool.Decides.{nat_tests}
-use Rattle.lio_values.specs.declared.entry.Act.{Act}
-use Rattle.lio_values.specs.declared.value.FaultKind.TheVariants.{NoTurns}
+use Rattle.lio_values.specs.declared.act.Act.{Act}
+use Rattle.lio_values.specs.declared.fault.FaultKind.TheVariants.{NoTurns}
 use Rattle.lio_values.specs.declared.value.Content.TheVariants.{Faulted}
 use Rattle.lio_syntax.specs.declared.script.Stmt.{Stmt}
 use Rattle.lio_syntax.specs.declared.script.Stmt.TheVariants.{Send, Stop}

@@ -3,10 +3,10 @@ use Rattle.std.proofs.Common.{◌≡◌, ℕ, List, map, get_or, Bool, true, fal
 use Rattle.std.proofs.Math.ListN.{set, get_or-map}
 use Rattle.std.proofs.Math.Seq.{map-set_same}
 use Rattle.std.proofs.lemmas.List.{map-set}
-use Rattle.lio_values.specs.declared.entry.Act.{Act}
+use Rattle.lio_values.specs.declared.act.Act.{Act}
 use Rattle.lio_rounds.specs.declared.task.Next.{Next}
 use Rattle.lio_rounds.specs.declared.task.Next.TheVariants.{Over, Own, Visit}
-use Rattle.lio_values.specs.declared.entry.Reply.TheVariants.{Done}
+use Rattle.lio_values.specs.declared.act.Reply.TheVariants.{Done}
 use Rattle.lio_values.specs.declared.entry.Entry.{Entry}
 use Rattle.lio_rounds.specs.Took.{Shows, IsActOf, GoesOn}
 use Rattle.lio_rounds.specs.Node.{is_ready, served, settled}

@@ -3,8 +3,8 @@ pub mod Task
 pub mod Step
 pub mod Run
 pub mod Rounds
-pub mod ChannelBytes
 pub mod Start
 pub mod StateOf
+pub mod Invariant
 pub mod Took
 pub mod MachineState

@@ -1,9 +1,9 @@
 -- Configurations, and the small step of one task (the concurrent calculus of LIO, ICFP 2012).
 use Rattle.std.specs.Prelude.{ℕ, Bool, List, Option, Some, None, is_some, slice_set, slice_index_or, if◌then◌else◌}
 use Rattle.lio_labels.specs.declared.label.Label.{Label}
-use Rattle.lio_values.specs.declared.entry.Act.{Act}
-use Rattle.lio_values.specs.declared.entry.Reply.{Reply}
-use Rattle.lio_values.specs.declared.entry.Reply.TheVariants.{Done}
+use Rattle.lio_values.specs.declared.act.Act.{Act}
+use Rattle.lio_values.specs.declared.act.Reply.{Reply}
+use Rattle.lio_values.specs.declared.act.Reply.TheVariants.{Done}
 use Rattle.lio_values.specs.declared.entry.Entry.{Entry}
 use Rattle.lio_rounds.specs.declared.state.State.{State}
 use Rattle.lio_rounds.specs.declared.state.State.TheVariants.{Absent}

@@ -2,12 +2,12 @@
 use Rattle.std.specs.Prelude.{ℕ, ◌-◌, Bool, true, false, List, [], ◌∷◌, Option, Some, None, ◌==◌, if◌then◌else◌}
 use Rattle.lio_labels.specs.declared.label.Label.{Label}
 use Rattle.lio_values.specs.declared.value.Plain.TheVariants.{Unit as unit}
-use Rattle.lio_values.specs.declared.value.FaultKind.TheVariants.{NoTurns}
+use Rattle.lio_values.specs.declared.fault.FaultKind.TheVariants.{NoTurns}
 use Rattle.lio_values.specs.declared.value.Content.{Content}
 use Rattle.lio_values.specs.declared.value.Content.TheVariants.{Kept, Faulted}
-use Rattle.lio_values.specs.declared.entry.Act.{Act}
-use Rattle.lio_values.specs.declared.entry.Act.TheVariants.{Send as send, Ended as ended}
-use Rattle.lio_values.specs.declared.entry.Reply.TheVariants.{Done}
+use Rattle.lio_values.specs.declared.act.Act.{Act}
+use Rattle.lio_values.specs.declared.act.Act.TheVariants.{Send as send, Ended as ended}
+use Rattle.lio_values.specs.declared.act.Reply.TheVariants.{Done}
 use Rattle.lio_syntax.specs.declared.script.Stmt.{Stmt}
 use Rattle.lio_syntax.specs.declared.script.Stmt.TheVariants.{Send, Stop}
 use Rattle.lio_rounds.specs.declared.task.Next.{Next}

@@ -1,18 +1,11 @@
 -- Words for the contracts of the parts of a step.
 use Rattle.std.specs.Prelude.{◌≡◌, ℕ, false, List, [], ◌∷◌, ◌++◌, Option, None, Some}
-use Rattle.lio_values.specs.declared.value.Content.{Content}
-use Rattle.lio_values.specs.declared.entry.Act.{Act}
-use Rattle.lio_values.specs.declared.entry.Act.TheVariants.{Send, Ended}
+use Rattle.lio_values.specs.declared.act.Act.{Act}
 use Rattle.lio_values.specs.declared.entry.Entry.{Entry}
 use Rattle.lio_rounds.specs.declared.machine.TurnFault.{TurnFault}
 use Rattle.lio_rounds.specs.declared.machine.TurnFault.TheVariants.{Still, NoMemory}
 use Rattle.lio_rounds.specs.Task.{TaskState, plan, act_of}
 use Rattle.lio_rounds.specs.Step.{Configuration, Turn, step, can, gone_on_at, entry_of}
-
--- the content with which an act ends its task
-abbrev pub result_of : Act → Option Content
-result_of (Send text) = None
-result_of (Ended content) = Some content
 
 -- an act is that of a task's next turn
 abbrev pub IsActOf : Act → Option TaskState → Type 0

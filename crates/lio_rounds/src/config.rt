@@ -1,7 +1,8 @@
 //! Configurations, and one small step of them.
 
 ghost use Rattle.std.specs.Prelude.{◌≡◌, IfOk};
-ghost use Rattle.lio_rounds.specs.Took.{result_of};
+ghost use Rattle.std.specs.Option.{option_copied};
+ghost use Rattle.lio_rounds.specs.Node.{content_ended};
 
 use crate::machine::TurnFault;
 use crate::state::State;
@@ -26,6 +27,37 @@ pub struct Config {
     pub longest: u32,
 }
 
+impl Holder {
+    ghost use Rattle.std.specs.Prelude.{◌≡◌, List, IfOk};
+    ghost use Rattle.lio_syntax.specs.declared.script.Stmt.{Stmt};
+    ghost use Rattle.lio_rounds.specs.Start.{channel_cell, task_cell};
+    ghost use Rattle.lio_rounds.specs.StateOf.{cell_of};
+
+    /// A public channel that has received nothing.
+    fn channel(alloc: Global) -> Result<Holder, NoMemory>
+        ensures { IfOk result (λ holder. (script : List Stmt) → cell_of script holder ≡ channel_cell) }
+    {
+        let label = Label::public(alloc)?;
+        let received = Text::of(alloc, b"")?;
+        Ok(Holder {
+            state: State::Chan(label, received),
+            task: None,
+        })
+    }
+
+    /// The job of a public task that has `turns` turns.
+    fn job(alloc: Global, turns: u32) -> Result<Holder, NoMemory>
+        ensures { IfOk result (λ holder. (script : List Stmt) → cell_of script holder ≡ task_cell script turns) }
+    {
+        let result = Label::public(alloc)?;
+        let current = Label::public(alloc)?;
+        Ok(Holder {
+            state: State::Job(result, None),
+            task: Some(Task::new(current, 0, turns)),
+        })
+    }
+}
+
 impl Config {
     ghost use Rattle.std.specs.Prelude.{◌≡◌, List, false, vec_len, IfOk, IfErr, OnOk, OnErr, Err, option_map};
     ghost use Rattle.lio_syntax.specs.declared.script.Stmt.{Stmt};
@@ -34,24 +66,17 @@ impl Config {
     ghost use Rattle.lio_rounds.specs.Step.{can, step, cell_at, met};
     ghost use Rattle.lio_rounds.specs.Start.{start};
     ghost use Rattle.lio_rounds.specs.StateOf.{configuration_of, state_of};
-    ghost use Rattle.lio_rounds.specs.Took.{Shows, Took, Stays, result_of, IsActOf, GoesOn};
+    ghost use Rattle.lio_rounds.specs.Took.{Shows, Took, Stays, IsActOf, GoesOn};
+    ghost use Rattle.lio_rounds.specs.Node.{content_ended};
 
     /// The first configuration: a public channel with number 0, and a public task with number 1 that has `turns` turns.
     pub fn start(alloc: Global, turns: u32, longest: u32) -> Result<Config, NoMemory>
         ensures first { IfOk result (λ config. (script : List Stmt) → configuration_of script config ≡ start script turns longest) }
         ensures nodes { IfOk result (λ config. vec_len config.holders ≡ 2) }
     {
-        let channel = Holder {
-            state: State::Chan(Label::public(alloc)?, Text::of(alloc, b"")?),
-            task: None,
-        };
-        let job = Holder {
-            state: State::Job(Label::public(alloc)?, None),
-            task: Some(Task::new(Label::public(alloc)?, 0, turns)),
-        };
         let mut holders = Vec::with_capacity(alloc, 2)?;
-        holders.push(channel)?;
-        holders.push(job)?;
+        holders.push(Holder::channel(alloc)?)?;
+        holders.push(Holder::job(alloc, turns)?)?;
         Ok(Config { holders, longest })
     }
 
@@ -151,7 +176,7 @@ impl Config {
 
     /// Lets task `k` go on after its act, which gives its job this result if it ends.
     fn go_on(&mut self, script: &Script, k: u32, act: &Act, ended_with: Option<Content>)
-        requires ended_with { ended_with ≡ result_of act.now }
+        requires ended_with { ended_with ≡ content_ended act.now }
         requires act { IsActOf act.now (cell_at (configuration_of script.now self.old) k).task }
         ensures { GoesOn (configuration_of script.now self.old) (configuration_of script.now self.new) k act.now (cell_at (configuration_of script.now self.old) k).task }
     {
@@ -182,10 +207,21 @@ impl Config {
 
 /// The content with which an act ends its task.
 fn result_of(alloc: Global, act: &Act) -> Result<Option<Content>, NoMemory>
-    ensures { IfOk result (λ content. content ≡ result_of act.now) }
+    ensures { IfOk result (λ content. content ≡ content_ended act.now) }
+{
+    match content_ended(act) {
+        Some(content) => Ok(Some(content.copy(alloc)?)),
+        None => Ok(None),
+    }
+}
+
+/// The content with which an act ends its task, where it stands.
+#[tactic(auto, unfolding(crate::specs::Node::content_ended))]
+fn content_ended(act: &Act) -> Option<&Content>
+    ensures { option_copied result ≡ content_ended act.now }
 {
     match act {
-        Act::Send(_) => Ok(None),
-        Act::Ended(content) => Ok(Some(content.copy(alloc)?)),
+        Act::Ended(content) => Some(content.get()),
+        _ => None,
     }
 }

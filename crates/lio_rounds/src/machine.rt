@@ -3,8 +3,8 @@
 ghost use Rattle.std.specs.Prelude.{◌≡◌};
 
 use crate::config::Config;
-use crate::journal::Journal;
 use lio_clauses::NoMemory;
+use lio_events::Journal;
 use lio_syntax::Script;
 use lio_values::Entry;
 use std::alloc::Global;
@@ -45,13 +45,13 @@ impl Model for Machine {
     ghost use Rattle.lio_rounds.specs.MachineState.{MachineState};
     ghost use Rattle.lio_rounds.specs.StateOf.{configuration_of};
     ghost use Rattle.lio_rounds.specs.Rounds.{tasks};
+    ghost use Rattle.lio_rounds.specs.Invariant.{IsMachine};
 
     ghost Value = { MachineState };
 
     ghost view = { λ m. record { script = m.script; configuration = configuration_of m.script m.config; entries = m.entries.items } };
 
-    // The order lists the tasks, of which there are few enough to be counted in 32 bits.
-    ghost invariant = { λ m. (m.order.items ≡ tasks (configuration_of m.script m.config)) × (length m.order.items < 2 ^ 31) };
+    ghost invariant = { λ m. IsMachine (tasks (configuration_of m.script m.config)) m.order.items m.entries.items };
 }
 
 impl Machine {

@@ -1,6 +1,8 @@
 //! What a node holds.
 
 ghost use Rattle.std.specs.Prelude.{◌≡◌, OnOk, OnErr};
+ghost use Rattle.std.specs.Option.{option_copied};
+ghost use Rattle.lio_rounds.specs.Node.{text_sent};
 
 use lio_clauses::NoMemory;
 use lio_labels::Label;
@@ -18,7 +20,7 @@ pub enum State {
 }
 
 impl State {
-    ghost use Rattle.lio_rounds.specs.Node.{is_channel, served, ended};
+    ghost use Rattle.lio_rounds.specs.Node.{is_channel, received, served, ended};
 
     /// Whether it is a channel.
     pub fn is_channel(&self) -> bool
@@ -32,7 +34,18 @@ impl State {
         ensures ok { OnOk result (self.new ≡ served self.old act.now) }
         ensures err { OnErr result (self.new ≡ self.old) }
     {
-        if let (State::Chan(_, received), Act::Send(text)) = (self, act) {
+        if let Some(text) = text_sent(act) {
+            self.receive(text)?;
+        }
+        Ok(())
+    }
+
+    /// Puts a text behind what a channel has received. After a refusal it is as before.
+    fn receive(&mut self, text: &Text) -> Result<(), NoMemory>
+        ensures ok { OnOk result (self.new ≡ received self.old text.now) }
+        ensures err { OnErr result (self.new ≡ self.old) }
+    {
+        if let State::Chan(_, received) = self {
             received.append(text.bytes())?;
         }
         Ok(())
@@ -45,5 +58,16 @@ impl State {
         if let State::Job(_, result) = self {
             *result = Some(content);
         }
+    }
+}
+
+/// The text that an act sends, if it sends one.
+#[tactic(auto, unfolding(crate::specs::Node::text_sent))]
+pub(crate) fn text_sent(act: &Act) -> Option<&Text>
+    ensures { option_copied result ≡ text_sent act.now }
+{
+    match act {
+        Act::Send(text) => Some(text),
+        _ => None,
     }
 }

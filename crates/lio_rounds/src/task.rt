@@ -1,12 +1,13 @@
 //! Tasks: what the next turn does, and how the task goes on.
 
-ghost use Rattle.std.specs.Prelude.{◌≡◌};
+ghost use Rattle.std.specs.Prelude.{◌≡◌, IfOk};
 ghost use Rattle.lio_rounds.specs.Task.{ends_with};
 
+use crate::state::text_sent;
 use lio_clauses::NoMemory;
 use lio_labels::Label;
 use lio_syntax::{Script, Stmt};
-use lio_values::{Act, Content, Fault, FaultKind, Plain, Reply};
+use lio_values::{Act, Content, Fault, FaultKind, Held, Plain, Reply};
 use std::alloc::Global;
 
 /// What a task's next turn does.
@@ -92,11 +93,11 @@ impl Task {
                 kind: FaultKind::NoTurns,
                 at,
             };
-            return Ok(ends_with(Content::Faulted(fault)));
+            return ends_with(alloc, Content::Faulted(Held::new(alloc, fault)?));
         }
         match script.statements().get(place) {
             Some(Stmt::Send(text)) => Ok(Next::Visit(Act::Send(text.copy(alloc)?), self.channel)),
-            Some(Stmt::Stop) | None => Ok(ends_with(Content::Kept(Plain::Unit))),
+            Some(Stmt::Stop) | None => ends_with(alloc, Content::Kept(Plain::Unit)),
         }
     }
 
@@ -106,8 +107,8 @@ impl Task {
         ensures { state_of script.now self.new ≡ gone_on (state_of script.now self.old) (plan (state_of script.now self.old)).onward }
     {
         let end = script.statements().len();
-        self.place = match (act, self.place) {
-            (Act::Send(_), Some(place)) => {
+        self.place = match (text_sent(act), self.place) {
+            (Some(_), Some(place)) => {
                 prove!(place < end);
                 Some(place + 1)
             }
@@ -118,8 +119,9 @@ impl Task {
 }
 
 /// The turn in which a task ends with a content.
-fn ends_with(content: Content) -> Next
-    ensures { result ≡ (ends_with content).next }
+fn ends_with(alloc: Global, content: Content) -> Result<Next, NoMemory>
+    ensures { IfOk result (λ next. next ≡ (ends_with content).next) }
 {
-    Next::Own(Act::Ended(content), Reply::Done)
+    let content = Held::new(alloc, content)?;
+    Ok(Next::Own(Act::Ended(content), Reply::Done))
 }
