@@ -2,7 +2,7 @@
 use Rattle.std.specs.Prelude.{◌≡◌, ℕ, zero, List, [], Option, None, Some, Err, ◌⊎◌}
 use Rattle.lio_values.specs.declared.entry.Entry.{Entry}
 use Rattle.lio_syntax.specs.ScriptText.{script_of}
-use Rattle.lio_rounds.specs.ChannelBytes.{channel_bytes}
+use Rattle.lio_events.specs.ChannelBytes.{channel_bytes}
 use Rattle.lio_outside.specs.FileMap.{FileMap}
 use Rattle.lio_outside.specs.Fetch.{IsGiven, IsMissing}
 use Rattle.lio_outside.specs.Keep.{told_with, PartlyKept}

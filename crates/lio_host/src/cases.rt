@@ -4,7 +4,7 @@ use crate::host::host_main;
 use crate::status::HostStatus;
 use lio_labels::Label;
 use lio_outside::MemStore;
-use lio_values::{Act, Content, Entry, Fault, FaultKind, Plain, Text};
+use lio_values::{Act, Content, Entry, Fault, FaultKind, Held, Plain, Reply, Text};
 use std::alloc::{AllocError, Global};
 use std::fmt::Write;
 use std::str;
@@ -138,23 +138,31 @@ fn status_text(alloc: Global, status: &HostStatus) -> Result<String, AllocError>
 fn no_turns(alloc: Global) -> Result<Content, Fail> {
     let at = Label::public(alloc)?;
     let kind = FaultKind::NoTurns;
-    Ok(Content::Faulted(Fault { kind, at }))
+    Ok(Content::Faulted(Held::new(alloc, Fault { kind, at })?))
 }
 
 /// An act as it is shown.
 fn act_text(alloc: Global, act: &Act) -> Result<String, Fail> {
     if let Act::Send(text) = act {
         Ok(format!(in alloc; "send \"{}\"", shown(text))?)
-    } else if *act == Act::Ended(Content::Kept(Plain::Unit)) {
+    } else if *act == Act::Ended(Held::new(alloc, Content::Kept(Plain::Unit))?) {
         Ok(format!(in alloc; "ended unit")?)
-    } else if *act == Act::Ended(no_turns(alloc)?) {
+    } else if *act == Act::Ended(Held::new(alloc, no_turns(alloc)?)?) {
         Ok(format!(in alloc; "ended fault(no_turns at <PUB>)")?)
     } else {
         Ok(format!(in alloc; "another act")?)
     }
 }
 
-/// An entry of a public task as it is shown; each of today's has the reply `ok`.
+/// A reply as it is shown.
+fn reply_text(reply: &Reply) -> &str {
+    match reply {
+        Reply::Done => "ok",
+        Reply::Got(_) | Reply::Told(_) | Reply::Refused(_) => "another reply",
+    }
+}
+
+/// An entry of a public task as it is shown.
 fn append_entry(alloc: Global, text: &mut String, entry: &Entry) -> Result<(), Fail> {
     let act = act_text(alloc, &entry.act)?;
     write!(text, "{} {} ", entry.ticket, entry.actor)?;
@@ -167,7 +175,8 @@ fn append_entry(alloc: Global, text: &mut String, entry: &Entry) -> Result<(), F
     } else {
         "<another label>"
     };
-    writeln!(text, " {label} {act} : ok")?;
+    let reply = reply_text(&entry.reply);
+    writeln!(text, " {label} {act} : {reply}")?;
     Ok(())
 }
 

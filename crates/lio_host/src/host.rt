@@ -3,7 +3,7 @@
 ghost use Rattle.std.specs.Prelude.{◌≡◌, ◌≤◌, ◌↔◌, [], None, IfOk, IfErr, OnOk};
 ghost use Rattle.lio_outside.specs.Fetch.{IsGiven};
 ghost use Rattle.lio_outside.specs.Keep.{told_with};
-ghost use Rattle.lio_rounds.specs.ChannelBytes.{channel_bytes};
+ghost use Rattle.lio_events.specs.ChannelBytes.{channel_bytes};
 ghost use Rattle.lio_host.specs.Command.{command_of, bytes_of_words};
 ghost use Rattle.lio_host.specs.PolicyText.{out_file};
 ghost use Rattle.lio_host.specs.Headline.{IsRunOf, PolicyGiven, ScriptGiven};
@@ -14,8 +14,9 @@ use crate::command::{Command, read_command};
 use crate::policy::read_policy;
 use crate::status::{HostStatus, Outcome};
 use lio_clauses::NoMemory;
+use lio_events::{Journal, channel_bytes};
 use lio_outside::{FetchFault, KeepFault, Store};
-use lio_rounds::{Config, Journal, Machine};
+use lio_rounds::{Config, Machine};
 use lio_syntax::{Script, ScriptFault, read_script};
 use lio_values::Text;
 use std::alloc::Global;
@@ -118,7 +119,7 @@ fn write_out<S: Store>(alloc: Global, store: &mut S, journal: &Journal) -> Resul
     ensures err { IfErr result (OutSays (S.holds store.old) (S.holds store.new) (channel_bytes journal.now 0) (S.faults store.old) (S.faults store.new)) }
 {
     let name = Text::of(alloc, OUT_FILE)?;
-    let bytes = journal.channel_bytes(alloc, CHANNEL)?;
+    let bytes = channel_bytes(alloc, journal, CHANNEL)?;
     match store.keep(alloc, OUT_FILE, bytes.as_slice()) {
         Ok(()) => Ok(()),
         Err(KeepFault::Failed) => Err(OutFault::WriteFault(name)),

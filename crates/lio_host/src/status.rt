@@ -3,7 +3,7 @@
 ghost use Rattle.std.specs.Prelude.{◌≡◌};
 
 use lio_clauses::NoMemory;
-use lio_rounds::Journal;
+use lio_events::Journal;
 use lio_values::Text;
 
 /// How a call of the host ended.

@@ -1,5 +1,5 @@
 use Rattle.std.proofs.Common.{◌∙◌, ap, subst, Option, List, ℕ, arith}
-use Rattle.lio_rounds.specs.ChannelBytes.{channel_bytes}
+use Rattle.lio_events.specs.ChannelBytes.{channel_bytes}
 use Rattle.lio_outside.specs.FileMap.{FileMap}
 use Rattle.lio_outside.specs.Keep.{told_with, PartlyKept}
 use Rattle.lio_outside.proofs.CountLemmas.{Rose-in_part}
@@ -32,6 +32,3 @@ returns-in-Err-WriteFault-clause-bad_words g c = let some = c.in-Some.ensures in
 
 pub returns-in-Err-NoMemory-clause-bad_words : goal.returns-in-Err-NoMemory-clause-bad_words
 returns-in-Err-NoMemory-clause-bad_words g c = let some = c.in-Some.ensures in let status = c.refused-in-Err-NoMemory.ensures.status in ((λ e. absurd (cc)), (λ none. absurd (cc)))
-
-pub returns-in-Ok-write_out-clause-bad_words : goal.returns-in-Ok-write_out-clause-bad_words
-returns-in-Ok-write_out-clause-bad_words g c = let some = c.in-Some.ensures in ((λ e. absurd (cc)), (λ none. absurd (cc)))
