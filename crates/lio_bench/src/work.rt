@@ -47,7 +47,7 @@ fn formula_of(alloc: Global, clauses: u32) -> Result<Formula, FormFault>
 {
     let mut masks = Vec::new(alloc);
     for principal in 0..clauses {
-        masks.push(1 << principal).map_err(|_| FormFault::NoMemory)?;
+        masks.push(1 << principal)?;
     }
     Formula::of_clauses(alloc, masks.as_slice())
 }
@@ -82,7 +82,7 @@ impl Work {
             secrecy: formula_of(alloc, self.clauses)?,
             integrity: formula_of(alloc, self.clauses)?,
         };
-        let mut other = label.copy(alloc).map_err(|_| FormFault::NoMemory)?;
+        let mut other = label.copy(alloc)?;
         for _ in 0..self.times {
             match self.operation {
                 Operation::Flows => {
@@ -91,7 +91,7 @@ impl Work {
                     }
                 }
                 Operation::Join => other = label.join(alloc, &other)?,
-                Operation::Copy => other = other.copy(alloc).map_err(|_| FormFault::NoMemory)?,
+                Operation::Copy => other = other.copy(alloc)?,
             }
         }
         Ok(())

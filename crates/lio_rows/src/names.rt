@@ -20,3 +20,14 @@ pub fn add(alloc: Global, names: &mut Names, fields: &[Vec<u8>]) -> Result<Answe
         _ => Err(Refusal::NoCommand),
     }
 }
+
+/// `find NAME`: the number of the principal with this name, or `none`.
+pub fn find(alloc: Global, names: &Names, fields: &[Vec<u8>]) -> Result<Answer, Refusal> {
+    match fields {
+        [name] => match names.find(name.as_slice()) {
+            Some(number) => Ok(Answer::Number(number)),
+            None => Ok(Answer::Text(Vec::from_slice(alloc, b"none")?)),
+        },
+        _ => Err(Refusal::NoCommand),
+    }
+}

@@ -28,6 +28,7 @@ impl Session {
         match command.word {
             b"names" => names::begin(alloc, &mut self.names, fields),
             b"add" => names::add(alloc, &mut self.names, fields),
+            b"find" => names::find(alloc, &self.names, fields),
             word => match formulas::answer(alloc, &self.names, word, fields)? {
                 Some(answer) => Ok(answer),
                 None => labels::answer(alloc, &self.names, word, fields)?.ok_or(Refusal::NoCommand),
