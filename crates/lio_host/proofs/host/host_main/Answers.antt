@@ -32,3 +32,6 @@ returns-in-Err-WriteFault-clause-bad_words g c = let some = c.in-Some.ensures in
 
 pub returns-in-Err-NoMemory-clause-bad_words : goal.returns-in-Err-NoMemory-clause-bad_words
 returns-in-Err-NoMemory-clause-bad_words g c = let some = c.in-Some.ensures in let status = c.refused-in-Err-NoMemory.ensures.status in ((λ e. absurd (cc)), (λ none. absurd (cc)))
+
+pub returns-in-Ok-write_out-clause-bad_words : goal.returns-in-Ok-write_out-clause-bad_words
+returns-in-Ok-write_out-clause-bad_words g c = let some = c.in-Some.ensures in ((λ e. absurd (cc)), (λ none. absurd (cc)))
