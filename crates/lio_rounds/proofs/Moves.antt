@@ -3,11 +3,9 @@ use Rattle.std.proofs.Common.{◌≡◌, ℕ, Bool, true, false, List, [], ◌�
 use Rattle.std.specs.Prelude.{is_some}
 use Rattle.lio_syntax.specs.declared.script.Stmt.{Stmt}
 use Rattle.lio_syntax.specs.declared.script.Stmt.TheVariants.{Send, Stop}
-use Rattle.lio_values.specs.declared.act.Act.TheVariants.{Send as send}
 use Rattle.lio_rounds.specs.Node.{is_channel}
 use Rattle.lio_rounds.specs.Task.{TaskState, Plan, plan, plan_of, target_of}
-use Rattle.lio_rounds.specs.Step.{Configuration, cell_at, turn_by, turn_with, turn_of, can}
-use Rattle.lio_values.specs.declared.act.Reply.TheVariants.{Done}
+use Rattle.lio_rounds.specs.Step.{Configuration, cell_at, turn_by, turn_of, can}
 use Rattle.lio_rounds.proofs.Resumed.{text_sent-send}
 
 some_when : {T : Type 0} (b : Bool) (t : T) → is_some (cond b (Some t) None) ≡ b

@@ -1,5 +1,5 @@
 -- The laws of erasure.
-use Rattle.std.proofs.Common.{◌≡◌, Bool, true, false, IsTrue, List, [], ◌∷◌, map, Option, Some, None, refl, ap, sym, ◌∙◌, cond}
+use Rattle.std.proofs.Common.{◌≡◌, Bool, true, false, IsTrue, List, [], ◌∷◌, map, Option, Some, None, refl, ap, cond}
 use Rattle.std.specs.Option.{option_map}
 use Rattle.lio_labels.specs.declared.label.Label.{Label}
 use Rattle.lio_labels.specs.Flow.{flows}
@@ -13,8 +13,7 @@ use Rattle.lio_values.specs.declared.act.Act.TheVariants.{Release, NewRef, NewVa
 use Rattle.lio_values.specs.declared.act.Birth.{Birth}
 use Rattle.lio_values.specs.declared.act.Reply.{Reply}
 use Rattle.lio_values.specs.declared.act.Reply.TheVariants.{Got, Done, Told, Refused}
-use Rattle.lio_values.specs.declared.entry.Entry.{Entry}
-use Rattle.lio_values.specs.Erasure.{erase_content, erase_value, erase_birth, erase_act, erase_reply, erase_entry}
+use Rattle.lio_values.specs.Erasure.{erase_content, erase_value, erase_birth, erase_act, erase_reply}
 use Rattle.lio_values.specs.Laws.{ValueErasedTwice, ValueErasedBelow, EntryErasedTwice, EntryErasedBelow}
 
 -- hiding by one test and then by a test that implies it is hiding by the second

@@ -1,6 +1,6 @@
 -- What an observer sees of values and entries: a content under a label that doesn't flow to the observer's is hidden
 -- (the erasure of the concurrent calculus of LIO, ICFP 2012).
-use Rattle.std.specs.Prelude.{List, map, Option, if◌then◌else◌}
+use Rattle.std.specs.Prelude.{map, if◌then◌else◌}
 use Rattle.std.specs.Option.{option_map}
 use Rattle.lio_labels.specs.declared.label.Label.{Label}
 use Rattle.lio_labels.specs.Flow.{flows}

@@ -1,5 +1,5 @@
 -- The text of a plain value, as scripts and journals have it.
-use Rattle.std.specs.Prelude.{ℕ, Bool, true, false, List, ◌++◌, codes, decimal}
+use Rattle.std.specs.Prelude.{ℕ, true, false, List, ◌++◌, codes, decimal}
 use Rattle.std.specs.Fmt.{signed_decimal}
 use Rattle.lio_clauses.specs.FormulaPrint as formula
 use Rattle.lio_clauses.specs.FormulaPrint.{formula_text}
