@@ -2,6 +2,7 @@
 
 use crate::escape::escape;
 use lio_clauses::{FormFault, NameFault, NoMemory, TextFault};
+use lio_policy::PolicyFault;
 use std::alloc::{AllocError, AllocFailed, Global};
 use std::io;
 use std::io::Write;
@@ -28,8 +29,20 @@ pub enum Refusal {
     Text(#[from] TextFault),
     #[error("{0:?}")]
     Form(#[from] FormFault),
+    /// The rule that a policy breaks, and the entry.
+    #[error("BadPolicy({0}, {1})")]
+    BadPolicy(u32, u32),
     #[error("NoMemory")]
     NoMemory,
+}
+
+impl From<PolicyFault> for Refusal {
+    fn from(fault: PolicyFault) -> Refusal {
+        match fault {
+            PolicyFault::Bad { rule, entry } => Refusal::BadPolicy(rule, entry),
+            PolicyFault::NoMemory => Refusal::NoMemory,
+        }
+    }
 }
 
 impl From<NoMemory> for Refusal {

@@ -7,6 +7,7 @@ mod escape;
 mod formulas;
 mod labels;
 mod names;
+mod policies;
 mod session;
 
 use answer::write_answer;

@@ -2,7 +2,7 @@
 
 use crate::answer::{Answer, Refusal};
 use crate::command::read_command;
-use crate::{formulas, labels, names};
+use crate::{formulas, labels, names, policies};
 use lio_clauses::{Names, NoMemory};
 use std::alloc::Global;
 
@@ -29,10 +29,23 @@ impl Session {
             b"names" => names::begin(alloc, &mut self.names, fields),
             b"add" => names::add(alloc, &mut self.names, fields),
             b"find" => names::find(alloc, &self.names, fields),
-            word => match formulas::answer(alloc, &self.names, word, fields)? {
-                Some(answer) => Ok(answer),
-                None => labels::answer(alloc, &self.names, word, fields)?.ok_or(Refusal::NoCommand),
-            },
+            word => answer(alloc, &self.names, word, fields)?.ok_or(Refusal::NoCommand),
         }
     }
+}
+
+/// What a command answers that changes nothing, if the word and the number of fields are those of one.
+fn answer(
+    alloc: Global,
+    names: &Names,
+    word: &[u8],
+    fields: &[Vec<u8>],
+) -> Result<Option<Answer>, Refusal> {
+    if let Some(answer) = formulas::answer(alloc, names, word, fields)? {
+        return Ok(Some(answer));
+    }
+    if let Some(answer) = labels::answer(alloc, names, word, fields)? {
+        return Ok(Some(answer));
+    }
+    policies::answer(alloc, word, fields)
 }

@@ -1,0 +1,5 @@
+pub mod ShapeLemmas
+pub mod ConvertedLemmas
+pub mod DocumentLemmas
+pub mod FailingLemmas
+pub mod VerdictLemmas

@@ -1,0 +1,162 @@
+-- What the rules decide.
+use Rattle.std.proofs.Common.{◌≡◌, ◌∙◌, ◌⊎◌, inl, inr, ℕ, List, ◌∷◌, length, map, Option, Some, None, Result, Ok, Err, IfErr, sym, ap, subst}
+use Rattle.std.specs.List.{filter_map}
+use Rattle.serde_json.specs.Data.{Data}
+use Rattle.serde_json.specs.Find.{as_str}
+use Rattle.serde_json.specs.View.{view}
+use Rattle.serde_json.specs.declared.value.Value.{Value}
+use Rattle.lio_policy.specs.Converted.{first_failing, unmade}
+use Rattle.lio_policy.specs.Shape.{Parts, parts_of, file_of, task_of}
+use Rattle.lio_policy.specs.Rules.{Failing, entries, version_fails, names_fail, labels_fail, flow_fails, arguments_fail, limits_fail, files_fail, file_entry, task_entry, known, tasks_of, longest_of}
+use Rattle.lio_policy.specs.Verdict.{fault_at, blamed, first_fault, least, made, judged, unless_fault, shape_fails, drafted, draft_of, document_of, from_document, from_parts, from_draft, policy_of}
+use Rattle.lio_policy.specs.declared.draft.Draft.{Draft}
+use Rattle.lio_policy.specs.declared.draft.FileDraft.{FileDraft}
+use Rattle.lio_policy.specs.declared.draft.TaskDraft.{TaskDraft}
+use Rattle.lio_policy.specs.declared.fault.PolicyFault.{PolicyFault}
+use Rattle.lio_policy.specs.declared.fault.PolicyFault.TheVariants.{Bad, NoMemory}
+use Rattle.lio_policy.specs.declared.policy.Policy.{Policy}
+use Rattle.lio_policy.specs.declared.policy.FileEntry.{FileEntry}
+use Rattle.lio_policy.specs.declared.policy.TaskEntry.{TaskEntry}
+use Rattle.lio_policy.proofs.ConvertedLemmas.{unmade_of_map, filter_map_of_map}
+use Rattle.lio_policy.proofs.FailingLemmas.{Blames, HasLengths, length_unmade}
+
+-- where no entry fails, the rule blames none
+pub not_blamed : (rule : ℕ) (f : Failing) → first_failing 0 (entries f) ≡ None → blamed rule f ≡ None
+not_blamed rule f h = ap (fault_at rule) h
+
+skip : (o : Option PolicyFault) (more : List (Option PolicyFault)) → o ≡ None → first_fault (o ∷ more) ≡ first_fault more
+skip o more h = ap (λ p. first_fault (p ∷ more)) h
+
+stop : (o : Option PolicyFault) (more : List (Option PolicyFault)) (fault : PolicyFault) → o ≡ Some fault → first_fault (o ∷ more) ≡ Some fault
+stop o more fault h = ap (λ p. first_fault (p ∷ more)) h
+
+-- the values of a document, seen as their data
+pub seen_none : {Z : Type 0} (make : Data → Option Z) (k : ℕ) (vs : List Value) → first_failing k (unmade (λ v. make (view v)) vs) ≡ None → first_failing k (unmade make (map view vs)) ≡ None
+seen_none make k vs h = ap (first_failing k) (unmade_of_map make view vs) ∙ h
+
+pub seen_blames : {Z : Type 0} (make : Data → Option Z) (rule k : ℕ) (vs : List Value) (fault : PolicyFault) → Blames rule (first_failing k (unmade (λ v. make (view v)) vs)) fault → Blames rule (first_failing k (unmade make (map view vs))) fault
+seen_blames make rule k vs fault h = subst (λ fs. Blames rule (first_failing k fs) fault) (sym (unmade_of_map make view vs)) h
+
+pub seen_made : {Z : Type 0} (make : Data → Option Z) (vs : List Value) (made : List Z) → made ≡ filter_map (λ v. make (view v)) vs → made ≡ filter_map make (map view vs)
+seen_made make vs made h = h ∙ sym (filter_map_of_map make view vs)
+
+pub shape_lengths : (p : Parts) (a b c : ℕ) → a ≡ length p.principals → b ≡ length p.channels → c ≡ length p.inputs → HasLengths (shape_fails p) a b c
+shape_lengths p a b c h i j = record { principals = length_unmade as_str p.principals ∙ sym h; channels = length_unmade file_of p.channels ∙ sym i; inputs = length_unmade file_of p.inputs ∙ sym j }
+
+-- the draft of a document's parts, or the fault of its shape
+pub drafted_fault : (p : Parts) (fault : PolicyFault) → Blames 2 (first_failing 0 (entries (shape_fails p))) fault → (fault ≡ NoMemory) ⊎ (drafted p ≡ Err fault)
+drafted_fault p fault (inl e) = inl e
+drafted_fault p fault (inr e) = inr (ap (λ o. unless_fault o (Ok (draft_of p))) e)
+
+pub drafted_ok : (p : Parts) (ps : List (List ℕ)) (cs is : List FileDraft) (ts : List TaskDraft) → first_failing 0 (entries (shape_fails p)) ≡ None
+    → ps ≡ filter_map as_str p.principals → cs ≡ filter_map file_of p.channels → is ≡ filter_map file_of p.inputs → ts ≡ filter_map task_of p.tasks
+    → drafted p ≡ Ok (record { version = p.version; longest = p.longest; principals = ps; channels = cs; inputs = is; tasks = ts })
+drafted_ok p ps cs is ts none e f g h =
+    ap (λ o. unless_fault o (Ok (draft_of p))) (not_blamed 2 (shape_fails p) none)
+    ∙ sym (
+    ap (λ x. Ok (record { version = p.version; longest = p.longest; principals = x; channels = cs; inputs = is; tasks = ts })) e
+    ∙ ap (λ x. Ok (record { version = p.version; longest = p.longest; principals = filter_map as_str p.principals; channels = x; inputs = is; tasks = ts })) f
+    ∙ ap (λ x. Ok (record { version = p.version; longest = p.longest; principals = filter_map as_str p.principals; channels = filter_map file_of p.channels; inputs = x; tasks = ts })) g
+    ∙ ap (λ x. Ok (record { version = p.version; longest = p.longest; principals = filter_map as_str p.principals; channels = filter_map file_of p.channels; inputs = filter_map file_of p.inputs; tasks = x })) h
+    )
+
+-- no entry of a draft fails a rule
+abbrev pub Clean : Failing → Type 0
+Clean f = first_failing 0 (entries f) ≡ None
+
+-- the rules in their order: those before one pass, and it decides
+judge_by : (d : Draft) (fault : PolicyFault) → least d ≡ Some fault → judged d ≡ Err fault
+judge_by d fault h = ap (λ o. unless_fault o (Ok (made d))) h
+
+rests : (rule : ℕ) (f : Failing) (d : Draft) (fault : PolicyFault) → (blamed rule f ≡ Some fault → least d ≡ Some fault) → Blames rule (first_failing 0 (entries f)) fault → (fault ≡ NoMemory) ⊎ (judged d ≡ Err fault)
+rests rule f d fault then (inl e) = inl e
+rests rule f d fault then (inr e) = inr (judge_by d fault (then e))
+
+pub judged_by_version : (d : Draft) (fault : PolicyFault) → Blames 3 (first_failing 0 (entries (version_fails d))) fault → (fault ≡ NoMemory) ⊎ (judged d ≡ Err fault)
+unfolding least
+judged_by_version d fault h = rests 3 (version_fails d) d fault (λ e. stop _ _ fault e) h
+
+pub judged_by_names : (d : Draft) (fault : PolicyFault) → Clean (version_fails d) → Blames 4 (first_failing 0 (entries (names_fail d))) fault → (fault ≡ NoMemory) ⊎ (judged d ≡ Err fault)
+unfolding least
+judged_by_names d fault a h = rests 4 (names_fail d) d fault (λ e. skip _ _ (not_blamed 3 (version_fails d) a) ∙ stop _ _ fault e) h
+
+pub judged_by_labels : (d : Draft) (fault : PolicyFault) → Clean (version_fails d) → Clean (names_fail d) → Blames 5 (first_failing 0 (entries (labels_fail d))) fault → (fault ≡ NoMemory) ⊎ (judged d ≡ Err fault)
+unfolding least
+judged_by_labels d fault a b h =
+    rests 5 (labels_fail d) d fault (λ e. skip _ _ (not_blamed 3 (version_fails d) a) ∙ skip _ _ (not_blamed 4 (names_fail d) b) ∙ stop _ _ fault e) h
+
+pub judged_by_flow : (d : Draft) (fault : PolicyFault) → Clean (version_fails d) → Clean (names_fail d) → Clean (labels_fail d) → Blames 6 (first_failing 0 (entries (flow_fails d))) fault → (fault ≡ NoMemory) ⊎ (judged d ≡ Err fault)
+unfolding least
+judged_by_flow d fault a b c h =
+    rests 6 (flow_fails d) d fault
+    (λ e. skip _ _ (not_blamed 3 (version_fails d) a) ∙ skip _ _ (not_blamed 4 (names_fail d) b) ∙ skip _ _ (not_blamed 5 (labels_fail d) c) ∙ stop _ _ fault e) h
+
+pub judged_by_arguments : (d : Draft) (fault : PolicyFault) → Clean (version_fails d) → Clean (names_fail d) → Clean (labels_fail d) → Clean (flow_fails d)
+    → Blames 7 (first_failing 0 (entries (arguments_fail d))) fault → (fault ≡ NoMemory) ⊎ (judged d ≡ Err fault)
+unfolding least
+judged_by_arguments d fault a b c g h =
+    rests 7 (arguments_fail d) d fault
+    (λ e. skip _ _ (not_blamed 3 (version_fails d) a) ∙ skip _ _ (not_blamed 4 (names_fail d) b) ∙ skip _ _ (not_blamed 5 (labels_fail d) c) ∙ skip _ _ (not_blamed 6 (flow_fails d) g) ∙ stop _ _ fault e) h
+
+pub judged_by_limits : (d : Draft) (fault : PolicyFault) → Clean (version_fails d) → Clean (names_fail d) → Clean (labels_fail d) → Clean (flow_fails d) → Clean (arguments_fail d)
+    → Blames 8 (first_failing 0 (entries (limits_fail d))) fault → (fault ≡ NoMemory) ⊎ (judged d ≡ Err fault)
+unfolding least
+judged_by_limits d fault a b c g i h =
+    rests 8 (limits_fail d) d fault
+    (λ e. skip _ _ (not_blamed 3 (version_fails d) a) ∙ skip _ _ (not_blamed 4 (names_fail d) b) ∙ skip _ _ (not_blamed 5 (labels_fail d) c) ∙ skip _ _ (not_blamed 6 (flow_fails d) g)
+    ∙ skip _ _ (not_blamed 7 (arguments_fail d) i) ∙ stop _ _ fault e) h
+
+pub judged_by_files : (d : Draft) (fault : PolicyFault) → Clean (version_fails d) → Clean (names_fail d) → Clean (labels_fail d) → Clean (flow_fails d) → Clean (arguments_fail d) → Clean (limits_fail d)
+    → Blames 9 (first_failing 0 (entries (files_fail d))) fault → (fault ≡ NoMemory) ⊎ (judged d ≡ Err fault)
+unfolding least
+judged_by_files d fault a b c g i j h =
+    rests 9 (files_fail d) d fault
+    (λ e. skip _ _ (not_blamed 3 (version_fails d) a) ∙ skip _ _ (not_blamed 4 (names_fail d) b) ∙ skip _ _ (not_blamed 5 (labels_fail d) c) ∙ skip _ _ (not_blamed 6 (flow_fails d) g)
+    ∙ skip _ _ (not_blamed 7 (arguments_fail d) i) ∙ skip _ _ (not_blamed 8 (limits_fail d) j) ∙ stop _ _ fault e) h
+
+none_blamed : (d : Draft) → Clean (version_fails d) → Clean (names_fail d) → Clean (labels_fail d) → Clean (flow_fails d) → Clean (arguments_fail d) → Clean (limits_fail d) → Clean (files_fail d) → least d ≡ None
+unfolding least
+none_blamed d a b c g i j k =
+    skip _ _ (not_blamed 3 (version_fails d) a) ∙ skip _ _ (not_blamed 4 (names_fail d) b) ∙ skip _ _ (not_blamed 5 (labels_fail d) c) ∙ skip _ _ (not_blamed 6 (flow_fails d) g)
+    ∙ skip _ _ (not_blamed 7 (arguments_fail d) i) ∙ skip _ _ (not_blamed 8 (limits_fail d) j) ∙ skip _ _ (not_blamed 9 (files_fail d) k)
+
+-- where all pass, the draft makes its policy
+pub judged_ok : (d : Draft) → Clean (version_fails d) → Clean (names_fail d) → Clean (labels_fail d) → Clean (flow_fails d) → Clean (arguments_fail d) → Clean (limits_fail d) → Clean (files_fail d) → judged d ≡ Ok (made d)
+judged_ok d a b c g i j k = ap (λ o. unless_fault o (Ok (made d))) (none_blamed d a b c g i j k)
+
+abbrev pub Made : Result Policy PolicyFault → Result Policy PolicyFault → Type 0
+Made r s = r ≡ s
+
+pub made_is : (d : Draft) (longest : ℕ) (names : List (List ℕ)) (channels inputs : List FileEntry) (tasks : List TaskEntry) → longest ≡ longest_of d → names ≡ d.principals
+    → channels ≡ filter_map (file_entry d.principals) d.channels → inputs ≡ filter_map (file_entry d.principals) d.inputs → tasks ≡ filter_map (task_entry (known d)) (tasks_of d)
+    → Made (Ok (made d)) (Ok (record { longest = longest; names = names; channels = channels; inputs = inputs; tasks = tasks }))
+unfolding made
+made_is d longest names channels inputs tasks e f g h i =
+    sym (
+    ap (λ x. Ok (record { longest = x; names = names; channels = channels; inputs = inputs; tasks = tasks })) e
+    ∙ ap (λ x. Ok (record { longest = longest_of d; names = x; channels = channels; inputs = inputs; tasks = tasks })) f
+    ∙ ap (λ x. Ok (record { longest = longest_of d; names = d.principals; channels = x; inputs = inputs; tasks = tasks })) g
+    ∙ ap (λ x. Ok (record { longest = longest_of d; names = d.principals; channels = filter_map (file_entry d.principals) d.channels; inputs = x; tasks = tasks })) h
+    ∙ ap (λ x. Ok (record { longest = longest_of d; names = d.principals; channels = filter_map (file_entry d.principals) d.channels; inputs = filter_map (file_entry d.principals) d.inputs; tasks = x })) i
+    )
+
+-- ---- the text
+
+pub no_document : (bytes : List ℕ) (fault : PolicyFault) → (fault ≡ NoMemory) ⊎ ((fault ≡ Bad 1 0) × (document_of bytes ≡ None)) → (fault ≡ NoMemory) ⊎ (policy_of bytes ≡ Err fault)
+unfolding policy_of
+no_document bytes fault (inl e) = inl e
+no_document bytes fault (inr e) = inr (ap (λ o. from_draft (from_document o)) e.1 ∙ ap (λ f. Err f) (sym e.0))
+
+pub no_draft : (bytes : List ℕ) (document : Data) (fault : PolicyFault) → document_of bytes ≡ Some document → (fault ≡ NoMemory) ⊎ (from_parts (parts_of document) ≡ Err fault) → (fault ≡ NoMemory) ⊎ (policy_of bytes ≡ Err fault)
+unfolding policy_of
+no_draft bytes document fault is (inl e) = inl e
+no_draft bytes document fault is (inr e) = inr (ap (λ o. from_draft (from_document o)) is ∙ ap from_draft e)
+
+pub is_judged : (bytes : List ℕ) (document : Data) (d : Draft) → document_of bytes ≡ Some document → from_parts (parts_of document) ≡ Ok d → policy_of bytes ≡ judged d
+unfolding policy_of
+is_judged bytes document d is e = ap (λ o. from_draft (from_document o)) is ∙ ap from_draft e
+
+pub fault_weaker : (r : Result Policy PolicyFault) (d : Draft) (bytes : List ℕ) → policy_of bytes ≡ judged d → IfErr r (λ fault. (fault ≡ NoMemory) ⊎ (judged d ≡ Err fault)) → IfErr r (λ fault. (fault ≡ NoMemory) ⊎ (policy_of bytes ≡ Err fault))
+fault_weaker (Ok policy) d bytes same h = tt
+fault_weaker (Err fault) d bytes same (inl e) = inl e
+fault_weaker (Err fault) d bytes same (inr e) = inr (same ∙ e)

@@ -1,0 +1,49 @@
+use Rattle.std.proofs.Common.{refl}
+use Rattle.std.proofs.lemmas.Result.{err_from_is_err_and}
+use Rattle.lio_policy.specs.Rules.{names_fail}
+use Rattle.lio_policy.specs.declared.names.TheConstants.{RULE}
+use Rattle.lio_policy.proofs.FailingLemmas.{fault_at_principals, fault_in_channels, fault_in_inputs, fault_in_tasks, none_in_all, names_lengths}
+use Rattle.lio_policy.proofs.names.read_names.Goals as goal
+
+pub returns-in_err-names : goal.returns-in_err-names
+returns-in_err-names c =
+    let d = c.args.draft.now in
+    let p = err_from_is_err_and c.from_residual.result c.from_residual.ensures.1 in
+    let h = rw c.as_slice.ensures at c.in_err-names.ensures in
+    rw (p.1, p.2) (fault_at_principals RULE (names_fail d) c.in_err-names.field-0.0 refl h)
+
+pub returns-in_err-add_keys : goal.returns-in_err-add_keys
+returns-in_err-add_keys c =
+    let d = c.args.draft.now in
+    let p = err_from_is_err_and c.from_residual-in_err-add_keys.result c.from_residual-in_err-add_keys.ensures.1 in
+    let np = rw c.as_slice.ensures at c.in_ok-names.ensures.0 in
+    let h = rw (c.new-channels.ensures, c.as_slice-files.ensures, c.first_channel.ensures.number) at c.in_err-add_keys.ensures in
+    rw (p.1, p.2) (fault_in_channels RULE _ _ _ (names_fail d) c.in_err-add_keys.field-0.0 (names_lengths d) refl np h)
+
+pub returns-in_err-add_keys-2 : goal.returns-in_err-add_keys-2
+returns-in_err-add_keys-2 c =
+    let d = c.args.draft.now in
+    let p = err_from_is_err_and c.from_residual-in_err-add_keys-2.result c.from_residual-in_err-add_keys-2.ensures.1 in
+    let np = rw c.as_slice.ensures at c.in_ok-names.ensures.0 in
+    let nc = rw (c.new-channels.ensures, c.as_slice-files.ensures, c.first_channel.ensures.number) at c.in_ok-add_keys.ensures.0 in
+    let h = rw (c.new-inputs.ensures, c.as_slice-files-2.ensures, c.first_input.ensures.number) at c.in_err-add_keys-2.ensures in
+    rw (p.1, p.2) (fault_in_inputs RULE _ _ _ (names_fail d) c.in_err-add_keys-2.field-0.0 (names_lengths d) refl np nc h)
+
+pub returns-in_err-add_keys-3 : goal.returns-in_err-add_keys-3
+returns-in_err-add_keys-3 c =
+    let d = c.args.draft.now in
+    let p = err_from_is_err_and c.from_residual-in_err-add_keys-3.result c.from_residual-in_err-add_keys-3.ensures.1 in
+    let np = rw c.as_slice.ensures at c.in_ok-names.ensures.0 in
+    let nc = rw (c.new-channels.ensures, c.as_slice-files.ensures, c.first_channel.ensures.number) at c.in_ok-add_keys.ensures.0 in
+    let ni = rw (c.new-inputs.ensures, c.as_slice-files-2.ensures, c.first_input.ensures.number) at c.in_ok-add_keys-2.ensures.0 in
+    let h = rw (c.new-tasks.ensures, c.as_slice-named.ensures, c.first_task.ensures.number) at c.in_err-add_keys-3.ensures in
+    rw (p.1, p.2) (fault_in_tasks RULE _ _ _ (names_fail d) c.in_err-add_keys-3.field-0.0 (names_lengths d) refl np nc ni h)
+
+pub returns : goal.returns
+returns c =
+    let d = c.args.draft.now in
+    let np = rw c.as_slice.ensures at c.in_ok-names.ensures in
+    let nc = rw (c.new-channels.ensures, c.as_slice-files.ensures, c.first_channel.ensures.number) at c.in_ok-add_keys.ensures in
+    let ni = rw (c.new-inputs.ensures, c.as_slice-files-2.ensures, c.first_input.ensures.number) at c.in_ok-add_keys-2.ensures in
+    let nt = rw (c.new-tasks.ensures, c.as_slice-named.ensures, c.first_task.ensures.number) at c.in_ok-add_keys-3.ensures in
+    (none_in_all _ _ _ (names_fail d) (names_lengths d) refl np.0 nc.0 ni.0 nt.0, (np.1, nc.1, ni.1))

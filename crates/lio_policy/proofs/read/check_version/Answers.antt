@@ -1,0 +1,13 @@
+use Rattle.std.proofs.Common.{◌∙◌, ap, sym, not, length}
+use Rattle.lio_policy.specs.Rules.{version_fails}
+use Rattle.lio_policy.proofs.FailingLemmas.{none_in_all, version_lengths, first_none_of}
+use Rattle.lio_policy.proofs.read.check_version.Goals as goal
+
+pub returns-then-is_one : goal.returns-then-is_one
+returns-then-is_one c =
+    let d = c.args.draft.now in
+    let one = ap not (sym c.is_one.ensures ∙ c.if-is_one.true) in (
+      none_in_all (length d.principals) (length d.channels) (length d.inputs) (version_fails d) (version_lengths d) one (first_none_of 1 d.principals) (first_none_of _ d.channels)
+          (first_none_of _ d.inputs) (first_none_of _ d.tasks),
+      tt,
+    )

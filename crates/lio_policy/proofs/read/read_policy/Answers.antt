@@ -1,0 +1,25 @@
+use Rattle.std.proofs.Common.{◌∙◌}
+use Rattle.std.proofs.lemmas.Result.{err_from_is_err_and, IfOk-weaker}
+use Rattle.serde_json.specs.View.{view}
+use Rattle.lio_policy.proofs.VerdictLemmas.{no_document, no_draft, is_judged, fault_weaker}
+use Rattle.lio_policy.proofs.read.read_policy.Goals as goal
+
+pub returns-in_err-value-clause-fault : goal.returns-in_err-value-clause-fault
+returns-in_err-value-clause-fault c =
+    let p = err_from_is_err_and c.from_residual.result c.from_residual.ensures.1 in
+    rw (p.1, p.2) (no_document c.args.bytes.now c.in_err-value.field-0.0 c.in_err-value.ensures.fault)
+
+pub returns-in_err-draft-clause-fault : goal.returns-in_err-draft-clause-fault
+returns-in_err-draft-clause-fault c =
+    let p = err_from_is_err_and c.from_residual-in_err-draft.result c.from_residual-in_err-draft.ensures.1 in
+    rw (p.1, p.2) (no_draft c.args.bytes.now (view c.in_ok-value.value) c.in_err-draft.field-0.0 c.in_ok-value.ensures.ok c.in_err-draft.ensures.fault)
+
+pub returns-clause-ok : goal.returns-clause-ok
+returns-clause-ok c =
+    let same = is_judged c.args.bytes.now (view c.in_ok-value.value) c.in_ok-draft.draft c.in_ok-value.ensures.ok c.in_ok-draft.ensures.ok in
+    IfOk-weaker c.judge.result _ _ (λ policy h. same ∙ h) c.judge.ensures.ok
+
+pub returns-clause-fault : goal.returns-clause-fault
+returns-clause-fault c =
+    let same = is_judged c.args.bytes.now (view c.in_ok-value.value) c.in_ok-draft.draft c.in_ok-value.ensures.ok c.in_ok-draft.ensures.ok in
+    fault_weaker c.judge.result c.in_ok-draft.draft c.args.bytes.now same c.judge.ensures.fault

@@ -1,0 +1,5 @@
+pub mod Converted
+pub mod Shape
+pub mod Rules
+pub mod Verdict
+pub mod Parts

@@ -1,0 +1,114 @@
+//! Rule 7: arguments.
+ghost use Rattle.std.specs.Prelude.{◌≡◌, IfOk};
+ghost use Rattle.std.specs.List.{filter_map};
+ghost use Rattle.lio_policy.specs.Rules as spec;
+ghost use Rattle.lio_policy.specs.Rules.{entries, arguments_fail, tasks_of};
+ghost use Rattle.lio_policy.specs.Verdict.{Passes};
+
+use crate::conversion::{Conversion, each};
+use crate::draft::{Draft, LabelledArg, LabelledTask};
+use crate::entries::{each_entry, first_task, shown};
+use crate::fault::PolicyFault;
+use crate::policy::{Arg, FileEntries, TaskEntries, TaskEntry};
+use crate::table::Table;
+use lio_clauses::NoMemory;
+use lio_values::{Handle, Plain, Text};
+use std::alloc::Global;
+
+/// The rule's number.
+const RULE: u32 = 7;
+
+/// What an argument may name.
+#[derive(Drop)]
+pub(crate) struct Known {
+    pub(crate) channel_names: Table,
+    pub(crate) channels: FileEntries,
+    pub(crate) input_names: Table,
+}
+
+impl Known {
+    /// The argument that is the channel with this name.
+    fn channel(&self, alloc: Global, name: &Text) -> Result<Option<Arg>, NoMemory>
+        ensures { IfOk result (λ arg. arg ≡ spec.arg_entry self.now (LabelledArg.Channel name.now)) }
+    {
+        let Some(number) = self.channel_names.find(name.bytes()) else {
+            return Ok(None);
+        };
+        let Some(channel) = self.channels.as_slice().get(number) else {
+            return Ok(None);
+        };
+        let label = channel.label.copy(alloc)?;
+        let number = shown(number as u128);
+        Ok(Some(Arg::Fixed(Plain::ChanOf(Handle { number, label }))))
+    }
+}
+
+impl Known {
+    /// The channels.
+    pub(crate) fn into_channels(self) -> FileEntries
+        ensures { result ≡ self.channels }
+    {
+        self.channels
+    }
+}
+
+impl Conversion<LabelledArg, Arg> for Known {
+    ghost gives = { spec.arg_entry };
+
+    fn convert(&self, alloc: Global, from: &LabelledArg) -> Result<Option<Arg>, NoMemory> {
+        match from {
+            LabelledArg::Input(name) => match self.input_names.find(name.bytes()) {
+                Some(number) => Ok(Some(Arg::Input(shown(number as u128)))),
+                None => Ok(None),
+            },
+            LabelledArg::Channel(name) => self.channel(alloc, name),
+            LabelledArg::Fixed(value) => Ok(Some(Arg::Fixed(value.copy(alloc)?))),
+        }
+    }
+}
+
+impl Conversion<LabelledTask, TaskEntry> for Known {
+    ghost gives = { spec.task_entry };
+
+    fn convert(&self, alloc: Global, from: &LabelledTask) -> Result<Option<TaskEntry>, NoMemory> {
+        task_entry(alloc, from, self)
+    }
+}
+
+/// A task with its arguments, if what they name is known.
+#[tactic(auto, unfolding(crate::specs::Rules::task_entry))]
+fn task_entry(
+    alloc: Global,
+    task: &LabelledTask,
+    known: &Known,
+) -> Result<Option<TaskEntry>, NoMemory>
+    ensures { IfOk result (λ made. made ≡ spec.task_entry known.now task.now) }
+{
+    let Ok(args) = each(alloc, known, task.args.as_slice())? else {
+        return Ok(None);
+    };
+    Ok(Some(TaskEntry {
+        name: task.name.copy(alloc)?,
+        proc_name: task.proc_name.copy(alloc)?,
+        label: task.label.copy(alloc)?,
+        clearance: task.clearance.copy(alloc)?,
+        turns: task.turns,
+        cells: task.cells,
+        args,
+    }))
+}
+
+/// The tasks of a draft with their arguments.
+pub(crate) fn read_arguments(
+    alloc: Global,
+    draft: &Draft,
+    known: &Known,
+    tasks: &[LabelledTask],
+) -> Result<TaskEntries, PolicyFault>
+    requires same { known.now ≡ spec.known draft.now }
+    requires labelled { tasks.now ≡ tasks_of draft.now }
+    ensures { Passes RULE 0 (entries (arguments_fail draft.now)) result
+        (λ made. made ≡ filter_map (spec.task_entry (spec.known draft.now)) (tasks_of draft.now)) }
+{
+    each_entry(alloc, known, tasks, RULE, first_task(draft))
+}

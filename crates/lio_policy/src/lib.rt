@@ -1,0 +1,24 @@
+//! The reading of policies: a JSON text to the principals, channels, inputs and tasks that it describes, or to the first rule that it
+//! breaks and the first entry that does.
+#![tactic(auto)]
+
+mod arguments;
+mod conversion;
+mod document;
+mod draft;
+mod entries;
+mod fault;
+mod files;
+mod json;
+mod keys;
+mod labels;
+mod limits;
+mod names;
+mod policy;
+mod read;
+mod shape;
+mod table;
+
+pub use fault::PolicyFault;
+pub use policy::{Arg, Args, FileEntries, FileEntry, Policy, TaskEntries, TaskEntry};
+pub use read::read_policy;

@@ -1,0 +1,122 @@
+//! Rule 4: names.
+ghost use Rattle.std.specs.Prelude.{◌≡◌, ◌<◌, ◌^◌, ◌++◌, [], ◌∷◌, false, Ok, IfOk};
+ghost use Rattle.lio_policy.specs.Rules.{behind, principal_fails, no_name, entries, names_fail, file_names};
+ghost use Rattle.lio_policy.specs.Verdict.{Passes};
+
+use crate::draft::{Draft, FileDraft, TaskDraft};
+use crate::entries::{FIRST_PRINCIPAL, fault_at, first_channel, first_input, first_task};
+use crate::fault::PolicyFault;
+use crate::keys::{Key, add_keys};
+use crate::table::Table;
+use lio_clauses::{NameFault, Names, NoMemory};
+use lio_values::Text;
+use std::alloc::Global;
+
+/// The rule's number.
+const RULE: u32 = 4;
+
+/// The principals, and the names of the channels and of the inputs.
+#[derive(Drop)]
+pub(crate) struct Named {
+    pub(crate) names: Names,
+    pub(crate) channels: Table,
+    pub(crate) inputs: Table,
+}
+
+/// Adds a name to the names, and answers whether it fails as a principal's. One that does not is last then.
+fn add_name(alloc: Global, names: &mut Names, name: &[u8]) -> Result<bool, NoMemory>
+    ensures fails { IfOk result (λ fails. fails ≡ principal_fails names.old name.now) }
+    ensures added { result ≡ Ok false → names.new ≡ names.old ++ name.now ∷ [] }
+{
+    match names.add(alloc, name) {
+        Ok(_number) => Ok(false),
+        Err(NameFault::NoMemory) => Err(NoMemory),
+        Err(_fault) => Ok(true),
+    }
+}
+
+/// The principals with these names, which are entries from the given one on.
+fn add_principals(alloc: Global, principals: &[Text], first: u128) -> Result<Names, PolicyFault>
+    requires { first < 2 ^ 67 }
+    ensures { Passes RULE first (behind principal_fails [] principals.now) result
+        (λ names. names ≡ principals.now) }
+{
+    let mut names = Names::new(alloc)?;
+    let mut place = 0;
+    for name in principals {
+        if add_name(alloc, &mut names, name.bytes())? {
+            return Err(fault_at(RULE, first + place));
+        }
+        place += 1;
+    }
+    Ok(names)
+}
+
+/// Whether these bytes are no name.
+fn is_no_name(alloc: Global, bytes: &[u8]) -> Result<bool, NoMemory>
+    ensures { IfOk result (λ no. no ≡ no_name bytes.now) }
+{
+    add_name(alloc, &mut Names::new(alloc)?, bytes)
+}
+
+/// The names of entries.
+struct ByName;
+
+impl Key<FileDraft> for ByName {
+    ghost key_of = { λ _ file. file.name };
+
+    ghost is_wrong = { λ _. no_name };
+
+    fn key<'t>(&self, item: &'t FileDraft) -> &'t [u8] {
+        item.name.bytes()
+    }
+
+    fn is_bad(&self, alloc: Global, key: &[u8]) -> Result<bool, NoMemory> {
+        is_no_name(alloc, key)
+    }
+}
+
+impl Key<TaskDraft> for ByName {
+    ghost key_of = { λ _ task. task.name };
+
+    ghost is_wrong = { λ _. no_name };
+
+    fn key<'t>(&self, item: &'t TaskDraft) -> &'t [u8] {
+        item.name.bytes()
+    }
+
+    fn is_bad(&self, alloc: Global, key: &[u8]) -> Result<bool, NoMemory> {
+        is_no_name(alloc, key)
+    }
+}
+
+/// The names of a draft.
+pub(crate) fn read_names(alloc: Global, draft: &Draft) -> Result<Named, PolicyFault>
+    ensures { Passes RULE 0 (entries (names_fail draft.now)) result
+        (λ named. (named.names ≡ draft.now.principals)
+        × (named.channels ≡ file_names draft.now.channels)
+        × (named.inputs ≡ file_names draft.now.inputs)) }
+{
+    let names = add_principals(alloc, draft.principals.as_slice(), FIRST_PRINCIPAL)?;
+    let mut channels = Table::new(alloc);
+    let files = draft.channels.as_slice();
+    add_keys(
+        alloc,
+        &ByName,
+        &mut channels,
+        files,
+        RULE,
+        first_channel(draft),
+    )?;
+    let mut inputs = Table::new(alloc);
+    let files = draft.inputs.as_slice();
+    add_keys(alloc, &ByName, &mut inputs, files, RULE, first_input(draft))?;
+    let mut tasks = Table::new(alloc);
+    let named = draft.tasks.as_slice();
+    add_keys(alloc, &ByName, &mut tasks, named, RULE, first_task(draft))?;
+    Ok(Named {
+        names,
+        channels,
+        inputs,
+    })
+}

@@ -1,0 +1,175 @@
+//! From JSON values to drafts.
+ghost use Rattle.std.specs.Prelude.{◌≡◌, IfOk};
+ghost use Rattle.serde_json.specs.View.{view};
+ghost use Rattle.serde_json.specs.Find.{as_str};
+ghost use Rattle.lio_policy.specs.Shape as spec;
+
+use crate::conversion::{Conversion, each};
+use crate::draft::{ArgDraft, FileDraft, TaskDraft};
+use crate::json::{count_at, has_keys, items_at, text_at};
+use lio_clauses::NoMemory;
+use lio_values::{List, Text};
+use serde_json::Value;
+use std::alloc::Global;
+
+/// Reads the parts of a document by their shape.
+pub(crate) struct Shape;
+
+impl Conversion<Value, Text> for Shape {
+    ghost gives = { λ _ value. as_str (view value) };
+
+    fn convert(&self, alloc: Global, value: &Value) -> Result<Option<Text>, NoMemory> {
+        match value.as_str() {
+            Some(text) => Ok(Some(Text::of(alloc, text.as_bytes())?)),
+            None => Ok(None),
+        }
+    }
+}
+
+impl Conversion<Value, FileDraft> for Shape {
+    ghost gives = { λ _ value. spec.file_of (view value) };
+
+    fn convert(&self, alloc: Global, value: &Value) -> Result<Option<FileDraft>, NoMemory> {
+        file_draft(alloc, value)
+    }
+}
+
+impl Conversion<Value, ArgDraft> for Shape {
+    ghost gives = { λ _ value. spec.arg_of (view value) };
+
+    fn convert(&self, alloc: Global, value: &Value) -> Result<Option<ArgDraft>, NoMemory> {
+        arg_draft(alloc, value)
+    }
+}
+
+impl Conversion<Value, TaskDraft> for Shape {
+    ghost gives = { λ _ value. spec.task_of (view value) };
+
+    fn convert(&self, alloc: Global, value: &Value) -> Result<Option<TaskDraft>, NoMemory> {
+        task_draft(alloc, value)
+    }
+}
+
+/// The channel or input that a value is.
+#[tactic(auto, unfolding(crate::specs::Shape::file_of))]
+fn file_draft(alloc: Global, value: &Value) -> Result<Option<FileDraft>, NoMemory>
+    ensures { IfOk result (λ draft. draft ≡ spec.file_of (view value.now)) }
+{
+    if !has_keys(value, &["file", "label", "name"]) {
+        return Ok(None);
+    }
+    let Some(name) = text_at(alloc, value, "name")? else {
+        return Ok(None);
+    };
+    let Some(label) = text_at(alloc, value, "label")? else {
+        return Ok(None);
+    };
+    let Some(file) = text_at(alloc, value, "file")? else {
+        return Ok(None);
+    };
+    Ok(Some(FileDraft { name, label, file }))
+}
+
+/// The argument that a value is.
+#[tactic(auto, unfolding(crate::specs::Shape::arg_of))]
+fn arg_draft(alloc: Global, value: &Value) -> Result<Option<ArgDraft>, NoMemory>
+    ensures { IfOk result (λ draft. draft ≡ spec.arg_of (view value.now)) }
+{
+    if has_keys(value, &["input"]) {
+        return Ok(text_at(alloc, value, "input")?.map(|text| ArgDraft::Input(text)));
+    }
+    if has_keys(value, &["channel"]) {
+        return Ok(text_at(alloc, value, "channel")?.map(|text| ArgDraft::Channel(text)));
+    }
+    if has_keys(value, &["label"]) {
+        return Ok(text_at(alloc, value, "label")?.map(|text| ArgDraft::Label(text)));
+    }
+    if has_keys(value, &["power"]) {
+        return Ok(text_at(alloc, value, "power")?.map(|text| ArgDraft::Power(text)));
+    }
+    if has_keys(value, &["text"]) {
+        return Ok(text_at(alloc, value, "text")?.map(|text| ArgDraft::Bytes(text)));
+    }
+    Ok(plain_arg(value))
+}
+
+/// The argument that a value is, where it is a number, a truth value or nothing.
+#[tactic(auto, unfolding(crate::specs::Shape::plain_arg_of))]
+fn plain_arg(value: &Value) -> Option<ArgDraft>
+    ensures { result ≡ spec.plain_arg_of (view value.now) }
+{
+    if has_keys(value, &["whole"]) {
+        return value
+            .get("whole")?
+            .as_i64()
+            .map(|number| ArgDraft::Whole(number));
+    }
+    if has_keys(value, &["flag"]) {
+        return value
+            .get("flag")?
+            .as_bool()
+            .map(|flag| ArgDraft::Flag(flag));
+    }
+    if has_keys(value, &["unit"]) {
+        return value.get("unit")?.as_null().map(|_| ArgDraft::Unit);
+    }
+    None
+}
+
+/// The arguments at a key.
+fn args_at(alloc: Global, value: &Value, key: &str) -> Result<Option<List<ArgDraft>>, NoMemory>
+    ensures { IfOk result (λ args. args ≡ spec.args_at key.now (view value.now)) }
+{
+    match items_at(value, key) {
+        Some(items) => Ok(each(alloc, &Shape, items)?.ok()),
+        None => Ok(None),
+    }
+}
+
+/// The task that a value is.
+#[tactic(auto, unfolding(crate::specs::Shape::task_of))]
+fn task_draft(alloc: Global, value: &Value) -> Result<Option<TaskDraft>, NoMemory>
+    ensures { IfOk result (λ draft. draft ≡ spec.task_of (view value.now)) }
+{
+    if !has_keys(
+        value,
+        &[
+            "args",
+            "cells",
+            "clearance",
+            "label",
+            "name",
+            "proc",
+            "turns",
+        ],
+    ) {
+        return Ok(None);
+    }
+    let Some(name) = text_at(alloc, value, "name")? else {
+        return Ok(None);
+    };
+    let Some(proc_name) = text_at(alloc, value, "proc")? else {
+        return Ok(None);
+    };
+    let Some(label) = text_at(alloc, value, "label")? else {
+        return Ok(None);
+    };
+    let Some(clearance) = text_at(alloc, value, "clearance")? else {
+        return Ok(None);
+    };
+    let (Some(turns), Some(cells)) = (count_at(value, "turns"), count_at(value, "cells")) else {
+        return Ok(None);
+    };
+    let Some(args) = args_at(alloc, value, "args")? else {
+        return Ok(None);
+    };
+    Ok(Some(TaskDraft {
+        name,
+        proc_name,
+        label,
+        clearance,
+        turns,
+        cells,
+        args,
+    }))
+}
