@@ -3,3 +3,4 @@ pub mod ConvertedLemmas
 pub mod DocumentLemmas
 pub mod FailingLemmas
 pub mod VerdictLemmas
+pub mod EntryLemmas

@@ -3,3 +3,4 @@ pub mod Shape
 pub mod Rules
 pub mod Verdict
 pub mod Parts
+pub mod Entries

@@ -1,5 +1,6 @@
 //! Looking into a JSON value.
 ghost use Rattle.std.specs.Prelude.{◌≡◌, IfOk, map, option_map};
+ghost use Rattle.serde_json.specs.Find.{as_str};
 ghost use Rattle.serde_json.specs.View.{view};
 ghost use Rattle.lio_policy.specs.Shape as spec;
 
@@ -25,6 +26,16 @@ pub(crate) fn has_keys(value: &Value, keys: &[&str]) -> bool
     place == keys.len()
 }
 
+/// The text that a value is.
+pub(crate) fn text_of(alloc: Global, value: &Value) -> Result<Option<Text>, NoMemory>
+    ensures { IfOk result (λ text. text ≡ as_str (view value.now)) }
+{
+    match value.as_str() {
+        Some(text) => Ok(Some(Text::of(alloc, text.as_bytes())?)),
+        None => Ok(None),
+    }
+}
+
 /// The text at a key.
 pub(crate) fn text_at(alloc: Global, value: &Value, key: &str) -> Result<Option<Text>, NoMemory>
     ensures { IfOk result (λ text. text ≡ spec.text_at key.now (view value.now)) }
@@ -32,10 +43,7 @@ pub(crate) fn text_at(alloc: Global, value: &Value, key: &str) -> Result<Option<
     let Some(found) = value.get(key) else {
         return Ok(None);
     };
-    match found.as_str() {
-        Some(text) => Ok(Some(Text::of(alloc, text.as_bytes())?)),
-        None => Ok(None),
-    }
+    text_of(alloc, found)
 }
 
 /// The items of the array at a key.

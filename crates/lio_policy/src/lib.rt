@@ -14,11 +14,13 @@ mod keys;
 mod labels;
 mod limits;
 mod names;
+mod numbering;
 mod policy;
 mod read;
 mod shape;
 mod table;
 
 pub use fault::PolicyFault;
+pub use numbering::{EntryAt, EntryKind, entry_at};
 pub use policy::{Arg, Args, FileEntries, FileEntry, Policy, TaskEntries, TaskEntry};
 pub use read::read_policy;
