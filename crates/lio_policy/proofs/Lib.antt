@@ -4,3 +4,5 @@ pub mod DocumentLemmas
 pub mod FailingLemmas
 pub mod VerdictLemmas
 pub mod EntryLemmas
+pub mod MadeLemmas
+pub mod PolicyLemmas

@@ -18,6 +18,9 @@ use Rattle.lio_policy.specs.declared.policy.Policy.{Policy}
 use Rattle.lio_policy.specs.declared.policy.FileEntry.{FileEntry}
 use Rattle.lio_policy.specs.declared.policy.TaskEntry.{TaskEntry}
 use Rattle.lio_policy.proofs.ConvertedLemmas.{unmade_of_map, filter_map_of_map}
+use Rattle.lio_policy.specs.Policy.{PolicyParts, IsPolicy}
+use Rattle.lio_policy.proofs.MadeLemmas.{nothing_fails}
+use Rattle.lio_policy.proofs.PolicyLemmas.{parts, is_policy}
 use Rattle.lio_policy.proofs.FailingLemmas.{Blames, HasLengths, length_unmade}
 
 -- where no entry fails, the rule blames none
@@ -124,21 +127,34 @@ none_blamed d a b c g i j k =
 pub judged_ok : (d : Draft) → Clean (version_fails d) → Clean (names_fail d) → Clean (labels_fail d) → Clean (flow_fails d) → Clean (arguments_fail d) → Clean (limits_fail d) → Clean (files_fail d) → judged d ≡ Ok (made d)
 judged_ok d a b c g i j k = ap (λ o. unless_fault o (Ok (made d))) (none_blamed d a b c g i j k)
 
-abbrev pub Made : Result Policy PolicyFault → Result Policy PolicyFault → Type 0
-Made r s = r ≡ s
-
-pub made_is : (d : Draft) (longest : ℕ) (names : List (List ℕ)) (channels inputs : List FileEntry) (tasks : List TaskEntry) → longest ≡ longest_of d → names ≡ d.principals
+-- the same of what was read part by part
+pub parts_are : (d : Draft) (longest : ℕ) (names : List (List ℕ)) (channels inputs : List FileEntry) (tasks : List TaskEntry) → longest ≡ longest_of d → names ≡ d.principals
     → channels ≡ filter_map (file_entry d.principals) d.channels → inputs ≡ filter_map (file_entry d.principals) d.inputs → tasks ≡ filter_map (task_entry (known d)) (tasks_of d)
-    → Made (Ok (made d)) (Ok (record { longest = longest; names = names; channels = channels; inputs = inputs; tasks = tasks }))
-unfolding made
-made_is d longest names channels inputs tasks e f g h i =
+    → parts d ≡ record { longest = longest; names = names; channels = channels; inputs = inputs; tasks = tasks }
+parts_are d longest names channels inputs tasks e f g h i =
+    let with : ℕ → List (List ℕ) → List FileEntry → List FileEntry → List TaskEntry → PolicyParts = λ l n c i t. record { longest = l; names = n; channels = c; inputs = i; tasks = t } in
     sym (
-    ap (λ x. Ok (record { longest = x; names = names; channels = channels; inputs = inputs; tasks = tasks })) e
-    ∙ ap (λ x. Ok (record { longest = longest_of d; names = x; channels = channels; inputs = inputs; tasks = tasks })) f
-    ∙ ap (λ x. Ok (record { longest = longest_of d; names = d.principals; channels = x; inputs = inputs; tasks = tasks })) g
-    ∙ ap (λ x. Ok (record { longest = longest_of d; names = d.principals; channels = filter_map (file_entry d.principals) d.channels; inputs = x; tasks = tasks })) h
-    ∙ ap (λ x. Ok (record { longest = longest_of d; names = d.principals; channels = filter_map (file_entry d.principals) d.channels; inputs = filter_map (file_entry d.principals) d.inputs; tasks = x })) i
+    ap (λ x. with x names channels inputs tasks) e
+    ∙ ap (λ x. with (longest_of d) x channels inputs tasks) f
+    ∙ ap (λ x. with (longest_of d) d.principals x inputs tasks) g
+    ∙ ap (λ x. with (longest_of d) d.principals (filter_map (file_entry d.principals) d.channels) x tasks) h
+    ∙ ap (λ x. with (longest_of d) d.principals (filter_map (file_entry d.principals) d.channels) (filter_map (file_entry d.principals) d.inputs) x) i
     )
+
+pub made_is : (d : Draft) (p : PolicyParts) → parts d ≡ p → made d ≡ p
+unfolding made
+made_is d p e = e
+
+-- where all pass, the parts are those of a policy
+pub passes_all : (d : Draft) (p : PolicyParts) → parts d ≡ p → Clean (names_fail d) → Clean (labels_fail d) → Clean (flow_fails d) → Clean (arguments_fail d) → Clean (limits_fail d) → Clean (files_fail d) → IsPolicy p
+passes_all d p is b c g i j k = subst IsPolicy is (is_policy d (record {
+  names = nothing_fails (names_fail d) b;
+  labels = nothing_fails (labels_fail d) c;
+  flow = nothing_fails (flow_fails d) g;
+  arguments = nothing_fails (arguments_fail d) i;
+  limits = nothing_fails (limits_fail d) j;
+  files = nothing_fails (files_fail d) k;
+}))
 
 -- ---- the text
 

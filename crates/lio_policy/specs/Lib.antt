@@ -4,3 +4,4 @@ pub mod Rules
 pub mod Verdict
 pub mod Parts
 pub mod Entries
+pub mod Policy

@@ -12,6 +12,7 @@ mod files;
 mod json;
 mod keys;
 mod labels;
+pub mod laws;
 mod limits;
 mod names;
 mod numbering;

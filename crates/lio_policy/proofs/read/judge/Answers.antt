@@ -1,8 +1,8 @@
-use Rattle.std.proofs.Common.{◌≡◌, ◌∙◌, rules}
+use Rattle.std.proofs.Common.{◌≡◌, ◌∙◌, Ok, ap, rules}
 use Rattle.std.specs.List.{filter_map}
 use Rattle.std.proofs.lemmas.Result.{err_from_is_err_and}
 use Rattle.lio_policy.specs.Rules.{file_entry}
-use Rattle.lio_policy.proofs.VerdictLemmas.{judged_by_version, judged_by_names, judged_by_labels, judged_by_flow, judged_by_arguments, judged_by_limits, judged_by_files, judged_ok, made_is}
+use Rattle.lio_policy.proofs.VerdictLemmas.{judged_by_version, judged_by_names, judged_by_labels, judged_by_flow, judged_by_arguments, judged_by_limits, judged_by_files, judged_ok, parts_are, made_is, passes_all}
 use Rattle.lio_policy.proofs.read.judge.Goals as goal
 
 pub returns-in_err-check_version-clause-fault : goal.returns-in_err-check_version-clause-fault
@@ -40,11 +40,21 @@ returns-in_err-check_files-clause-fault c =
     let p = err_from_is_err_and c.from_residual-in_err-check_files.result c.from_residual-in_err-check_files.ensures.1 in
     rw (p.1, p.2) (judged_by_files c.args.draft.now c.in_err-check_files.field-0.0 c.in_ok-check_version.ensures.0 c.in_ok-names.ensures.0 c.in_ok-channels.ensures.0 c.in_ok-check_flow.ensures.0 c.in_ok-tasks.ensures.0 c.in_ok-longest.ensures.0 c.in_err-check_files.ensures)
 
+pub invariant_of-result : goal.invariant_of-result
+invariant_of-result c =
+    let d = c.args.draft.now in
+    let names : c.in_ok-names.field-0.names ≡ d.principals = search rules in
+    let channels : c.into_channels.result ≡ filter_map (file_entry d.principals) d.channels = search rules in
+    let inputs : c.in_ok-channels.field-0.inputs ≡ filter_map (file_entry d.principals) d.inputs = search rules in
+    let parts = parts_are d c.in_ok-longest.longest c.in_ok-names.field-0.names c.into_channels.result c.in_ok-channels.field-0.inputs c.in_ok-tasks.tasks c.in_ok-longest.ensures.1 names channels inputs c.in_ok-tasks.ensures.1 in
+    passes_all d _ parts c.in_ok-names.ensures.0 c.in_ok-channels.ensures.0 c.in_ok-check_flow.ensures.0 c.in_ok-tasks.ensures.0 c.in_ok-longest.ensures.0 c.in_ok-check_files.ensures.0
+
 pub returns-clause-ok : goal.returns-clause-ok
 returns-clause-ok c =
     let d = c.args.draft.now in
     let names : c.in_ok-names.field-0.names ≡ d.principals = search rules in
     let channels : c.into_channels.result ≡ filter_map (file_entry d.principals) d.channels = search rules in
     let inputs : c.in_ok-channels.field-0.inputs ≡ filter_map (file_entry d.principals) d.inputs = search rules in
+    let parts = parts_are d c.in_ok-longest.longest c.in_ok-names.field-0.names c.into_channels.result c.in_ok-channels.field-0.inputs c.in_ok-tasks.tasks c.in_ok-longest.ensures.1 names channels inputs c.in_ok-tasks.ensures.1 in
     judged_ok d c.in_ok-check_version.ensures.0 c.in_ok-names.ensures.0 c.in_ok-channels.ensures.0 c.in_ok-check_flow.ensures.0 c.in_ok-tasks.ensures.0 c.in_ok-longest.ensures.0 c.in_ok-check_files.ensures.0
-    ∙ made_is d c.in_ok-longest.longest c.in_ok-names.field-0.names c.into_channels.result c.in_ok-channels.field-0.inputs c.in_ok-tasks.tasks c.in_ok-longest.ensures.1 names channels inputs c.in_ok-tasks.ensures.1
+    ∙ ap (λ p. Ok p) (made_is d _ parts)
