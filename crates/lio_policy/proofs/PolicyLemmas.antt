@@ -1,9 +1,9 @@
 -- A draft that breaks no rule makes a policy.
-use Rattle.std.proofs.Common.{◌≡◌, ◌≢◌, ◌∙◌, ℕ, ◌+◌, ◌*◌, ◌<◌, ◌≤◌, Bool, true, false, ◌||◌, ◌&&◌, not, nat_lt, nat_le, IsTrue, List, [], ◌∷◌, ◌++◌, length, map, sum_by, All, Option, Some, None, option_map, option_and_then, slice_get, Ok, Err, Result, refl, sym, ap, subst, arith, append_assoc, length-append}
+use Rattle.std.proofs.Common.{◌≡◌, ◌∙◌, ℕ, ◌+◌, ◌*◌, ◌<◌, ◌≤◌, Bool, true, false, ◌||◌, ◌&&◌, not, nat_lt, nat_le, IsTrue, List, [], ◌∷◌, ◌++◌, length, map, sum_by, All, Some, option_map, option_and_then, slice_get, Ok, Err, Result, refl, sym, ap, subst, arith, append_assoc, length-append}
 use Rattle.std.specs.List.{filter_map, list_any}
 use Rattle.std.specs.Result.{result_ok}
-use Rattle.std.proofs.lemmas.List.{append-nil, length-map, map-append}
-use Rattle.std.proofs.lemmas.List.Elements.{All-nil, All-cons, All-head, All-tail, All-push, All-weaker}
+use Rattle.std.proofs.lemmas.List.{append-nil, length-map}
+use Rattle.std.proofs.lemmas.List.Elements.{All-nil, All-cons, All-push, All-weaker}
 use Rattle.std.proofs.lemmas.List.Sums.{sum_by-append}
 use Rattle.std.proofs.lemmas.List.Quantifiers.{position-Some}
 use Rattle.std.proofs.lemmas.Option.{slice_get_within}
@@ -13,7 +13,7 @@ use Rattle.std.specs.Str.{bytes_eq}
 use Rattle.lio_clauses.specs.FormulaPrint as formula
 use Rattle.lio_clauses.specs.FormulaText as text
 use Rattle.lio_clauses.specs.FormulaText.{shown}
-use Rattle.lio_clauses.specs.Names.{AreNames, number_of}
+use Rattle.lio_clauses.specs.Names.{number_of}
 use Rattle.lio_clauses.proofs.GrammarLemmas.{bind-Ok}
 use Rattle.lio_clauses.proofs.KnownLemmas.{reading-named, reading_two-named}
 use Rattle.lio_labels.specs.Flow.{flows}
@@ -23,9 +23,8 @@ use Rattle.lio_labels.specs.declared.label.Label.{Label}
 use Rattle.lio_values.specs.declared.value.Plain.{Plain}
 use Rattle.lio_values.specs.declared.value.Plain.TheVariants.{Unit as unit, Flag, Whole, Bytes, Lab, Power, RefOf, VarOf, ResultOf, ChanOf}
 use Rattle.lio_policy.specs.Converted.{converted, unmade}
-use Rattle.lio_policy.specs.Policy.{PolicyParts, AreKeys, IsName, IsFile, IsOwnValue, IsFixed, IsArgument, HasNames, HasLabels, HasFlow, HasArguments, KeepsLimits, HasFiles, IsPolicy}
+use Rattle.lio_policy.specs.Policy.{PolicyParts, AreKeys, IsFile, IsOwnValue, IsFixed, IsArgument, HasNames, KeepsLimits, HasFiles, IsPolicy}
 use Rattle.lio_policy.specs.Rules.{behind, key_fails, no_name, no_file, label_of, file_entry, file_names, task_names, files_of, labelled_arg, labelled_task, with_args, tasks_of, is_above, known, channel_arg, arg_entry, task_entry, is_longest, longest_of, turns_in_all, cells_in_all, work_fails, is_past_256, is_too_long, args_fail, task_fails, names_fail, labels_fail, flow_fails, arguments_fail, limits_fail, files_fail}
-use Rattle.lio_policy.specs.Verdict.{made}
 use Rattle.lio_policy.specs.declared.arguments.Known.{Known}
 use Rattle.lio_policy.specs.declared.draft.Draft.{Draft}
 use Rattle.lio_policy.specs.declared.draft.FileDraft.{FileDraft}
@@ -40,7 +39,7 @@ use Rattle.lio_policy.specs.declared.policy.TaskEntry.{TaskEntry}
 use Rattle.lio_policy.specs.declared.policy.Arg.{Arg}
 use Rattle.lio_policy.specs.declared.policy.Arg.TheVariants as arg
 use Rattle.lio_policy.proofs.FailingLemmas.{converted_ok}
-use Rattle.lio_policy.proofs.MadeLemmas.{NoneFails, NothingFails, nothing_fails, none_fails, mapped, chained, neither, none_of_test, made_all, made_map, made_length, made_sum, none_map, keys_behind, no_keys, few_behind, names_behind, no_names}
+use Rattle.lio_policy.proofs.MadeLemmas.{NoneFails, NothingFails, none_fails, mapped, chained, neither, made_all, made_map, made_length, made_sum, none_map, keys_behind, no_keys, few_behind, names_behind, no_names}
 
 -- ---- labels and formulas
 
