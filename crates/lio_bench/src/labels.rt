@@ -1,9 +1,9 @@
 //! An operation on labels, and how often it is repeated.
-
-ghost use Rattle.std.specs.Prelude.{◌≤◌, IfSome};
+ghost use Rattle.std.specs.Prelude.{◌≡◌, ◌≤◌, IfOk};
+ghost use Rattle.lio_labels.specs.IsLabel.{IsLabel};
 
 use lio_clauses::{FormFault, Formula};
-use lio_labels::Label;
+use lio_labels::{Label, laws};
 use std::alloc::Global;
 
 /// The most clauses of a formula.
@@ -20,13 +20,14 @@ pub enum Operation {
     Copy,
 }
 
-/// An operation on two labels, repeated.
+/// An operation on two equal labels, repeated.
 #[derive(Clone, Copy)]
-pub struct Work {
+pub struct LabelWork {
     operation: Operation,
     /// The clauses of each part of the labels.
     clauses: u32,
     times: u32,
+    ghost few: { clauses ≤ 64 },
 }
 
 impl Operation {
@@ -52,19 +53,33 @@ fn formula_of(alloc: Global, clauses: u32) -> Result<Formula, FormFault>
     Formula::of_clauses(alloc, masks.as_slice())
 }
 
-impl Work {
-    /// What three words say: the operation, the clauses of each part (at most 64), and how often.
-    pub fn of_words(words: &[String]) -> Option<Work>
-        ensures { IfSome result (λ work. work.clauses ≤ 64) }
-    {
-        let [operation, clauses, times] = words else {
-            return None;
-        };
-        let operation = Operation::of_name(operation.as_str())?;
-        let clauses = clauses.as_str().parse::<u32>().ok()?;
-        let times = times.as_str().parse::<u32>().ok()?;
+/// The operation on two equal labels, which makes an equal one.
+fn once(
+    alloc: Global,
+    operation: Operation,
+    label: &Label,
+    other: Label,
+) -> Result<Label, FormFault>
+    requires equal { other ≡ label.now }
+    requires canonical { IsLabel label.now }
+    ensures { IfOk result (λ made. made ≡ label.now) }
+{
+    match operation {
+        Operation::Flows => {
+            let _ = label.flows(&other);
+            Ok(other)
+        }
+        Operation::Join => label.join(alloc, &other),
+        Operation::Copy => Ok(other.copy(alloc)?),
+    }
+}
+
+impl LabelWork {
+    /// The operation of a name on labels with so many clauses a part, at most 64.
+    pub fn new(name: &str, clauses: u32, times: u32) -> Option<LabelWork> {
+        let operation = Operation::of_name(name)?;
         if clauses <= MOST_CLAUSES {
-            Some(Work {
+            Some(LabelWork {
                 operation,
                 clauses,
                 times,
@@ -75,24 +90,15 @@ impl Work {
     }
 
     /// Makes two equal labels, and repeats the operation on them.
-    pub fn run(&self, alloc: Global) -> Result<(), FormFault>
-        requires { self.now.clauses ≤ 64 }
-    {
+    pub fn run(&self, alloc: Global) -> Result<(), FormFault> {
         let label = Label {
             secrecy: formula_of(alloc, self.clauses)?,
             integrity: formula_of(alloc, self.clauses)?,
         };
+        laws::label_is_canonical(&label);
         let mut other = label.copy(alloc)?;
         for _ in 0..self.times {
-            match self.operation {
-                Operation::Flows => {
-                    if !label.flows(&other) {
-                        break;
-                    }
-                }
-                Operation::Join => other = label.join(alloc, &other)?,
-                Operation::Copy => other = other.copy(alloc)?,
-            }
+            other = once(alloc, self.operation, &label, other)?;
         }
         Ok(())
     }
