@@ -4,6 +4,7 @@
 mod channel;
 mod journal;
 mod print;
+mod values;
 
 pub use channel::channel_bytes;
 pub use journal::Journal;

@@ -8,7 +8,7 @@ use std::alloc::Global;
 use std::mem::size_of;
 
 /// One turn of one task, as a journal records it. Source: the small steps of the concurrent calculus of LIO, ICFP 2012.
-#[derive(Debug, PartialEq, Eq, Drop)]
+#[derive(PartialEq, Eq, Drop)]
 pub struct Entry {
     /// How many turns came before it.
     pub ticket: u64,

@@ -8,7 +8,7 @@ use lio_labels::{Label, Priv};
 use std::alloc::Global;
 
 /// What went wrong.
-#[derive(Debug, PartialEq, Eq, Drop)]
+#[derive(PartialEq, Eq, Drop)]
 pub enum FaultKind {
     /// The current label doesn't flow to the target.
     FlowCurrent(Label, Label),
@@ -41,7 +41,7 @@ pub enum FaultKind {
 }
 
 /// A fault, with the current label of the task when it was thrown.
-#[derive(Debug, PartialEq, Eq, Drop)]
+#[derive(PartialEq, Eq, Drop)]
 pub struct Fault {
     pub kind: FaultKind,
     pub at: Label,
