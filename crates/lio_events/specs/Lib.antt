@@ -4,4 +4,5 @@ pub mod Named
 pub mod EntryText
 pub mod JournalText
 pub mod Printable
+pub mod Laws
 pub mod ChannelBytes

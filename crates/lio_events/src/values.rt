@@ -1,14 +1,13 @@
 //! Printing values, and the contents and faults in them, as journals have them.
-ghost use Rattle.std.specs.Prelude.{◌≡◌, ◌++◌, OnOk};
+ghost use Rattle.std.specs.Prelude.{◌≡◌, ◌++◌, OnOk, IfOk};
 ghost use Rattle.lio_labels.specs.LabelPrint.{AreNamed};
 ghost use Rattle.lio_events.specs.ValueText.{labels_text, numbers_text, kind_text, fault_text, content_text, value_text};
 ghost use Rattle.lio_events.specs.Named.{IsKindNamed, IsFaultNamed, IsContentNamed, IsValueNamed};
 
 use lio_clauses::{Names, NoMemory};
 use lio_labels::Label;
-use lio_values::{
-    Content, Fault, FaultKind, Value, print_label, print_number, print_power,
-};
+use lio_values::{Content, Fault, FaultKind, Value, print_label, print_number, print_power};
+use std::alloc::Global;
 
 /// Appends two labels, each after a blank.
 pub fn append_labels(
@@ -99,6 +98,26 @@ pub fn append_fault(out: &mut Vec<u8>, fault: &Fault, names: &Names) -> Result<(
     append_kind(out, &fault.kind, names)?;
     out.extend_from_slice(b" at ")?;
     print_label(out, &fault.at, names)
+}
+
+/// The text of a content.
+pub fn print_content(alloc: Global, content: &Content, names: &Names) -> Result<Vec<u8>, NoMemory>
+    requires { IsContentNamed names.now content.now }
+    ensures { IfOk result (λ text. text.items ≡ content_text names.now content.now) }
+{
+    let mut out = Vec::new(alloc);
+    append_content(&mut out, content, names)?;
+    Ok(out)
+}
+
+/// The text of a value.
+pub fn print_value(alloc: Global, value: &Value, names: &Names) -> Result<Vec<u8>, NoMemory>
+    requires { IsValueNamed names.now value.now }
+    ensures { IfOk result (λ text. text.items ≡ value_text names.now value.now) }
+{
+    let mut out = Vec::new(alloc);
+    append_value(&mut out, value, names)?;
+    Ok(out)
 }
 
 /// Appends a content.
