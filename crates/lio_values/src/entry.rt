@@ -35,8 +35,8 @@ impl Entry {
         ensures { IfOk result (λ entry. entry ≡ self.now) }
     {
         let at = self.at.copy(alloc)?;
-        let act = self.act.copy(alloc)?;
         let reply = self.reply.copy(alloc)?;
+        let act = self.act.copy(alloc)?;
         Ok(Entry {
             ticket: self.ticket,
             actor: self.actor,
