@@ -1,7 +1,7 @@
 use Rattle.std.proofs.Common.{◌≡◌, ◌++◌, take, codes}
 use Rattle.std.specs.List.{flat_map}
 use Rattle.lio_values.specs.Quoted.{escaped}
-use Rattle.lio_values.proofs.print.print_quoted.Given as goal
+use Rattle.lio_values.proofs.print.append_quoted.Given as goal
 
 -- the bytes so far stand behind the quote
 abbrev pub invariant-loop-byte : goal.invariant-loop-byte

@@ -1,17 +1,16 @@
 //! Printing values, and the contents and faults in them, as journals have them.
-ghost use Rattle.std.specs.Prelude.{◌≡◌, ◌++◌, OnOk};
+ghost use Rattle.std.specs.Prelude.{◌≡◌, ◌++◌, OnOk, IfOk};
 ghost use Rattle.lio_labels.specs.LabelPrint.{AreNamed};
-ghost use Rattle.lio_values.specs.ValueText.{labels_text, numbers_text, kind_text, fault_text, content_text, value_text};
-ghost use Rattle.lio_values.specs.Named.{IsKindNamed, IsFaultNamed, IsContentNamed, IsValueNamed};
+ghost use Rattle.lio_events.specs.ValueText.{labels_text, numbers_text, kind_text, fault_text, content_text, value_text};
+ghost use Rattle.lio_events.specs.Named.{IsKindNamed, IsFaultNamed, IsContentNamed, IsValueNamed};
 
-use crate::fault::{Fault, FaultKind};
-use crate::print::{print_label, print_number, print_power};
-use crate::value::{Content, Value};
 use lio_clauses::{Names, NoMemory};
 use lio_labels::Label;
+use lio_values::{Content, Fault, FaultKind, Value, print_label, print_number, print_power};
+use std::alloc::Global;
 
 /// Appends two labels, each after a blank.
-pub fn print_labels(
+pub fn append_labels(
     out: &mut Vec<u8>,
     first: &Label,
     second: &Label,
@@ -28,7 +27,7 @@ pub fn print_labels(
 }
 
 /// Appends a word and two labels.
-fn print_flow(
+fn append_flow(
     out: &mut Vec<u8>,
     word: &[u8],
     first: &Label,
@@ -40,11 +39,11 @@ fn print_flow(
     ensures { OnOk result (out.new.items ≡ out.old.items ++ (word.now ++ labels_text names.now first.now second.now)) }
 {
     out.extend_from_slice(word)?;
-    print_labels(out, first, second, names)
+    append_labels(out, first, second, names)
 }
 
 /// Appends a word and two numbers.
-fn print_numbers(out: &mut Vec<u8>, word: &[u8], asked: u64, left: u64) -> Result<(), NoMemory>
+fn append_numbers(out: &mut Vec<u8>, word: &[u8], asked: u64, left: u64) -> Result<(), NoMemory>
     ensures { OnOk result (out.new.items ≡ out.old.items ++ (word.now ++ numbers_text asked left)) }
 {
     out.extend_from_slice(word)?;
@@ -55,34 +54,34 @@ fn print_numbers(out: &mut Vec<u8>, word: &[u8], asked: u64, left: u64) -> Resul
 }
 
 /// Appends the kind of a fault.
-fn print_kind(out: &mut Vec<u8>, kind: &FaultKind, names: &Names) -> Result<(), NoMemory>
+fn append_kind(out: &mut Vec<u8>, kind: &FaultKind, names: &Names) -> Result<(), NoMemory>
     requires { IsKindNamed names.now kind.now }
     ensures { OnOk result (out.new.items ≡ out.old.items ++ kind_text names.now kind.now) }
 {
     match kind {
         FaultKind::FlowCurrent(current, target) => {
-            print_flow(out, b"flow_current", current, target, names)?
+            append_flow(out, b"flow_current", current, target, names)?
         }
         FaultKind::FlowClearance(target, clearance) => {
-            print_flow(out, b"flow_clearance", target, clearance, names)?
+            append_flow(out, b"flow_clearance", target, clearance, names)?
         }
         FaultKind::FlowRaise(raised, clearance) => {
-            print_flow(out, b"flow_raise", raised, clearance, names)?
+            append_flow(out, b"flow_raise", raised, clearance, names)?
         }
         FaultKind::FlowPrivilege(power, source, target) => {
             out.extend_from_slice(b"flow_privilege ")?;
             print_power(out, power, names)?;
-            print_labels(out, source, target, names)?
+            append_labels(out, source, target, names)?
         }
         FaultKind::BadType => out.extend_from_slice(b"bad_type")?,
         FaultKind::Overflow => out.extend_from_slice(b"overflow")?,
         FaultKind::DivZero => out.extend_from_slice(b"div_zero")?,
         FaultKind::TooLong => out.extend_from_slice(b"too_long")?,
         FaultKind::NoTurns => out.extend_from_slice(b"no_turns")?,
-        FaultKind::NoCells(asked, left) => print_numbers(out, b"no_cells", *asked, *left)?,
-        FaultKind::ChildTurns(asked, left) => print_numbers(out, b"child_turns", *asked, *left)?,
+        FaultKind::NoCells(asked, left) => append_numbers(out, b"no_cells", *asked, *left)?,
+        FaultKind::ChildTurns(asked, left) => append_numbers(out, b"child_turns", *asked, *left)?,
         FaultKind::Depth => out.extend_from_slice(b"depth")?,
-        FaultKind::LabelWide(left, right) => print_flow(out, b"label_wide", left, right, names)?,
+        FaultKind::LabelWide(left, right) => append_flow(out, b"label_wide", left, right, names)?,
         FaultKind::User(plain) => {
             out.extend_from_slice(b"user ")?;
             plain.print_to(out, names)?
@@ -92,17 +91,37 @@ fn print_kind(out: &mut Vec<u8>, kind: &FaultKind, names: &Names) -> Result<(), 
 }
 
 /// Appends a fault.
-pub fn print_fault(out: &mut Vec<u8>, fault: &Fault, names: &Names) -> Result<(), NoMemory>
+pub fn append_fault(out: &mut Vec<u8>, fault: &Fault, names: &Names) -> Result<(), NoMemory>
     requires { IsFaultNamed names.now fault.now }
     ensures { OnOk result (out.new.items ≡ out.old.items ++ fault_text names.now fault.now) }
 {
-    print_kind(out, &fault.kind, names)?;
+    append_kind(out, &fault.kind, names)?;
     out.extend_from_slice(b" at ")?;
     print_label(out, &fault.at, names)
 }
 
+/// The text of a content.
+pub fn print_content(alloc: Global, content: &Content, names: &Names) -> Result<Vec<u8>, NoMemory>
+    requires { IsContentNamed names.now content.now }
+    ensures { IfOk result (λ text. text.items ≡ content_text names.now content.now) }
+{
+    let mut out = Vec::new(alloc);
+    append_content(&mut out, content, names)?;
+    Ok(out)
+}
+
+/// The text of a value.
+pub fn print_value(alloc: Global, value: &Value, names: &Names) -> Result<Vec<u8>, NoMemory>
+    requires { IsValueNamed names.now value.now }
+    ensures { IfOk result (λ text. text.items ≡ value_text names.now value.now) }
+{
+    let mut out = Vec::new(alloc);
+    append_value(&mut out, value, names)?;
+    Ok(out)
+}
+
 /// Appends a content.
-pub fn print_content(out: &mut Vec<u8>, content: &Content, names: &Names) -> Result<(), NoMemory>
+pub fn append_content(out: &mut Vec<u8>, content: &Content, names: &Names) -> Result<(), NoMemory>
     requires { IsContentNamed names.now content.now }
     ensures { OnOk result (out.new.items ≡ out.old.items ++ content_text names.now content.now) }
 {
@@ -110,7 +129,7 @@ pub fn print_content(out: &mut Vec<u8>, content: &Content, names: &Names) -> Res
         Content::Kept(plain) => plain.print_to(out, names),
         Content::Faulted(fault) => {
             out.extend_from_slice(b"fault(")?;
-            print_fault(out, fault.get(), names)?;
+            append_fault(out, fault.get(), names)?;
             out.push(b')')?;
             Ok(())
         }
@@ -119,7 +138,7 @@ pub fn print_content(out: &mut Vec<u8>, content: &Content, names: &Names) -> Res
 }
 
 /// Appends a value.
-pub fn print_value(out: &mut Vec<u8>, value: &Value, names: &Names) -> Result<(), NoMemory>
+pub fn append_value(out: &mut Vec<u8>, value: &Value, names: &Names) -> Result<(), NoMemory>
     requires { IsValueNamed names.now value.now }
     ensures { OnOk result (out.new.items ≡ out.old.items ++ value_text names.now value.now) }
 {
@@ -129,7 +148,7 @@ pub fn print_value(out: &mut Vec<u8>, value: &Value, names: &Names) -> Result<()
             out.extend_from_slice(b"sealed")?;
             print_label(out, label, names)?;
             out.push(b'(')?;
-            print_content(out, content.get(), names)?;
+            append_content(out, content.get(), names)?;
             out.push(b')')?;
             Ok(())
         }
