@@ -51,7 +51,7 @@ pub struct Draft {
 }
 
 /// An argument of a task whose label or formula is read.
-#[derive(Debug, Drop)]
+#[derive(Drop)]
 pub enum LabelledArg {
     /// The input with this name.
     Input(Text),
@@ -61,7 +61,7 @@ pub enum LabelledArg {
 }
 
 /// A task whose labels and formulas are read.
-#[derive(Debug, Drop)]
+#[derive(Drop)]
 pub struct LabelledTask {
     pub name: Text,
     pub proc_name: Text,

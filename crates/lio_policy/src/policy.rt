@@ -13,7 +13,7 @@ pub struct FileEntry {
 }
 
 /// An argument of a task.
-#[derive(Debug, Drop)]
+#[derive(Drop)]
 pub enum Arg {
     /// The input with this number.
     Input(u32),
@@ -21,7 +21,7 @@ pub enum Arg {
 }
 
 /// A task: the procedure that it runs, its label and clearance, and the turns, cells and arguments that it is given.
-#[derive(Debug, Drop)]
+#[derive(Drop)]
 pub struct TaskEntry {
     pub name: Text,
     pub proc_name: Text,
