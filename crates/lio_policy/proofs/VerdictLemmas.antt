@@ -1,5 +1,5 @@
 -- What the rules decide.
-use Rattle.std.proofs.Common.{◌≡◌, ◌∙◌, ◌⊎◌, inl, inr, ℕ, List, ◌∷◌, length, map, Option, Some, None, Result, Ok, Err, IfErr, sym, ap, subst}
+use Rattle.std.proofs.Common.{◌≡◌, ◌∙◌, ◌⊎◌, inl, inr, ℕ, List, ◌∷◌, length, map, Option, Some, None, Result, Ok, Err, IfOk, IfErr, sym, ap, subst}
 use Rattle.std.specs.List.{filter_map}
 use Rattle.serde_json.specs.Data.{Data}
 use Rattle.serde_json.specs.Find.{as_str}
@@ -8,7 +8,7 @@ use Rattle.serde_json.specs.declared.value.Value.{Value}
 use Rattle.lio_policy.specs.Converted.{first_failing, unmade}
 use Rattle.lio_policy.specs.Shape.{Parts, parts_of, file_of, task_of}
 use Rattle.lio_policy.specs.Rules.{Failing, entries, version_fails, names_fail, labels_fail, flow_fails, arguments_fail, limits_fail, files_fail, file_entry, task_entry, known, tasks_of, longest_of}
-use Rattle.lio_policy.specs.Verdict.{fault_at, blamed, first_fault, least, made, judged, unless_fault, shape_fails, drafted, draft_of, document_of, from_document, from_parts, from_draft, policy_of}
+use Rattle.lio_policy.specs.Verdict.{Gives, fault_at, blamed, first_fault, least, made, judged, unless_fault, shape_fails, drafted, draft_of, document_of, from_document, from_parts, from_draft, policy_of}
 use Rattle.lio_policy.specs.declared.draft.Draft.{Draft}
 use Rattle.lio_policy.specs.declared.draft.FileDraft.{FileDraft}
 use Rattle.lio_policy.specs.declared.draft.TaskDraft.{TaskDraft}
@@ -172,7 +172,12 @@ pub is_judged : (bytes : List ℕ) (document : Data) (d : Draft) → document_of
 unfolding policy_of
 is_judged bytes document d is e = ap (λ o. from_draft (from_document o)) is ∙ ap from_draft e
 
-pub fault_weaker : (r : Result Policy PolicyFault) (d : Draft) (bytes : List ℕ) → policy_of bytes ≡ judged d → IfErr r (λ fault. (fault ≡ NoMemory) ⊎ (judged d ≡ Err fault)) → IfErr r (λ fault. (fault ≡ NoMemory) ⊎ (policy_of bytes ≡ Err fault))
-fault_weaker (Ok policy) d bytes same h = tt
-fault_weaker (Err fault) d bytes same (inl e) = inl e
-fault_weaker (Err fault) d bytes same (inr e) = inr (same ∙ e)
+-- so what a draft gives, its text gives
+pub gives_ok : (r : Result Policy PolicyFault) (d : Draft) (bytes : List ℕ) → policy_of bytes ≡ judged d → Gives (judged d) r → IfOk r (λ policy. policy_of bytes ≡ Ok policy)
+gives_ok (Ok policy) d bytes same h = same ∙ h
+gives_ok (Err fault) d bytes same h = tt
+
+pub gives_fault : (r : Result Policy PolicyFault) (d : Draft) (bytes : List ℕ) → policy_of bytes ≡ judged d → Gives (judged d) r → IfErr r (λ fault. (fault ≡ NoMemory) ⊎ (policy_of bytes ≡ Err fault))
+gives_fault (Ok policy) d bytes same h = tt
+gives_fault (Err fault) d bytes same (inl e) = inl e
+gives_fault (Err fault) d bytes same (inr e) = inr (same ∙ e)

@@ -68,15 +68,21 @@ pub(crate) fn whole_at(value: &Value, key: &str) -> Option<Option<u64>>
     }
 }
 
+/// A number that has 32 bits.
+fn of_32_bits(number: u64) -> Option<u32>
+    ensures { result ≡ spec.of_32_bits number }
+{
+    if number <= u32::MAX as u64 {
+        Some(number as u32)
+    } else {
+        None
+    }
+}
+
 /// The whole number of 32 bits without sign at a key.
 pub(crate) fn count_at(value: &Value, key: &str) -> Option<u32>
     ensures { result ≡ spec.count_at key.now (view value.now) }
 {
     let found = value.get(key)?;
-    let number = found.as_u64()?;
-    if number < 1 << 32 {
-        Some(number as u32)
-    } else {
-        None
-    }
+    of_32_bits(found.as_u64()?)
 }
