@@ -1,6 +1,6 @@
 use Rattle.std.proofs.Common.{◌≡◌, ◌≤◌, drop}
 use Rattle.lio_clauses.specs.Names.{bad_place, name_fault}
-use Rattle.lio_clauses.proofs.names.fault_place.Given as goal
+use Rattle.lio_clauses.proofs.names.name_fault.Given as goal
 
 -- what stands before the place may stand there
 abbrev pub invariant-loop-place : goal.invariant-loop-place
