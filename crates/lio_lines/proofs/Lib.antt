@@ -1,3 +1,4 @@
 pub mod WordLemmas
 pub mod LiteralLemmas
 pub mod FormLemmas
+pub mod HeaderLemmas

@@ -1,5 +1,5 @@
 -- The forms of lines: each is a first word and what follows it. A reading gives a value and the words after it.
-use Rattle.std.specs.Prelude.{ℕ, ◌==◌, nat_le, if◌then◌else◌, Bool, nat_eq, List, [], ◌∷◌, length, codes, bytes_eq, Option, Some, None}
+use Rattle.std.specs.Prelude.{ℕ, ◌==◌, nat_le, if◌then◌else◌, Bool, true, false, nat_eq, List, [], ◌∷◌, length, codes, bytes_eq, Option, Some, None}
 use Rattle.std.specs.List.{starts_with}
 use Rattle.std.specs.Option.{option_map}
 use Rattle.lio_lines.specs.declared.keyword.Keyword.{Keyword}
@@ -228,6 +228,15 @@ parsed None = Invalid
 -- whether a word begins a comment
 abbrev pub begins_comment : List ℕ → Bool
 begins_comment word = starts_with nat_eq word (codes "#")
+
+-- whether a word begins a procedure
+abbrev pub is_proc_keyword : Option Keyword → Bool
+is_proc_keyword None = false
+is_proc_keyword (Some keyword.Proc) = true
+is_proc_keyword (Some other) = false
+
+abbrev pub is_proc : List ℕ → Bool
+is_proc word = is_proc_keyword (keyword_of word)
 
 -- the line that begins with the word
 abbrev pub words_line : List (List ℕ) → List ℕ → List (List ℕ) → Option Line

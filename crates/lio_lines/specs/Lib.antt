@@ -5,3 +5,5 @@ pub mod Literals
 pub mod Operands
 pub mod Forms
 pub mod WellFormed
+pub mod Header
+pub mod Limited

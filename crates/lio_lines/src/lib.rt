@@ -3,6 +3,7 @@
 
 mod fault;
 mod forms;
+mod header;
 mod keyword;
 mod line;
 mod literals;
@@ -11,6 +12,7 @@ mod read;
 mod shapes;
 mod words;
 
+pub use header::read_header;
 pub use keyword::Keyword;
 pub use line::{Line, Operand, Operands, ParsedLine, Simple, Texts};
 pub use operators::{One, Two};

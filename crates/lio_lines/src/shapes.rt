@@ -13,7 +13,7 @@ use lio_values::{List, Text};
 use std::alloc::Global;
 
 /// The most parameters of a procedure.
-const MOST_PARAMETERS: usize = 8;
+pub(crate) const MOST_PARAMETERS: usize = 8;
 
 impl<'a> Words<'a> {
     /// `A`

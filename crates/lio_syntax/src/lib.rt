@@ -1,8 +1,10 @@
-//! Scripts: their statements, and how a script is read from its text.
+//! Scripts: their procedures, and how a script is read from its text and printed.
 #![tactic(auto)]
 
-mod read;
-mod script;
+mod fault;
+mod headers;
+mod open_block;
+mod rules;
+mod text;
 
-pub use read::{ScriptFault, read_script};
-pub use script::{Script, Stmt};
+pub use fault::ScriptFault;
