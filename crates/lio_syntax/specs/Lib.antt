@@ -1,8 +1,11 @@
 pub mod Statements
 pub mod Lines
 pub mod Behind
+pub mod ScriptCode
 pub mod OpenBlocks
 pub mod Rules
 pub mod Verdict
 pub mod Refusal
 pub mod Headers
+pub mod Progress
+pub mod Kept

@@ -4,7 +4,12 @@
 mod fault;
 mod headers;
 mod open_block;
+mod progress;
+mod read;
 mod rules;
+mod script;
 mod text;
 
 pub use fault::ScriptFault;
+pub use read::read_script;
+pub use script::Script;

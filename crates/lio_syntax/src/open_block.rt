@@ -1,5 +1,6 @@
 //! The blocks that are open at a place in a script.
 ghost use Rattle.std.specs.Prelude.{◌≡◌, ◌∷◌, [], ◌<◌, length, drop, MatchBool, MatchOption, OnOk};
+ghost use Rattle.lio_syntax.specs.OpenBlocks.{misplaced_outside};
 
 use lio_clauses::NoMemory;
 use lio_lines::Line;
@@ -35,7 +36,7 @@ impl Model for OpenBlocks {
 
     ghost Value = { List OpenBlock };
 
-    ghost view = { λ open. reverse open.blocks.items };
+    ghost view = { λ stack. reverse stack.blocks.items };
 }
 
 impl OpenBlock {

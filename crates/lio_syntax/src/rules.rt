@@ -24,6 +24,7 @@ fn contains(names: &[Text], name: &[u8]) -> bool
 }
 
 /// Whether a name is there twice.
+#[tactic(auto, unfolding(crate::specs::Rules::has_twice))]
 pub(crate) fn has_twice(names: &[Text]) -> bool
     ensures { result ≡ spec.has_twice names.now }
 {

@@ -24,10 +24,9 @@ pub(crate) fn split_line(text: &[u8]) -> Option<(&[u8], &[u8])>
         return None;
     }
     let len = line_len(text);
-    let behind = if len < text.len() {
-        &text[len + 1..]
+    if len < text.len() {
+        Some((&text[..len], &text[len + 1..]))
     } else {
-        &text[len..]
-    };
-    Some((&text[..len], behind))
+        Some((&text[..len], &text[len..]))
+    }
 }

@@ -1,0 +1,17 @@
+use Rattle.std.proofs.Common.{◌≡◌, ◌++◌, List, length, All}
+use Rattle.lio_lines.specs.declared.line.ParsedLine.{ParsedLine}
+use Rattle.lio_lines.specs.WellFormed.{IsLine}
+use Rattle.lio_syntax.specs.Progress.{Stands}
+use Rattle.lio_syntax.specs.Verdict.{parsed_lines, lines_fault, first_fault}
+use Rattle.lio_syntax.proofs.ReadLemmas.{Reached}
+use Rattle.lio_syntax.proofs.read.read_script.Given as goal
+
+-- the lines so far break no rule, and the first fault is behind them
+abbrev pub invariant-lines : goal.invariant-lines
+invariant-lines l = record {
+  reached : Reached (parsed_lines l.names l.fn.bytes) l.progress (parsed_lines l.names l.rest);
+  sound : All (IsLine l.names) l.progress.lines.items;
+}
+
+abbrev pub decreases-lines : goal.decreases-lines
+decreases-lines l = length l.rest
