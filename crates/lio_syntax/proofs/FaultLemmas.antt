@@ -1,5 +1,5 @@
 -- On the lines before a place, and on lines that break no rule.
-use Rattle.std.proofs.Common.{◌≡◌, ℕ, suc, ◌+◌, ◌≤◌, Bool, true, false, not, ◌&&◌, ◌||◌, cond, IsTrue, List, [], ◌∷◌, ◌++◌, length, map, refl, ap, sym, ◌∙◌, arith, Option, Some, None, is_some, is_none, true≢false}
+use Rattle.std.proofs.Common.{◌≡◌, ℕ, suc, ◌+◌, ◌≤◌, Bool, true, false, not, ◌&&◌, ◌||◌, List, [], ◌∷◌, ◌++◌, length, map, refl, ap, sym, ◌∙◌, arith, Option, Some, None, is_some, is_none, true≢false}
 use Rattle.std.specs.Prelude.{nat_le, if◌then◌else◌}
 use Rattle.std.proofs.lemmas.List.{map-append}
 use Rattle.std.proofs.lemmas.Bool.Decides.{nat_tests}
@@ -8,11 +8,10 @@ use Rattle.lio_lines.specs.declared.line.ParsedLine.{ParsedLine}
 use Rattle.lio_lines.specs.declared.line.ParsedLine.TheVariants.{Blank, Invalid, Says}
 use Rattle.lio_lines.specs.Header.{Signature, header_of, parsed_header, line_call}
 use Rattle.lio_syntax.specs.declared.open_block.OpenBlock.{OpenBlock}
-use Rattle.lio_syntax.specs.Statements.{Procedure}
 use Rattle.lio_syntax.specs.Lines.{script_lines}
 use Rattle.lio_syntax.specs.Behind.{script_of_lines}
 use Rattle.lio_syntax.specs.OpenBlocks.{is_misplaced, opened_by, opened_behind, open_from, open_behind, block_count}
-use Rattle.lio_syntax.specs.Rules.{or_else, count_if_named, parameters_of, procedure_count, is_unknown, has_other_count, is_again, repeats_parameter, opens_block, is_past_limits, broken_call, broken_header, broken_limit, broken_by, broken_rule}
+use Rattle.lio_syntax.specs.Rules.{or_else, count_if_named, parameters_of, procedure_count, is_unknown, has_other_count, is_again, opens_block, is_past_limits, broken_call, broken_header, broken_limit, broken_by, broken_rule}
 use Rattle.lio_syntax.specs.Verdict.{Place, said, unclosed, fault_or, first_fault, lines_fault}
 use Rattle.lio_syntax.specs.Kept.{KeepsRules}
 use Rattle.lio_syntax.proofs.GrammarLemmas.{accepts, script_lines-accepted}

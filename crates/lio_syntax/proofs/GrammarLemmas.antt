@@ -1,5 +1,5 @@
 -- The lines of a script give the script, and lines that stand where they can are those of a script.
-use Rattle.std.proofs.Common.{◌≡◌, ℕ, Bool, true, false, not, ◌&&◌, IsTrue, List, [], ◌∷◌, drop, refl, ap, sym, ◌∙◌, true≢false}
+use Rattle.std.proofs.Common.{◌≡◌, ℕ, Bool, true, false, not, ◌&&◌, List, [], ◌∷◌, refl, ap, sym, ◌∙◌, true≢false}
 use Rattle.std.proofs.lemmas.Bool.{and_parts}
 use Rattle.lio_lines.specs.declared.line.Operand.{Operand}
 use Rattle.lio_lines.specs.declared.line.Simple.{Simple}
@@ -10,7 +10,7 @@ use Rattle.lio_syntax.specs.declared.open_block.OpenBlock.TheVariants as open_bl
 use Rattle.lio_syntax.specs.Statements.{Statement, Statements, Do, If, IfElse, While, Try, Nothing, Then, Procedure}
 use Rattle.lio_syntax.specs.Lines.{statement_lines, block_lines, script_lines}
 use Rattle.lio_syntax.specs.Behind.{Behind, Outside, Block, First, Tried, in_front, before_if, before_while, before_try, before_else, before_catch, before_proc, behind, procedures, script_of_lines}
-use Rattle.lio_syntax.specs.OpenBlocks.{is_if, is_try, misplaced_in, is_misplaced, opened_by}
+use Rattle.lio_syntax.specs.OpenBlocks.{is_if, is_try, is_misplaced, opened_by}
 
 -- whether lines stand where they can, before which these are open, and nothing is open in the end
 unfoldable pub accepts : List OpenBlock → List Line → Bool

@@ -1,11 +1,10 @@
 -- On tables of procedures.
-use Rattle.std.proofs.Common.{◌≡◌, ℕ, Bool, true, false, cond, if◌then◌else◌, List, [], ◌∷◌, ◌++◌, refl, ap, sym, ◌∙◌, Option, Some, None, Vec, bytes_eq, IsSome, is_some, true≢false}
+use Rattle.std.proofs.Common.{◌≡◌, ℕ, Bool, true, false, cond, if◌then◌else◌, List, [], ◌∷◌, refl, ap, sym, ◌∙◌, Option, Some, None, Vec, bytes_eq, is_some, true≢false}
 use Rattle.std.specs.Global.{Global}
 use Rattle.std.specs.Map.{lookup}
 use Rattle.std.proofs.lemmas.Slice.Eq.{bytes_eq-Decides}
 use Rattle.indexmap.specs.IndexMap.{insert_entry}
-use Rattle.lio_lines.specs.Header.{Signature}
-use Rattle.lio_syntax.specs.Rules.{or_else, count_if_named}
+use Rattle.lio_syntax.specs.Rules.{or_else}
 
 -- what a table has under a name
 abbrev pub under : List ℕ → List (Vec ℕ Global × ℕ) → Option ℕ
@@ -56,6 +55,7 @@ under-again q name count entries some = by (bytes_eq q name) refl
     there : (o : Option ℕ) → is_some o ≡ true → o ≡ or_else o (Some count)
     there None e = absurd (true≢false (sym e))
     there (Some n) e = refl
+
     by : (b : Bool) → bytes_eq q name ≡ b → under q entries ≡ or_else (under q entries) (if b then Some count else None)
     by false e = sym (or_else-none (under q entries))
     by true e = let same : q ≡ name = (bytes_eq-Decides q name).0 e in there (under q entries) (ap (λ n. is_some (under n entries)) same ∙ some)

@@ -1,5 +1,5 @@
 -- How reading goes from line to line.
-use Rattle.std.proofs.Common.{◌≡◌, ℕ, suc, ◌+◌, Bool, List, [], ◌∷◌, ◌++◌, length, length-append, refl, ap, sym, ◌∙◌, arith, Option, Some, None, is_some}
+use Rattle.std.proofs.Common.{◌≡◌, ℕ, suc, ◌+◌, List, [], ◌∷◌, ◌++◌, length, length-append, ap, sym, ◌∙◌, arith, is_some}
 use Rattle.std.specs.Prelude.{if◌then◌else◌}
 use Rattle.lio_lines.specs.declared.line.Line.{Line}
 use Rattle.lio_lines.specs.declared.line.ParsedLine.{ParsedLine}
@@ -10,7 +10,7 @@ use Rattle.lio_syntax.specs.declared.progress.Progress.{Progress}
 use Rattle.lio_syntax.specs.Headers.{count_in, Knows}
 use Rattle.lio_syntax.specs.OpenBlocks.{opened_by, opened_behind}
 use Rattle.lio_syntax.specs.Progress.{Stands}
-use Rattle.lio_syntax.specs.Rules.{or_else, count_if_named, parameters_of, procedure_count}
+use Rattle.lio_syntax.specs.Rules.{or_else, count_if_named}
 use Rattle.lio_syntax.specs.Verdict.{said}
 use Rattle.lio_syntax.proofs.FaultLemmas.{open_from-push, parameters_of-push, procedure_count-push, said-push, said-blank}
 use Rattle.lio_syntax.proofs.HeaderLemmas.{or_else-none}

@@ -1,11 +1,13 @@
 -- How far the reading of a text has come.
-use Rattle.std.proofs.Common.{◌≡◌, ℕ, ◌+◌, ◌≤◌, Bool, true, false, List, [], ◌∷◌, ◌++◌, length, map, refl, ap, sym, ◌∙◌, arith, Option, Some, None, append_assoc}
+use Rattle.std.proofs.Common.{◌≡◌, ℕ, ◌+◌, ◌≤◌, true, false, List, [], ◌∷◌, ◌++◌, length, map, refl, ap, sym, ◌∙◌, ◌<◌, arith, Option, Some, None, append_assoc, All, subst}
 use Rattle.std.proofs.lemmas.List.{append-nil}
 use Rattle.std.proofs.lemmas.Bool.Decides.{nat_tests}
 use Rattle.std.specs.Prelude.{nat_lt}
 use Rattle.lio_lines.specs.declared.line.Line.{Line}
 use Rattle.lio_lines.specs.declared.line.ParsedLine.{ParsedLine}
 use Rattle.lio_lines.specs.Forms.{line_of}
+use Rattle.lio_lines.specs.Header.{Signature, parsed_header}
+use Rattle.lio_lines.specs.WellFormed.{IsLine}
 use Rattle.lio_syntax.specs.declared.fault.ScriptFault.{ScriptFault}
 use Rattle.lio_syntax.specs.declared.fault.ScriptFault.TheVariants.{Bad, NoMemory}
 use Rattle.lio_syntax.specs.declared.progress.Progress.{Progress}
@@ -15,10 +17,11 @@ use Rattle.lio_syntax.specs.Lines.{script_lines}
 use Rattle.lio_syntax.specs.OpenBlocks.{open_behind}
 use Rattle.lio_syntax.specs.Progress.{Stands}
 use Rattle.lio_syntax.specs.Refusal.{Refuses}
-use Rattle.lio_syntax.specs.Rules.{broken_rule}
+use Rattle.lio_syntax.specs.Rules.{broken_rule, or_else, count_if_named, parameters_of}
 use Rattle.lio_syntax.specs.Statements.{Procedure}
-use Rattle.lio_syntax.specs.Verdict.{Place, text_lines, parsed_lines, said, unclosed, fault_or, first_fault, lines_fault, script_fault, IsScript}
+use Rattle.lio_syntax.specs.Verdict.{Place, text_lines, parsed_lines, said, unclosed, fault_or, first_fault, lines_fault, script_fault, IsScript, IsOver}
 use Rattle.lio_syntax.proofs.FaultLemmas.{none-keeps, keeps-lines}
+use Rattle.lio_syntax.proofs.HeaderLemmas.{or_else-none, or_else-assoc}
 
 -- the reading stands behind lines that break no rule, before the rest
 pub record Reached (all : List ParsedLine) (progress : Progress) (rest : List ParsedLine) : Type 0 where
@@ -42,7 +45,7 @@ reached-step all old new line rest reached step = record {
   fault = reached.fault ∙ ap (λ rule. fault_or rule (length reached.before + 1) (first_fault all (reached.before ++ line ∷ []) rest)) step.0;
 }
 
-abbrev at_place : ℕ → ℕ → Place
+abbrev pub at_place : ℕ → ℕ → Place
 at_place line rule = record { line = line; rule = rule }
 
 fault_kept : (rule : Option ℕ) (line : ℕ) (more : Option Place) (fault : ScriptFault) → Refuses (fault_or rule line None) fault → Refuses (fault_or rule line more) fault
@@ -94,3 +97,36 @@ reached-script names text progress lines script few reached same closed is = rec
   no_fault = short names text few ∙ none_open (parsed_lines names text) progress reached closed;
   lines = sym (same ∙ said_all (parsed_lines names text) progress reached) ∙ sym (ap script_lines is ∙ keeps-lines lines (reached-keeps (parsed_lines names text) progress lines reached same closed));
 }
+
+-- the first line of a rest, as it is read
+pub parsed-split : (names : List (List ℕ)) (rest line behind : List ℕ) (parsed : ParsedLine) → text_lines rest ≡ line ∷ text_lines behind → parsed ≡ line_of names line
+    → parsed_lines names rest ≡ parsed ∷ parsed_lines names behind
+parsed-split names rest line behind parsed e is = ap (map (line_of names)) e ∙ ap (λ p. p ∷ parsed_lines names behind) (sym is)
+
+-- no line is left
+pub parsed-none : (names : List (List ℕ)) (rest : List ℕ) → text_lines rest ≡ [] → parsed_lines names rest ≡ []
+parsed-none names rest e = ap (map (line_of names)) e
+
+-- the procedures of a rest are that of its first line and those behind it
+pub headers-step : (names : List (List ℕ)) (rest line behind q : List ℕ) (all old new : Option ℕ) (header : Option Signature)
+    → all ≡ or_else old (parameters_of (parsed_lines names rest) q) → text_lines rest ≡ line ∷ text_lines behind → parsed_header (line_of names line) ≡ header
+    → new ≡ or_else old (count_if_named q header) → all ≡ or_else new (parameters_of (parsed_lines names behind) q)
+unfolding parameters_of
+headers-step names rest line behind q all old new header e split is more =
+    e ∙ ap (λ lines. or_else old (parameters_of lines q)) (parsed-split names rest line behind (line_of names line) split refl)
+    ∙ sym (or_else-assoc old (count_if_named q (parsed_header (line_of names line))) (parameters_of (parsed_lines names behind) q))
+    ∙ ap (λ h. or_else (or_else old (count_if_named q h)) (parameters_of (parsed_lines names behind) q)) is
+    ∙ ap (λ o. or_else o (parameters_of (parsed_lines names behind) q)) (sym more)
+
+pub headers-end : (names : List (List ℕ)) (rest q : List ℕ) (all old : Option ℕ) → all ≡ or_else old (parameters_of (parsed_lines names rest) q) → text_lines rest ≡ [] → old ≡ all
+unfolding parameters_of
+headers-end names rest q all old e none = sym (e ∙ ap (λ lines. or_else old (parameters_of lines q)) (parsed-none names rest none) ∙ or_else-none old)
+
+-- more than 262,144 bytes
+pub too_long : (names : List (List ℕ)) (text : List ℕ) → 262144 < length text → script_fault names text ≡ Some (at_place 0 7)
+unfolding script_fault
+too_long names text many = let yes : nat_lt 262144 (length text) ≡ true = grind (arith, nat_tests) in rw yes refl
+
+-- each line of the script is over the names
+pub over-script : (names : List (List ℕ)) (lines : List Line) (script : List Procedure) → KeepsRules lines → script ≡ script_of_lines lines → All (IsLine names) lines → IsOver names script
+over-script names lines script keeps is over = let same : script_lines script ≡ lines = ap script_lines is ∙ keeps-lines lines keeps in subst (All (IsLine names)) (sym same) over

@@ -1,5 +1,5 @@
 -- The grammar of scripts: the lines of each statement and each procedure, before other lines.
-use Rattle.std.specs.Prelude.{ℕ, List, [], ◌∷◌}
+use Rattle.std.specs.Prelude.{List, [], ◌∷◌}
 use Rattle.lio_lines.specs.declared.line.Line.{Line}
 use Rattle.lio_lines.specs.declared.line.Line.TheVariants as line
 use Rattle.lio_syntax.specs.Statements.{Statement, Statements, Do, If, IfElse, While, Try, Nothing, Then, Procedure}

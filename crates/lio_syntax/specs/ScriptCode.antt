@@ -38,14 +38,14 @@ mutual
       ap (before_if a) (behind-block_lines block (line.End ∷ rest) ∙ all-block block (behind rest))
   behind-statement_lines (IfElse a block other) rest =
       ap (before_if a) (behind-block_lines block (line.Else ∷ block_lines other (line.End ∷ rest))
-        ∙ ap (λ k. in_front_all block (before_else k)) (behind-block_lines other (line.End ∷ rest) ∙ all-block other (behind rest))
-        ∙ all-first block other (behind rest))
+      ∙ ap (λ k. in_front_all block (before_else k)) (behind-block_lines other (line.End ∷ rest) ∙ all-block other (behind rest))
+      ∙ all-first block other (behind rest))
   behind-statement_lines (While a block) rest =
       ap (before_while a) (behind-block_lines block (line.End ∷ rest) ∙ all-block block (behind rest))
   behind-statement_lines (Try block x y handler) rest =
       ap before_try (behind-block_lines block (line.Catch x y ∷ block_lines handler (line.End ∷ rest))
-        ∙ ap (λ k. in_front_all block (before_catch x y k)) (behind-block_lines handler (line.End ∷ rest) ∙ all-block handler (behind rest))
-        ∙ all-tried block x y handler (behind rest))
+      ∙ ap (λ k. in_front_all block (before_catch x y k)) (behind-block_lines handler (line.End ∷ rest) ∙ all-block handler (behind rest))
+      ∙ all-tried block x y handler (behind rest))
 
   behind-block_lines : (block : Statements) (rest : List Line) → behind (block_lines block rest) ≡ in_front_all block (behind rest)
   behind-block_lines Nothing rest = refl

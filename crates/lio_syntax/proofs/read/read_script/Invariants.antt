@@ -1,8 +1,6 @@
-use Rattle.std.proofs.Common.{◌≡◌, ◌++◌, List, length, All}
-use Rattle.lio_lines.specs.declared.line.ParsedLine.{ParsedLine}
+use Rattle.std.proofs.Common.{length, All}
 use Rattle.lio_lines.specs.WellFormed.{IsLine}
-use Rattle.lio_syntax.specs.Progress.{Stands}
-use Rattle.lio_syntax.specs.Verdict.{parsed_lines, lines_fault, first_fault}
+use Rattle.lio_syntax.specs.Verdict.{parsed_lines}
 use Rattle.lio_syntax.proofs.ReadLemmas.{Reached}
 use Rattle.lio_syntax.proofs.read.read_script.Given as goal
 

@@ -1,4 +1,4 @@
-use Rattle.std.proofs.Common.{◌≡◌, None, sym, ◌∙◌, ap, is_some}
+use Rattle.std.proofs.Common.{sym, ◌∙◌, ap, is_some}
 use Rattle.lio_syntax.proofs.HeaderLemmas.{under, under-insert, not_there}
 use Rattle.lio_syntax.proofs.headers.Headers.add.Goals as goal
 

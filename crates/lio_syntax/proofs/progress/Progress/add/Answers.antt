@@ -1,4 +1,4 @@
-use Rattle.std.proofs.Common.{◌∷◌, ◌++◌, [], sym, ap, ◌∙◌}
+use Rattle.std.proofs.Common.{◌∷◌, ◌++◌, [], ap, ◌∙◌}
 use Rattle.lio_syntax.specs.OpenBlocks.{opened_by}
 use Rattle.lio_syntax.proofs.ProgressLemmas.{stands-says}
 use Rattle.lio_syntax.proofs.progress.Progress.add.Goals as goal

@@ -1,5 +1,4 @@
-use Rattle.std.proofs.Common.{◌≡◌, ℕ, List, sym, ap, ◌∙◌, Some, None, Option}
-use Rattle.lio_lines.specs.Header.{Signature}
+use Rattle.std.proofs.Common.{sym, ap, ◌∙◌}
 use Rattle.lio_syntax.specs.Headers.{count_in}
 use Rattle.lio_syntax.specs.Rules.{or_else, count_if_named}
 use Rattle.lio_syntax.proofs.HeaderLemmas.{or_else-none}
