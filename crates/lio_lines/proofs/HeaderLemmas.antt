@@ -1,5 +1,5 @@
 -- On the procedures that lines begin.
-use Rattle.std.proofs.Common.{◌≡◌, ◌≢◌, ℕ, suc, ◌+◌, ◌≤◌, ◌<◌, Bool, true, false, List, [], ◌∷◌, ◌++◌, length, refl, ap, sym, ◌∙◌, arith, Option, Some, None, cond, true≢false}
+use Rattle.std.proofs.Common.{◌≡◌, ℕ, suc, ◌+◌, ◌≤◌, Bool, true, false, List, [], ◌∷◌, length, refl, ap, sym, ◌∙◌, arith, Option, Some, None, true≢false}
 use Rattle.std.proofs.lemmas.Bool.Decides.{nat_tests}
 use Rattle.std.specs.Prelude.{nat_le, if◌then◌else◌}
 use Rattle.std.specs.Option.{option_map}
@@ -7,9 +7,7 @@ use Rattle.lio_lines.specs.declared.keyword.Keyword.{Keyword}
 use Rattle.lio_lines.specs.declared.keyword.Keyword.TheVariants as keyword
 use Rattle.lio_lines.specs.declared.line.Line.{Line}
 use Rattle.lio_lines.specs.declared.line.Line.TheVariants as line
-use Rattle.lio_lines.specs.declared.line.ParsedLine.{ParsedLine}
 use Rattle.lio_lines.specs.declared.line.ParsedLine.TheVariants.{Blank}
-use Rattle.lio_lines.specs.declared.line.Simple.{Simple}
 use Rattle.lio_lines.specs.Literals.{is_name}
 use Rattle.lio_lines.specs.Keyword.{keyword_of}
 use Rattle.lio_lines.specs.Forms.{◌>>=◌, ended, names_of, header, form, one, two_names, simple, parsed, is_proc_keyword, is_proc, begins_comment, words_line, line_of_words}

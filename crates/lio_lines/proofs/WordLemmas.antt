@@ -1,5 +1,5 @@
 -- How a line is cut into words.
-use Rattle.std.proofs.Common.{◌≡◌, ◌≢◌, ℕ, zero, suc, ◌+◌, ◌-◌, ◌<◌, ◌≤◌, ◌==◌, length, get_or, length-drop, add-one, Bool, true, false, cond, List, [], ◌∷◌, take, drop, refl, ap, sym, arith, ◌∙◌}
+use Rattle.std.proofs.Common.{◌≡◌, ◌≢◌, ℕ, suc, ◌+◌, ◌-◌, ◌<◌, ◌≤◌, ◌==◌, length, get_or, length-drop, add-one, Bool, true, false, cond, List, [], ◌∷◌, take, drop, refl, ap, sym, arith, ◌∙◌}
 use Rattle.std.proofs.lemmas.List.{take_all}
 use Rattle.std.specs.List.{onto_first}
 use Rattle.lio_lines.specs.declared.words.Place.{Place}

@@ -1,5 +1,5 @@
 -- The forms of lines: each is a first word and what follows it. A reading gives a value and the words after it.
-use Rattle.std.specs.Prelude.{ℕ, ◌==◌, nat_le, if◌then◌else◌, Bool, true, false, nat_eq, List, [], ◌∷◌, length, codes, bytes_eq, Option, Some, None}
+use Rattle.std.specs.Prelude.{ℕ, nat_le, if◌then◌else◌, Bool, true, false, nat_eq, List, [], ◌∷◌, length, codes, bytes_eq, Option, Some, None}
 use Rattle.std.specs.List.{starts_with}
 use Rattle.std.specs.Option.{option_map}
 use Rattle.lio_lines.specs.declared.keyword.Keyword.{Keyword}

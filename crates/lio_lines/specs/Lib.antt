@@ -7,3 +7,4 @@ pub mod Forms
 pub mod WellFormed
 pub mod Header
 pub mod Limited
+pub mod LineText

@@ -8,6 +8,7 @@ mod keyword;
 mod line;
 mod literals;
 mod operators;
+mod print;
 mod read;
 mod shapes;
 mod words;

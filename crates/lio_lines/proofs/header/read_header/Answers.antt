@@ -1,4 +1,4 @@
-use Rattle.std.proofs.Common.{◌≡◌, ℕ, List, [], ◌∷◌, true, false, sym, ◌∙◌, ap, Option, Some, None, Bor, MatchOption}
+use Rattle.std.proofs.Common.{◌≡◌, ℕ, List, [], ◌∷◌, sym, ◌∙◌, ap, Option, Some, None, Bor, MatchOption}
 use Rattle.std.specs.Option.{option_map}
 use Rattle.lio_lines.specs.Words.{words, without_return}
 use Rattle.lio_lines.specs.Header.{Signature, signature}

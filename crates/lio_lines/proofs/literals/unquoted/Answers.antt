@@ -1,5 +1,5 @@
 use Rattle.std.proofs.Common.{arith}
-use Rattle.lio_lines.proofs.LiteralLemmas.{unquoted-open, unquoted-closed, unquoted-more}
+use Rattle.lio_lines.proofs.LiteralLemmas.{unquoted-open, unquoted-closed}
 use Rattle.lio_lines.proofs.literals.unquoted.Goals as goal
 
 pub returns-then-byte-eq34 : goal.returns-then-byte-eq34

@@ -1,4 +1,4 @@
-use Rattle.std.proofs.Common.{sym, ◌∙◌, IsTrue}
+use Rattle.std.proofs.Common.{sym}
 use Rattle.std.proofs.lemmas.List.Elements.{All-push}
 use Rattle.lio_lines.specs.WellFormed.{IsName}
 use Rattle.lio_lines.proofs.FormLemmas.{names-more, names-invalid, names-end}
