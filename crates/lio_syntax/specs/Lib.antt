@@ -9,3 +9,4 @@ pub mod Refusal
 pub mod Headers
 pub mod Progress
 pub mod Kept
+pub mod ScriptText

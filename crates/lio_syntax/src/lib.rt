@@ -4,6 +4,7 @@
 mod fault;
 mod headers;
 mod open_block;
+mod print;
 mod progress;
 mod read;
 mod rules;
@@ -11,5 +12,6 @@ mod script;
 mod text;
 
 pub use fault::ScriptFault;
+pub use print::print_script;
 pub use read::read_script;
 pub use script::Script;
