@@ -1,26 +1,37 @@
-//! Repeats an operation on labels, so that `bench/run` can measure it: `lio_bench OPERATION CLAUSES TIMES`.
+//! Repeats an operation, so that `bench/run` can measure it: `lio_bench OPERATION SUBJECT TIMES`.
 #![tactic(auto)]
 
-ghost use Rattle.std.specs.Prelude.{◌≤◌, IfSome};
+mod asked;
+mod journals;
+mod labels;
+mod policies;
 
-mod work;
-
-use std::env;
+use asked::Asked;
+use lio_outside::RealStore;
 use std::process::ExitCode;
-use work::Work;
+use std::{env, io};
 
-/// What the words say, where they say it.
-fn asked(rt: &HostRuntime) -> Option<Work>
-    ensures { IfSome result (λ work. work.clauses ≤ 64) }
-{
-    let words = env::args(rt).ok()?.skip(1);
-    let words: Vec<String> = words.collect(rt.alloc()).ok()?;
-    Work::of_words(words.as_slice())
+/// The words after the program's name.
+fn words(rt: &HostRuntime) -> io::Result<Vec<String>> {
+    let words = env::args(rt)?.skip(1).collect(rt.alloc())?;
+    Ok(words)
+}
+
+/// Whether what the words say was done.
+fn is_done(rt: &HostRuntime) -> bool {
+    let Ok(words) = words(rt) else {
+        return false;
+    };
+    let Some(asked) = Asked::of_words(words.as_slice()) else {
+        return false;
+    };
+    asked.is_done(rt.alloc(), &mut RealStore::new(rt))
 }
 
 fn main(rt: HostRuntime) -> ExitCode {
-    match asked(&rt) {
-        Some(work) if work.run(rt.alloc()).is_ok() => ExitCode::SUCCESS,
-        _ => ExitCode::FAILURE,
+    if is_done(&rt) {
+        ExitCode::SUCCESS
+    } else {
+        ExitCode::FAILURE
     }
 }

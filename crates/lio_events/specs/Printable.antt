@@ -11,7 +11,7 @@ use Rattle.lio_values.specs.declared.act.Reply.{Reply}
 use Rattle.lio_values.specs.declared.act.Reply.TheVariants.{Done, Got, Told, Refused}
 use Rattle.lio_values.specs.declared.entry.Entry.{Entry}
 use Rattle.lio_values.specs.PlainText.{IsPowerNamed}
-use Rattle.lio_values.specs.Named.{IsFaultNamed, IsContentNamed, IsValueNamed}
+use Rattle.lio_events.specs.Named.{IsFaultNamed, IsContentNamed, IsValueNamed}
 
 -- each principal in a value, if there is one, has a name
 abbrev pub IsOptionNamed : List (List ℕ) → Option Value → Type 0

@@ -8,7 +8,7 @@ use std::alloc::Global;
 use std::marker::Model;
 
 /// The entries of a run, in the order of their tickets, which rise.
-#[derive(Debug, Drop)]
+#[derive(Drop)]
 pub struct Journal {
     entries: Vec<Entry>,
 }
@@ -51,6 +51,14 @@ impl Journal {
         ensures err { OnErr result (self.new ≡ self.old) }
     {
         self.entries.push(entry)?;
+        Ok(())
+    }
+
+    /// Takes memory for so many further entries at once.
+    pub fn reserve(&mut self, entries: usize) -> Result<(), NoMemory>
+        ensures { self.new ≡ self.old }
+    {
+        self.entries.reserve(entries)?;
         Ok(())
     }
 

@@ -2,18 +2,19 @@
 ghost use Rattle.std.specs.Prelude.{◌≡◌, ◌++◌, Bool, List, ℕ, Option, All, codes, decimal, OnOk, IfOk, if◌then◌else◌};
 ghost use Rattle.lio_labels.specs.LabelPrint.{AreNamed};
 ghost use Rattle.lio_values.specs.PlainText.{label_in_brackets};
-ghost use Rattle.lio_values.specs.ValueText.{content_text, value_text};
-ghost use Rattle.lio_values.specs.Named.{IsContentNamed, IsValueNamed};
+ghost use Rattle.lio_events.specs.ValueText.{content_text, value_text};
+ghost use Rattle.lio_events.specs.Named.{IsContentNamed, IsValueNamed};
 ghost use Rattle.lio_events.specs.EntryText.{option_text, args_text, birth_text, op_text, act_text, reply_text, target_text, line_text};
 ghost use Rattle.lio_events.specs.JournalText.{entry_text, journal_text};
 ghost use Rattle.lio_events.specs.Printable.{IsOptionNamed, IsBirthNamed, IsActNamed, IsRaising, IsRaiseOf, IsReplyNamed, IsPrintable};
 
 use crate::journal::Journal;
+use crate::values::{append_content, append_fault, append_labels, append_value};
 use lio_clauses::{Names, NoMemory};
 use lio_labels::{Label, Priv};
 use lio_values::{
-    Act, Birth, Content, Entry, Op, Reply, Value, print_content, print_fault, print_label,
-    print_labels, print_number, print_power, print_quoted, print_value,
+    Act, Birth, Content, Entry, Op, Reply, Value, print_label, print_number, print_power,
+    print_quoted,
 };
 use std::alloc::Global;
 
@@ -24,7 +25,7 @@ fn print_option(out: &mut Vec<u8>, value: &Option<Value>, names: &Names) -> Resu
 {
     match value {
         None => Ok(out.extend_from_slice(b"empty")?),
-        Some(value) => print_value(out, value, names),
+        Some(value) => append_value(out, value, names),
     }
 }
 
@@ -45,7 +46,7 @@ fn print_after_blank(out: &mut Vec<u8>, value: &Value, names: &Names) -> Result<
     ensures { OnOk result (out.new.items ≡ out.old.items ++ (codes " " ++ value_text names.now value.now)) }
 {
     out.push(b' ')?;
-    print_value(out, value, names)
+    append_value(out, value, names)
 }
 
 /// Appends a number after a blank.
@@ -63,7 +64,7 @@ fn print_birth(out: &mut Vec<u8>, word: &[u8], birth: &Birth, names: &Names) -> 
 {
     out.extend_from_slice(word)?;
     print_blank_number(out, birth.proc_at)?;
-    print_labels(out, &birth.result, &birth.clearance, names)?;
+    append_labels(out, &birth.result, &birth.clearance, names)?;
     print_blank_number(out, birth.turns)?;
     print_blank_number(out, birth.first)?;
     print_blank_number(out, birth.cells)?;
@@ -112,7 +113,7 @@ fn print_word_value(
     ensures { OnOk result (out.new.items ≡ out.old.items ++ (word.now ++ value_text names.now value.now)) }
 {
     out.extend_from_slice(word)?;
-    print_value(out, value, names)
+    append_value(out, value, names)
 }
 
 /// Appends a word and a content.
@@ -126,7 +127,7 @@ fn print_word_content(
     ensures { OnOk result (out.new.items ≡ out.old.items ++ (word.now ++ content_text names.now content.now)) }
 {
     out.extend_from_slice(word)?;
-    print_content(out, content, names)
+    append_content(out, content, names)
 }
 
 /// Appends a release.
@@ -142,11 +143,11 @@ fn print_release(
     ensures { OnOk result (out.new.items ≡ out.old.items ++ act_text names.now (Act.Release source.now target.now power.now content.now)) }
 {
     out.extend_from_slice(b"release")?;
-    print_labels(out, source, target, names)?;
+    append_labels(out, source, target, names)?;
     out.push(b' ')?;
     print_power(out, power, names)?;
     out.push(b' ')?;
-    print_content(out, content, names)
+    append_content(out, content, names)
 }
 
 /// Appends an act.
@@ -208,7 +209,7 @@ fn print_reply(out: &mut Vec<u8>, reply: &Reply, names: &Names) -> Result<(), No
         Reply::Told(content) => print_word_content(out, b"told ", content.get(), names)?,
         Reply::Refused(fault) => {
             out.extend_from_slice(b"no ")?;
-            print_fault(out, fault.get(), names)?
+            append_fault(out, fault.get(), names)?
         }
     }
     Ok(())

@@ -1,3 +1,4 @@
-pub mod PolicyTexts
+pub mod Clashes
 pub mod RunOf
+pub mod Loads
 pub mod Says

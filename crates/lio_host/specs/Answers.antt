@@ -1,17 +1,17 @@
 -- What each answer of the host says.
-use Rattle.std.specs.Prelude.{◌≡◌, ℕ, zero, List, [], Option, None, Some, Err, ◌⊎◌}
+use Rattle.std.specs.Prelude.{◌≡◌, ℕ, List, [], ◌∷◌, Option, Some, None, Result, Ok, Err, IfSome, Contains, ◌⊎◌}
 use Rattle.lio_values.specs.declared.entry.Entry.{Entry}
-use Rattle.lio_syntax.specs.ScriptText.{script_of}
 use Rattle.lio_events.specs.ChannelBytes.{channel_bytes}
 use Rattle.lio_outside.specs.FileMap.{FileMap}
-use Rattle.lio_outside.specs.Fetch.{IsGiven, IsMissing}
+use Rattle.lio_outside.specs.Fetch.{given, IsMissing}
 use Rattle.lio_outside.specs.Keep.{told_with, PartlyKept}
 use Rattle.lio_outside.specs.Count.{Rose}
+use Rattle.lio_host.specs.declared.load.Job.{Job}
 use Rattle.lio_host.specs.declared.status.HostStatus.{HostStatus}
-use Rattle.lio_host.specs.declared.status.HostStatus.TheVariants.{Done, BadWords, Missing, ReadFault, NotYet, WriteFault, NoMemory}
+use Rattle.lio_host.specs.declared.status.HostStatus.TheVariants.{Done, BadWords, Missing, ReadFault, BadPolicy, NotYet, WriteFault, NoMemory, Clash}
 use Rattle.lio_host.specs.Command.{Command, command_of}
-use Rattle.lio_host.specs.PolicyText.{IsPolicy, out_file}
-use Rattle.lio_host.specs.Headline.{PolicyGiven, Ran}
+use Rattle.lio_host.specs.Verdict.{Fetched, verdict}
+use Rattle.lio_host.specs.Headline.{IsRunOf, file_of}
 
 -- a call of the host: its words, what the store told of its files and how many faults it had counted, before and after
 -- the call, and the journal of the answer
@@ -23,86 +23,99 @@ pub record Call : Type 0 where
   pub faults_after : ℕ
   pub journal : List Entry
 
--- the name is one of a file that the host reads; the script's only where the policy was read
-pub record IsRead (told : Option FileMap) (command : Command) (name : List ℕ) : Type 0 where
-  pub which : (name ≡ command.policy) ⊎ ((turns : ℕ) × (name ≡ command.script) × PolicyGiven told command turns)
+-- what was fetched is what the files hold, where the store tells them; a store that tells nothing may give anything
+abbrev pub IsFetched : Option FileMap → Fetched → Type 0
+IsFetched told fetched = IfSome told (λ files. fetched ≡ given files)
+
+-- the verdict on a call, over what the store gave
+pub record IsVerdict (told : Option FileMap) (words : List (List ℕ)) (is : Result Job HostStatus) : Type 0 where
+  pub fetched : Fetched
+  pub is_fetched : IsFetched told fetched
+  pub verdict_is : verdict fetched words ≡ is
 
 -- nothing was run, and the store is as before
 pub record NothingDone (call : Call) : Type 0 where
   pub files : call.told_after ≡ call.told_before
   pub journal : call.journal ≡ []
 
--- Done: the journal is a complete run by rounds of what the store gave, the channel's file holds exactly that channel's
--- sends, and all other files are as before
-pub record SaysDone (call : Call) : Type 0 where
-  pub command : Command
-  pub words : command_of call.words ≡ Some command
-  pub ran : Ran call.told_before command call.journal
-  pub files : call.told_after ≡ told_with call.told_before out_file (channel_bytes call.journal 0)
+-- the call was refused with its verdict
+pub record Refuses (call : Call) (status : HostStatus) : Type 0 where
+  pub verdict : IsVerdict call.told_before call.words (Err status)
+  pub nothing : NothingDone call
+
+-- the journal is a complete run, by rounds, of what the verdict says
+pub record Ran (call : Call) (job : Job) : Type 0 where
+  pub verdict : IsVerdict call.told_before call.words (Ok job)
+  pub is_run : IsRunOf job call.journal
 
 -- BadWords: the words name no policy and script
 pub record SaysBadWords (call : Call) : Type 0 where
   pub words : command_of call.words ≡ None
-  pub nothing : NothingDone call
+  pub refused : Refuses call BadWords
 
--- Missing: no file has the name, if the store tells its files; and else the count of faults rose
+-- Done: the script ran, the channel's file holds exactly that channel's sends, and all other files are as before
+pub record SaysDone (call : Call) : Type 0 where
+  pub job : Job
+  pub ran : Ran call job
+  pub files : call.told_after ≡ told_with call.told_before (file_of job.policy.channels) (channel_bytes call.journal 0)
+
+-- Missing: the verdict; and where the store tells nothing, the count of faults rose
 pub record SaysMissing (call : Call) (name : List ℕ) : Type 0 where
-  pub command : Command
-  pub words : command_of call.words ≡ Some command
-  pub is_read : IsRead call.told_before command name
+  pub refused : Refuses call (Missing name)
   pub missing : IsMissing call.told_before name call.faults_before call.faults_after
-  pub nothing : NothingDone call
 
--- ReadFault: the count of faults rose
+-- ReadFault: the name is one of a file that the call reads, and the count of faults rose
 pub record SaysReadFault (call : Call) (name : List ℕ) : Type 0 where
   pub command : Command
   pub words : command_of call.words ≡ Some command
-  pub is_read : IsRead call.told_before command name
+  pub is_read : Contains (command.policy ∷ command.script ∷ []) name
   pub rose : Rose call.faults_before call.faults_after
   pub nothing : NothingDone call
 
--- NotYet for the policy: what the store gave is none of the policies that run so far
-pub record PolicyRefused (told : Option FileMap) (command : Command) (line : ℕ) : Type 0 where
-  pub text : List ℕ
-  pub is_given : IsGiven told command.policy 1048576 text
-  pub no_policy : (turns : ℕ) → ¬ IsPolicy text turns
-  pub at_zero : line ≡ 0
-
--- NotYet for the script: this line is the first at which what the store gave can't go on
-pub record ScriptRefused (told : Option FileMap) (command : Command) (line : ℕ) : Type 0 where
-  pub turns : ℕ
-  pub policy : PolicyGiven told command turns
-  pub text : List ℕ
-  pub is_given : IsGiven told command.script 262144 text
-  pub no_script : script_of text ≡ Err line
-
--- which of the two texts doesn't run so far
-abbrev pub Refused : Option FileMap → Command → ℕ → ℕ → Type 0
-Refused told command zero line = PolicyRefused told command line
-Refused told command document line = (document ≡ 1) × ScriptRefused told command line
-
-pub record SaysNotYet (call : Call) (document line : ℕ) : Type 0 where
-  pub command : Command
-  pub words : command_of call.words ≡ Some command
-  pub refused : Refused call.told_before command document line
-  pub nothing : NothingDone call
-
--- WriteFault: all is as for Done but the file, which is as before or holds a first part of its bytes; the count of
--- faults rose
+-- WriteFault: the script ran; the channel's file, whose name it is, is as before or holds a first part of its bytes, and all
+-- other files are as before; the count of faults rose
 pub record SaysWriteFault (call : Call) (name : List ℕ) : Type 0 where
-  pub command : Command
-  pub words : command_of call.words ≡ Some command
-  pub ran : Ran call.told_before command call.journal
-  pub name_is : name ≡ out_file
-  pub files : PartlyKept call.told_before call.told_after out_file (channel_bytes call.journal 0)
+  pub job : Job
+  pub ran : Ran call job
+  pub name_is : name ≡ file_of job.policy.channels
+  pub files : PartlyKept call.told_before call.told_after name (channel_bytes call.journal 0)
   pub rose : Rose call.faults_before call.faults_after
 
--- what each answer says of the call that gave it; want of memory says only that nothing was done
+-- NoMemory: the words name a policy and a script, and nothing was done
+pub record SaysNoMemory (call : Call) : Type 0 where
+  pub command : Command
+  pub words : command_of call.words ≡ Some command
+  pub nothing : NothingDone call
+
+-- what each answer says of the call that gave it
 abbrev pub Says : Call → HostStatus → Type 0
 Says call Done = SaysDone call
 Says call BadWords = SaysBadWords call
 Says call (Missing name) = SaysMissing call name
 Says call (ReadFault name) = SaysReadFault call name
-Says call (NotYet document line) = SaysNotYet call document line
+Says call (BadPolicy rule entry) = Refuses call (BadPolicy rule entry)
+Says call (NotYet document place) = Refuses call (NotYet document place)
+Says call (Clash name) = Refuses call (Clash name)
 Says call (WriteFault name) = SaysWriteFault call name
-Says call NoMemory = NothingDone call
+Says call NoMemory = SaysNoMemory call
+
+-- the answer of a call whose verdict is this
+abbrev pub answer_of : Result Job HostStatus → HostStatus
+answer_of (Ok job) = Done
+answer_of (Err status) = status
+
+-- an answer of a file that couldn't be read or written, for which the count of faults rose
+abbrev pub IsFault : Call → HostStatus → Type 0
+IsFault call Done = ⊥
+IsFault call BadWords = ⊥
+IsFault call (Missing name) = ⊥
+IsFault call (ReadFault name) = Rose call.faults_before call.faults_after
+IsFault call (BadPolicy rule entry) = ⊥
+IsFault call (NotYet document place) = ⊥
+IsFault call (Clash name) = ⊥
+IsFault call (WriteFault name) = Rose call.faults_before call.faults_after
+IsFault call NoMemory = ⊥
+
+-- a call over these files is answered by its verdict, unless memory is wanting, or a file can't be read or written
+pub record Follows (call : Call) (status : HostStatus) (files : FileMap) : Type 0 where
+  pub answer : (status ≡ answer_of (verdict (given files) call.words)) ⊎ ((status ≡ NoMemory) ⊎ IsFault call status)

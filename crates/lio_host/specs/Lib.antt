@@ -1,6 +1,8 @@
 pub mod Command
-pub mod PolicyText
+pub mod Beyond
+pub mod Clash
+pub mod Verdict
 pub mod Headline
 pub mod Answers
+pub mod Loading
 pub mod ExitStatus
-pub mod Steps

@@ -1,7 +1,6 @@
 //! Reads the worked runs of `rows.rt`, runs each over a store in memory, and compares.
 
 use crate::host::host_main;
-use crate::status::HostStatus;
 use lio_labels::Label;
 use lio_outside::MemStore;
 use lio_values::{Act, Content, Entry, Fault, FaultKind, Held, Plain, Reply, Text};
@@ -121,19 +120,6 @@ fn shown(text: &Text) -> &str {
     str::from_utf8(text.bytes()).unwrap_or("no text")
 }
 
-/// An answer as it is shown.
-fn status_text(alloc: Global, status: &HostStatus) -> Result<String, AllocError> {
-    match status {
-        HostStatus::Done => format!(in alloc; "Done"),
-        HostStatus::BadWords => format!(in alloc; "BadWords"),
-        HostStatus::Missing(name) => format!(in alloc; "Missing({})", shown(name)),
-        HostStatus::ReadFault(name) => format!(in alloc; "ReadFault({})", shown(name)),
-        HostStatus::WriteFault(name) => format!(in alloc; "WriteFault({})", shown(name)),
-        HostStatus::NotYet(part, line) => format!(in alloc; "NotYet({part}, {line})"),
-        HostStatus::NoMemory => format!(in alloc; "NoMemory"),
-    }
-}
-
 /// The fault of a public task that has no turn left.
 fn no_turns(alloc: Global) -> Result<Content, Fail> {
     let at = Label::public(alloc)?;
@@ -148,7 +134,7 @@ fn act_text(alloc: Global, act: &Act) -> Result<String, Fail> {
     } else if *act == Act::Ended(Held::new(alloc, Content::Kept(Plain::Unit))?) {
         Ok(format!(in alloc; "ended unit")?)
     } else if *act == Act::Ended(Held::new(alloc, no_turns(alloc)?)?) {
-        Ok(format!(in alloc; "ended fault(no_turns at <PUB>)")?)
+        Ok(format!(in alloc; "ended fault(no_turns at <True %% True>)")?)
     } else {
         Ok(format!(in alloc; "another act")?)
     }
@@ -171,7 +157,7 @@ fn append_entry(alloc: Global, text: &mut String, entry: &Entry) -> Result<(), F
         None => text.push_str("-")?,
     }
     let label = if entry.at == Label::public(alloc)? {
-        "<PUB>"
+        "<True %% True>"
     } else {
         "<another label>"
     };
@@ -206,7 +192,8 @@ fn holds(alloc: Global, case: &Case, policy: &str, script: &str) -> Result<bool,
     let mut store = store(alloc, case, policy, script)?;
     let words = words(alloc, case)?;
     let outcome = host_main(alloc, words.as_slice(), &mut store);
-    let status = status_text(alloc, &outcome.status)?;
+    let answer = &outcome.status;
+    let status = format!(in alloc; "{answer}")?;
     let history = history_text(alloc, outcome.journal.entries())?;
     Ok(
         status.as_str() == expected.about.as_str()

@@ -1,21 +1,24 @@
 //! Runs a script under a policy, and writes what it sends to its channel.
 #![tactic(auto)]
 
+mod beyond;
 #[cfg(test)]
 mod cases;
+mod clash;
 mod command;
 mod host;
-mod policy;
+mod load;
 mod refusal;
 #[cfg(test)]
 mod rows;
 mod status;
 #[cfg(test)]
 mod tests;
+mod write;
 
 use host::host_main;
 use lio_outside::RealStore;
-use refusal::print_refusal;
+use refusal::{print_refusal, refused_entry};
 use std::process::ExitCode;
 use std::{env, io};
 
@@ -30,7 +33,9 @@ fn main(rt: HostRuntime) -> ExitCode {
     let words = words(&rt).unwrap_or(Vec::new(rt.alloc()));
     let mut store = RealStore::new(&rt);
     let outcome = host_main(rt.alloc(), words.as_slice(), &mut store);
+    let words = words.as_slice();
+    let entry = refused_entry(rt.alloc(), &mut store, &outcome.status, words);
     // A refusal that can't be printed still has its exit status.
-    let _ = print_refusal(&rt, &outcome.status, words.as_slice());
+    let _ = print_refusal(&rt, &outcome.status, words, entry.as_ref());
     ExitCode::from(outcome.status.number())
 }

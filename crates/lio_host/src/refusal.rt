@@ -1,24 +1,44 @@
-//! What is printed of a refusal.
+//! What is printed of a refusal: the answer as its type writes it, what was refused and where, and how to mend it.
 
+use crate::load::MOST_POLICY_BYTES;
 use crate::status::HostStatus;
+use lio_outside::Store;
+use lio_policy::{EntryAt, EntryKind, entry_at};
 use lio_values::Text;
-use std::{io, str};
+use std::alloc::Global;
+use std::{fmt, io, str};
 
 /// What the words are to be.
 const USAGE: &str =
     "usage: lio_host POLICY SCRIPT\n  POLICY and SCRIPT are the names of two files; a name isn't empty and doesn't begin with `-`";
 
-/// What a policy is to be.
+/// What runs so far of a policy.
 const POLICY: &str =
-    "the policies that run so far are one line without a line end: the one of examples/hello/policy.json, with `turns` a number from 0 to 262144 without a leading zero";
+    "so far a policy has no inputs, one channel with the label `True %% True`, and one task with the procedure `main`, the label and the clearance `True %% True`, and that channel as its one argument";
 
-/// What a script is to be.
+/// What runs so far of a script.
 const SCRIPT: &str =
     "a script that runs so far is the line `proc main c`, then lines `send c \"TEXT\"` and `stop`, then the line `end`, with a line end after each line, single blanks between words, and in TEXT printable ASCII bytes other than `\"` and `\\`";
 
 /// A name as text.
 fn shown(name: &Text) -> &str {
     str::from_utf8(name.bytes()).unwrap_or("a file")
+}
+
+impl fmt::Display for HostStatus {
+    fn fmt<W: fmt::Write>(&self, f: &mut fmt::Formatter<W>) -> fmt::Result {
+        match self {
+            HostStatus::Done => f.write_str("Done"),
+            HostStatus::BadWords => f.write_str("BadWords"),
+            HostStatus::Missing(name) => write!(f, "Missing({})", shown(name)),
+            HostStatus::ReadFault(name) => write!(f, "ReadFault({})", shown(name)),
+            HostStatus::BadPolicy(rule, entry) => write!(f, "BadPolicy({rule}, {entry})"),
+            HostStatus::NotYet(document, place) => write!(f, "NotYet({document}, {place})"),
+            HostStatus::Clash(name) => write!(f, "Clash({})", shown(name)),
+            HostStatus::WriteFault(name) => write!(f, "WriteFault({})", shown(name)),
+            HostStatus::NoMemory => f.write_str("NoMemory"),
+        }
+    }
 }
 
 /// The word at a place, where there is one.
@@ -29,44 +49,159 @@ fn word(words: &[String], place: usize) -> &str {
     }
 }
 
+/// An entry of a policy as it is shown: what it is, its place in its list and its name, or else its number.
+#[derive(Clone, Copy)]
+struct ShownEntry<'a> {
+    number: u32,
+    found: Option<&'a EntryAt>,
+}
+
+/// What an entry is.
+fn kind_text(kind: EntryKind) -> &'static str {
+    match kind {
+        EntryKind::Document => "the document",
+        EntryKind::Principal => "principal",
+        EntryKind::Channel => "channel",
+        EntryKind::Input => "input",
+        EntryKind::Task => "task",
+    }
+}
+
+impl fmt::Display for ShownEntry<'_> {
+    fn fmt<W: fmt::Write>(&self, f: &mut fmt::Formatter<W>) -> fmt::Result {
+        let Some(found) = self.found else {
+            let number = self.number;
+            return write!(f, "entry {number}");
+        };
+        f.write_str(kind_text(found.kind))?;
+        if found.place > 0 {
+            let place = found.place;
+            write!(f, " {place}")?;
+        }
+        if let Some(name) = &found.name {
+            let name = shown(name);
+            write!(f, ", \"{name}\"")?;
+        }
+        Ok(())
+    }
+}
+
+/// The entry of the policy that an answer names, where it names one and the policy can be read once more.
+pub fn refused_entry<S: Store>(
+    alloc: Global,
+    store: &mut S,
+    status: &HostStatus,
+    words: &[String],
+) -> Option<EntryAt> {
+    let entry = match status {
+        HostStatus::BadPolicy(_, entry) => *entry,
+        HostStatus::NotYet(0, entry) => *entry,
+        _ => return None,
+    };
+    let name = words.first()?;
+    match store.fetch(alloc, name.as_bytes(), MOST_POLICY_BYTES) {
+        Ok(text) => entry_at(alloc, text.as_slice(), entry).unwrap_or(None),
+        Err(_) => None,
+    }
+}
+
+/// What a rule of policies asks.
+fn rule_text(rule: u32) -> &'static str {
+    match rule {
+        1 => "a policy is a JSON text of at most 1048576 bytes",
+        2 => {
+            "each object has exactly the keys that docs/FORMATS.md lists for it, each with a value of its kind"
+        }
+        3 => "`version` is 1",
+        4 => {
+            "a name has 1 to 32 bytes of `a` to `z`, `0` to `9` and `_`, begins with a letter, and stands once in its list; there are at most 64 principals"
+        }
+        5 => {
+            "a label is two formulas with `%%` between them, a formula is made of principals of this policy with `/\\`, `\\/` and parentheses, or `True` or `False`, and has at most 64 clauses"
+        }
+        6 => "a task's label flows to its clearance",
+        7 => "an argument names an input or a channel of this policy",
+        8 => {
+            "`longest` is 1 to 65536, and times the turns of all tasks at most 1073741824; there are at most 256 channels, inputs and tasks each, 1048576 turns and 65536 cells in all; a task has at most 8 arguments, and no text longer than `longest`"
+        }
+        _ => {
+            "a file's name has 1 to 255 bytes, no zero byte, doesn't begin with `-`, and stands once among the files of channels and inputs"
+        }
+    }
+}
+
+/// With what the name of a file that is written clashes.
+fn taken_by(name: &str, words: &[String]) -> &'static str {
+    if name == word(words, 0) {
+        "it is the policy's own file"
+    } else if name == word(words, 1) {
+        "it is the script's file"
+    } else {
+        "it is an input's file, or written before"
+    }
+}
+
 /// Prints what was refused, where, and how to mend it, on standard error. Nothing is printed where the script ran.
-pub fn print_refusal(rt: &impl Eprint, status: &HostStatus, words: &[String]) -> io::Result<()> {
+pub fn print_refusal(
+    rt: &impl Eprint,
+    status: &HostStatus,
+    words: &[String],
+    found: Option<&EntryAt>,
+) -> io::Result<()> {
+    let policy = word(words, 0);
+    let script = word(words, 1);
     match status {
         HostStatus::Done => Ok(()),
-        HostStatus::BadWords => eprintln!(rt; "lio_host: the words aren't two names\n{USAGE}"),
-        HostStatus::Missing(name) => {
-            let name = shown(name);
-            eprintln!(rt; "lio_host: {name}: there is no such file\n{USAGE}")
+        HostStatus::BadWords => {
+            eprintln!(rt; "lio_host: {status}: the words aren't two names\n{USAGE}")
         }
-        HostStatus::ReadFault(name) => {
-            let name = shown(name);
+        HostStatus::Missing(_) => {
+            eprintln!(rt; "lio_host: {status}: there is no such file\n{USAGE}")
+        }
+        HostStatus::ReadFault(_) => eprintln!(rt;
+            "lio_host: {status}: the file couldn't be read; see that it is a file, and that it may be read"
+        ),
+        HostStatus::BadPolicy(rule, entry) => {
+            let asked = rule_text(*rule);
+            let entry = ShownEntry {
+                number: *entry,
+                found,
+            };
+            eprintln!(rt; "lio_host: {status}: {policy}: {entry}: {asked}")
+        }
+        HostStatus::NotYet(0, 0) => {
             eprintln!(rt;
-                "lio_host: {name}: the file couldn't be read; see that it is a file, and that it may be read"
+                "lio_host: {status}: {policy}: a policy without tasks doesn't run; {POLICY}"
             )
         }
-        HostStatus::NotYet(0, _) => {
-            let name = word(words, 0);
-            eprintln!(rt; "lio_host: {name}: this policy doesn't run yet; {POLICY}")
+        HostStatus::NotYet(0, entry) => {
+            let entry = ShownEntry {
+                number: *entry,
+                found,
+            };
+            eprintln!(rt; "lio_host: {status}: {policy}: {entry}: it doesn't run yet; {POLICY}")
         }
-        HostStatus::NotYet(_, 0) => {
-            let name = word(words, 1);
-            eprintln!(rt;
-                "lio_host: {name}: the script has more than 262144 bytes, the most that are read"
-            )
-        }
+        HostStatus::NotYet(_, 0) => eprintln!(rt;
+            "lio_host: {status}: {script}: the script has more than 262144 bytes, the most that are read"
+        ),
         HostStatus::NotYet(_, line) => {
-            let name = word(words, 1);
             let line = *line;
             eprintln!(rt;
-                "lio_host: {name}:{line}: the script can't go on so at this line; {SCRIPT}"
+                "lio_host: {status}: {script}:{line}: the script can't go on so at this line; {SCRIPT}"
             )
         }
-        HostStatus::WriteFault(name) => {
+        HostStatus::Clash(name) => {
             let name = shown(name);
+            let by = taken_by(name, words);
             eprintln!(rt;
-                "lio_host: {name}: the file couldn't be written; see that it and its folder may be written, and that there is room"
+                "lio_host: {status}: {policy}: the file {name} is to be written, but {by}; give the channel another file"
             )
         }
-        HostStatus::NoMemory => eprintln!(rt; "lio_host: no memory was left; no file was changed"),
+        HostStatus::WriteFault(_) => eprintln!(rt;
+            "lio_host: {status}: the file couldn't be written; see that it and its folder may be written, and that there is room"
+        ),
+        HostStatus::NoMemory => {
+            eprintln!(rt; "lio_host: {status}: no memory was left; no file was changed")
+        }
     }
 }

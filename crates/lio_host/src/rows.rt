@@ -17,9 +17,9 @@
 pub const RUNS: &str = r#"case a text is sent
 policy
 |{"version":1,"longest":4096,"principals":[],~
-|"channels":[{"name":"out","label":"True %% True","file":"out.txt"}],"inputs":[],~
-|"tasks":[{"name":"main","proc":"main","label":"True %% True","clearance":"True %% True",~
-|"turns":20,"cells":0,"args":[{"channel":"out"}]}]}~
+|"channels":[{"name":"out","label":"True %% True","file":"out.txt"}],~
+|"inputs":[],~
+|"tasks":[{"name":"main","proc":"main","label":"True %% True","clearance":"True %% True","turns":20,"cells":0,"args":[{"channel":"out"}]}]}~
 script
 |proc main c
 |send c "hi"
@@ -28,45 +28,8 @@ status Done
 file out.txt
 |hi~
 history
-|0 1 0 <PUB> send "hi" : ok
-|1 1 - <PUB> ended unit : ok
-case a task ends without turns
-policy
-|{"version":1,"longest":4096,"principals":[],~
-|"channels":[{"name":"out","label":"True %% True","file":"out.txt"}],"inputs":[],~
-|"tasks":[{"name":"main","proc":"main","label":"True %% True","clearance":"True %% True",~
-|"turns":1,"cells":0,"args":[{"channel":"out"}]}]}~
-status Done
-file out.txt
-|hi~
-history
-|0 1 0 <PUB> send "hi" : ok
-|1 1 - <PUB> ended fault(no_turns at <PUB>) : ok
-case a task has no turn
-policy
-|{"version":1,"longest":4096,"principals":[],~
-|"channels":[{"name":"out","label":"True %% True","file":"out.txt"}],"inputs":[],~
-|"tasks":[{"name":"main","proc":"main","label":"True %% True","clearance":"True %% True",~
-|"turns":0,"cells":0,"args":[{"channel":"out"}]}]}~
-status Done
-file out.txt
-history
-|0 1 - <PUB> ended fault(no_turns at <PUB>) : ok
-case a task stops
-policy
-|{"version":1,"longest":4096,"principals":[],~
-|"channels":[{"name":"out","label":"True %% True","file":"out.txt"}],"inputs":[],~
-|"tasks":[{"name":"main","proc":"main","label":"True %% True","clearance":"True %% True",~
-|"turns":20,"cells":0,"args":[{"channel":"out"}]}]}~
-script
-|proc main c
-|stop
-|send c "hi"
-|end
-status Done
-file out.txt
-history
-|0 1 - <PUB> ended unit : ok
+|0 1 0 <True %% True> send "hi" : ok
+|1 1 - <True %% True> ended unit : ok
 case texts are sent one after another
 script
 |proc main c
@@ -78,10 +41,10 @@ status Done
 file out.txt
 |a~ b~
 history
-|0 1 0 <PUB> send "" : ok
-|1 1 0 <PUB> send "a~" : ok
-|2 1 0 <PUB> send " b" : ok
-|3 1 - <PUB> ended unit : ok
+|0 1 0 <True %% True> send "" : ok
+|1 1 0 <True %% True> send "a~" : ok
+|2 1 0 <True %% True> send " b" : ok
+|3 1 - <True %% True> ended unit : ok
 case a file that was there is replaced
 input out.txt
 |old
@@ -89,10 +52,10 @@ status Done
 file out.txt
 |a~ b~
 history
-|0 1 0 <PUB> send "" : ok
-|1 1 0 <PUB> send "a~" : ok
-|2 1 0 <PUB> send " b" : ok
-|3 1 - <PUB> ended unit : ok
+|0 1 0 <True %% True> send "" : ok
+|1 1 0 <True %% True> send "a~" : ok
+|2 1 0 <True %% True> send " b" : ok
+|3 1 - <True %% True> ended unit : ok
 case a script without statements
 script
 |proc main c
@@ -100,16 +63,236 @@ script
 status Done
 file out.txt
 history
-|0 1 - <PUB> ended unit : ok
+|0 1 - <True %% True> ended unit : ok
+case a task stops
+script
+|proc main c
+|stop
+|send c "hi"
+|end
+status Done
+file out.txt
+history
+|0 1 - <True %% True> ended unit : ok
+case a task ends without turns
+policy
+|{"version":1,"longest":4096,"principals":[],~
+|"channels":[{"name":"out","label":"True %% True","file":"out.txt"}],~
+|"inputs":[],~
+|"tasks":[{"name":"main","proc":"main","label":"True %% True","clearance":"True %% True","turns":1,"cells":0,"args":[{"channel":"out"}]}]}~
+script
+|proc main c
+|send c "hi"
+|end
+status Done
+file out.txt
+|hi~
+history
+|0 1 0 <True %% True> send "hi" : ok
+|1 1 - <True %% True> ended fault(no_turns at <True %% True>) : ok
+case a task has no turn
+policy
+|{"version":1,"longest":4096,"principals":[],~
+|"channels":[{"name":"out","label":"True %% True","file":"out.txt"}],~
+|"inputs":[],~
+|"tasks":[{"name":"main","proc":"main","label":"True %% True","clearance":"True %% True","turns":0,"cells":0,"args":[{"channel":"out"}]}]}~
+status Done
+file out.txt
+history
+|0 1 - <True %% True> ended fault(no_turns at <True %% True>) : ok
+case principals, other names and cells
+policy
+|{"version":1,"longest":1,"principals":["alice","bob"],~
+|"channels":[{"name":"log","label":"True %% True","file":"log of today.txt"}],~
+|"inputs":[],~
+|"tasks":[{"name":"greeter","proc":"main","label":"True %% True","clearance":"True %% True","turns":9,"cells":4,"args":[{"channel":"log"}]}]}~
+status Done
+file log of today.txt
+|hi~
+absent out.txt
+history
+|0 1 0 <True %% True> send "hi" : ok
+|1 1 - <True %% True> ended unit : ok
+"#;
+
+/// Policies that are refused, or that don't run so far.
+pub const REFUSED_POLICIES: &str = r#"case a policy that is no JSON
+policy
+|{~
+script
+|proc main c
+|send c "hi"
+|end
+status BadPolicy(1, 0)
+absent out.txt
+case a policy without tasks
+policy
+|{"version":1,"longest":4096,"principals":[],"channels":[],"inputs":[]}~
+status BadPolicy(2, 0)
+absent out.txt
+case a second version
+policy
+|{"version":2,"longest":4096,"principals":[],~
+|"channels":[{"name":"out","label":"True %% True","file":"out.txt"}],~
+|"inputs":[],~
+|"tasks":[{"name":"main","proc":"main","label":"True %% True","clearance":"True %% True","turns":20,"cells":0,"args":[{"channel":"out"}]}]}~
+status BadPolicy(3, 0)
+absent out.txt
+case a principal that is there before
+policy
+|{"version":1,"longest":4096,"principals":["alice","alice"],~
+|"channels":[{"name":"out","label":"True %% True","file":"out.txt"}],~
+|"inputs":[],~
+|"tasks":[{"name":"main","proc":"main","label":"True %% True","clearance":"True %% True","turns":20,"cells":0,"args":[{"channel":"out"}]}]}~
+status BadPolicy(4, 2)
+absent out.txt
+case a channel with an unknown principal
+policy
+|{"version":1,"longest":4096,"principals":["alice","bob"],~
+|"channels":[{"name":"out","label":"dave %% True","file":"out.txt"}],~
+|"inputs":[],~
+|"tasks":[{"name":"main","proc":"main","label":"True %% True","clearance":"True %% True","turns":20,"cells":0,"args":[{"channel":"out"}]}]}~
+status BadPolicy(5, 3)
+absent out.txt
+case a task above its clearance
+policy
+|{"version":1,"longest":4096,"principals":["alice","bob"],~
+|"channels":[{"name":"out","label":"True %% True","file":"out.txt"}],~
+|"inputs":[],~
+|"tasks":[{"name":"main","proc":"main","label":"alice %% True","clearance":"True %% True","turns":20,"cells":0,"args":[{"channel":"out"}]}]}~
+status BadPolicy(6, 4)
+absent out.txt
+case an argument that is no channel of the policy
+policy
+|{"version":1,"longest":4096,"principals":[],~
+|"channels":[{"name":"out","label":"True %% True","file":"out.txt"}],~
+|"inputs":[],~
+|"tasks":[{"name":"main","proc":"main","label":"True %% True","clearance":"True %% True","turns":20,"cells":0,"args":[{"channel":"log"}]}]}~
+status BadPolicy(7, 2)
+absent out.txt
+case too many turns for the longest text
+policy
+|{"version":1,"longest":4096,"principals":[],~
+|"channels":[{"name":"out","label":"True %% True","file":"out.txt"}],~
+|"inputs":[],~
+|"tasks":[{"name":"main","proc":"main","label":"True %% True","clearance":"True %% True","turns":262145,"cells":0,"args":[{"channel":"out"}]}]}~
+status BadPolicy(8, 0)
+absent out.txt
+case a file without a name
+policy
+|{"version":1,"longest":4096,"principals":[],~
+|"channels":[{"name":"out","label":"True %% True","file":""}],~
+|"inputs":[],~
+|"tasks":[{"name":"main","proc":"main","label":"True %% True","clearance":"True %% True","turns":20,"cells":0,"args":[{"channel":"out"}]}]}~
+status BadPolicy(9, 1)
+absent out.txt
+case a policy is refused before its script is looked for
+words
+|p.json
+|t.lio
+status BadPolicy(9, 1)
+case a policy whose list of tasks is empty
+policy
+|{"version":1,"longest":4096,"principals":[],~
+|"channels":[{"name":"out","label":"True %% True","file":"out.txt"}],~
+|"inputs":[],~
+|"tasks":[]}~
+status NotYet(0, 0)
+absent out.txt
+case a channel that is not public
+policy
+|{"version":1,"longest":4096,"principals":["alice","bob"],~
+|"channels":[{"name":"out","label":"alice %% True","file":"out.txt"}],~
+|"inputs":[],~
+|"tasks":[{"name":"main","proc":"main","label":"True %% True","clearance":"True %% True","turns":20,"cells":0,"args":[{"channel":"out"}]}]}~
+status NotYet(0, 3)
+absent out.txt
+case a channel that somebody vouches for
+policy
+|{"version":1,"longest":4096,"principals":["alice","bob"],~
+|"channels":[{"name":"out","label":"True %% alice","file":"out.txt"}],~
+|"inputs":[],~
+|"tasks":[{"name":"main","proc":"main","label":"True %% True","clearance":"True %% True","turns":20,"cells":0,"args":[{"channel":"out"}]}]}~
+status NotYet(0, 3)
+absent out.txt
+case a second channel
+policy
+|{"version":1,"longest":4096,"principals":[],~
+|"channels":[{"name":"out","label":"True %% True","file":"out.txt"},{"name":"two","label":"True %% True","file":"two.txt"}],~
+|"inputs":[],~
+|"tasks":[{"name":"main","proc":"main","label":"True %% True","clearance":"True %% True","turns":20,"cells":0,"args":[{"channel":"out"}]}]}~
+status NotYet(0, 2)
+absent out.txt
+case an input
+policy
+|{"version":1,"longest":4096,"principals":["alice","bob"],~
+|"channels":[{"name":"out","label":"True %% True","file":"out.txt"}],~
+|"inputs":[{"name":"a","label":"alice %% True","file":"a.txt"}],~
+|"tasks":[{"name":"main","proc":"main","label":"True %% True","clearance":"True %% True","turns":20,"cells":0,"args":[{"channel":"out"}]}]}~
+status NotYet(0, 4)
+absent out.txt
+case a second task
+policy
+|{"version":1,"longest":4096,"principals":[],~
+|"channels":[{"name":"out","label":"True %% True","file":"out.txt"}],~
+|"inputs":[],~
+|"tasks":[{"name":"main","proc":"main","label":"True %% True","clearance":"True %% True","turns":20,"cells":0,"args":[{"channel":"out"}]},{"name":"second","proc":"main","label":"True %% True","clearance":"True %% True","turns":20,"cells":0,"args":[{"channel":"out"}]}]}~
+status NotYet(0, 3)
+absent out.txt
+case another procedure
+policy
+|{"version":1,"longest":4096,"principals":[],~
+|"channels":[{"name":"out","label":"True %% True","file":"out.txt"}],~
+|"inputs":[],~
+|"tasks":[{"name":"main","proc":"other","label":"True %% True","clearance":"True %% True","turns":20,"cells":0,"args":[{"channel":"out"}]}]}~
+status NotYet(0, 2)
+absent out.txt
+case a clearance that is not public
+policy
+|{"version":1,"longest":4096,"principals":["alice","bob"],~
+|"channels":[{"name":"out","label":"True %% True","file":"out.txt"}],~
+|"inputs":[],~
+|"tasks":[{"name":"main","proc":"main","label":"True %% True","clearance":"alice %% True","turns":20,"cells":0,"args":[{"channel":"out"}]}]}~
+status NotYet(0, 4)
+absent out.txt
+case no argument
+policy
+|{"version":1,"longest":4096,"principals":[],~
+|"channels":[{"name":"out","label":"True %% True","file":"out.txt"}],~
+|"inputs":[],~
+|"tasks":[{"name":"main","proc":"main","label":"True %% True","clearance":"True %% True","turns":20,"cells":0,"args":[]}]}~
+status NotYet(0, 2)
+absent out.txt
+case an argument that is no channel
+policy
+|{"version":1,"longest":4096,"principals":[],~
+|"channels":[{"name":"out","label":"True %% True","file":"out.txt"}],~
+|"inputs":[],~
+|"tasks":[{"name":"main","proc":"main","label":"True %% True","clearance":"True %% True","turns":20,"cells":0,"args":[{"flag":true}]}]}~
+status NotYet(0, 2)
+absent out.txt
+case two arguments
+policy
+|{"version":1,"longest":4096,"principals":[],~
+|"channels":[{"name":"out","label":"True %% True","file":"out.txt"}],~
+|"inputs":[],~
+|"tasks":[{"name":"main","proc":"main","label":"True %% True","clearance":"True %% True","turns":20,"cells":0,"args":[{"channel":"out"},{"channel":"out"}]}]}~
+status NotYet(0, 2)
+absent out.txt
+case a policy that doesn't run is refused before its script is looked for
+words
+|p.json
+|t.lio
+status NotYet(0, 2)
 "#;
 
 /// Scripts that don't run so far, with the line at which each first can't go on.
 pub const REFUSED_SCRIPTS: &str = r#"case a statement that is none so far
 policy
 |{"version":1,"longest":4096,"principals":[],~
-|"channels":[{"name":"out","label":"True %% True","file":"out.txt"}],"inputs":[],~
-|"tasks":[{"name":"main","proc":"main","label":"True %% True","clearance":"True %% True",~
-|"turns":20,"cells":0,"args":[{"channel":"out"}]}]}~
+|"channels":[{"name":"out","label":"True %% True","file":"out.txt"}],~
+|"inputs":[],~
+|"tasks":[{"name":"main","proc":"main","label":"True %% True","clearance":"True %% True","turns":20,"cells":0,"args":[{"channel":"out"}]}]}~
 script
 |proc main c
 |let x = 1
@@ -209,84 +392,44 @@ status NotYet(1, 3)
 absent out.txt
 "#;
 
-/// Policies that don't run so far, by their number of turns.
-pub const REFUSED_TURNS: &str = r#"case turns without digits
+/// Files that are written and whose names are taken.
+pub const CLASHES: &str = r#"case a channel's file is the policy
 policy
 |{"version":1,"longest":4096,"principals":[],~
-|"channels":[{"name":"out","label":"True %% True","file":"out.txt"}],"inputs":[],~
-|"tasks":[{"name":"main","proc":"main","label":"True %% True","clearance":"True %% True",~
-|"turns":,"cells":0,"args":[{"channel":"out"}]}]}~
+|"channels":[{"name":"out","label":"True %% True","file":"p.json"}],~
+|"inputs":[],~
+|"tasks":[{"name":"main","proc":"main","label":"True %% True","clearance":"True %% True","turns":20,"cells":0,"args":[{"channel":"out"}]}]}~
 script
 |proc main c
 |send c "hi"
 |end
-status NotYet(0, 0)
-absent out.txt
-case turns with two zeros
+status Clash(p.json)
+case a channel's file is the script
 policy
 |{"version":1,"longest":4096,"principals":[],~
-|"channels":[{"name":"out","label":"True %% True","file":"out.txt"}],"inputs":[],~
-|"tasks":[{"name":"main","proc":"main","label":"True %% True","clearance":"True %% True",~
-|"turns":00,"cells":0,"args":[{"channel":"out"}]}]}~
-status NotYet(0, 0)
-absent out.txt
-case turns with a leading zero
-policy
-|{"version":1,"longest":4096,"principals":[],~
-|"channels":[{"name":"out","label":"True %% True","file":"out.txt"}],"inputs":[],~
-|"tasks":[{"name":"main","proc":"main","label":"True %% True","clearance":"True %% True",~
-|"turns":07,"cells":0,"args":[{"channel":"out"}]}]}~
-status NotYet(0, 0)
-absent out.txt
-case turns with a plus sign
-policy
-|{"version":1,"longest":4096,"principals":[],~
-|"channels":[{"name":"out","label":"True %% True","file":"out.txt"}],"inputs":[],~
-|"tasks":[{"name":"main","proc":"main","label":"True %% True","clearance":"True %% True",~
-|"turns":+7,"cells":0,"args":[{"channel":"out"}]}]}~
-status NotYet(0, 0)
-absent out.txt
-case turns with a minus sign
-policy
-|{"version":1,"longest":4096,"principals":[],~
-|"channels":[{"name":"out","label":"True %% True","file":"out.txt"}],"inputs":[],~
-|"tasks":[{"name":"main","proc":"main","label":"True %% True","clearance":"True %% True",~
-|"turns":-0,"cells":0,"args":[{"channel":"out"}]}]}~
-status NotYet(0, 0)
-absent out.txt
-case turns one too many
-policy
-|{"version":1,"longest":4096,"principals":[],~
-|"channels":[{"name":"out","label":"True %% True","file":"out.txt"}],"inputs":[],~
-|"tasks":[{"name":"main","proc":"main","label":"True %% True","clearance":"True %% True",~
-|"turns":262145,"cells":0,"args":[{"channel":"out"}]}]}~
-status NotYet(0, 0)
-absent out.txt
-case turns past 32 bits
-policy
-|{"version":1,"longest":4096,"principals":[],~
-|"channels":[{"name":"out","label":"True %% True","file":"out.txt"}],"inputs":[],~
-|"tasks":[{"name":"main","proc":"main","label":"True %% True","clearance":"True %% True",~
-|"turns":4294967296,"cells":0,"args":[{"channel":"out"}]}]}~
-status NotYet(0, 0)
-absent out.txt
-case turns with a blank
-policy
-|{"version":1,"longest":4096,"principals":[],~
-|"channels":[{"name":"out","label":"True %% True","file":"out.txt"}],"inputs":[],~
-|"tasks":[{"name":"main","proc":"main","label":"True %% True","clearance":"True %% True",~
-|"turns":7 ,"cells":0,"args":[{"channel":"out"}]}]}~
-status NotYet(0, 0)
-absent out.txt
+|"channels":[{"name":"out","label":"True %% True","file":"s.lio"}],~
+|"inputs":[],~
+|"tasks":[{"name":"main","proc":"main","label":"True %% True","clearance":"True %% True","turns":20,"cells":0,"args":[{"channel":"out"}]}]}~
+status Clash(s.lio)
+file s.lio
+|proc main c
+|send c "hi"
+|end
+case a script that doesn't run is refused before names clash
+script
+|proc main c
+|wait
+|end
+status NotYet(1, 2)
 "#;
 
 /// Files that can't be had or written.
 pub const FAULTS: &str = r#"case the policy isn't read
 policy
 |{"version":1,"longest":4096,"principals":[],~
-|"channels":[{"name":"out","label":"True %% True","file":"out.txt"}],"inputs":[],~
-|"tasks":[{"name":"main","proc":"main","label":"True %% True","clearance":"True %% True",~
-|"turns":262144,"cells":0,"args":[{"channel":"out"}]}]}~
+|"channels":[{"name":"out","label":"True %% True","file":"out.txt"}],~
+|"inputs":[],~
+|"tasks":[{"name":"main","proc":"main","label":"True %% True","clearance":"True %% True","turns":262144,"cells":0,"args":[{"channel":"out"}]}]}~
 script
 |proc main c
 |send c "hi"
@@ -303,8 +446,8 @@ fail 2
 status WriteFault(out.txt)
 absent out.txt
 history
-|0 1 0 <PUB> send "hi" : ok
-|1 1 - <PUB> ended unit : ok
+|0 1 0 <True %% True> send "hi" : ok
+|1 1 - <True %% True> ended unit : ok
 case a file that isn't written is as before
 fail 2
 input out.txt
@@ -313,16 +456,16 @@ status WriteFault(out.txt)
 file out.txt
 |old
 history
-|0 1 0 <PUB> send "hi" : ok
-|1 1 - <PUB> ended unit : ok
+|0 1 0 <True %% True> send "hi" : ok
+|1 1 - <True %% True> ended unit : ok
 case a call after the last one fails
 fail 3
 status Done
 file out.txt
 |hi~
 history
-|0 1 0 <PUB> send "hi" : ok
-|1 1 - <PUB> ended unit : ok
+|0 1 0 <True %% True> send "hi" : ok
+|1 1 - <True %% True> ended unit : ok
 case the script is missing
 words
 |p.json
@@ -345,15 +488,6 @@ absent out.txt
 
 /// Words that aren't two names.
 pub const WRONG_WORDS: &str = r#"case no words
-policy
-|{"version":1,"longest":4096,"principals":[],~
-|"channels":[{"name":"out","label":"True %% True","file":"out.txt"}],"inputs":[],~
-|"tasks":[{"name":"main","proc":"main","label":"True %% True","clearance":"True %% True",~
-|"turns":20,"cells":0,"args":[{"channel":"out"}]}]}~
-script
-|proc main c
-|send c "hi"
-|end
 words
 status BadWords
 absent out.txt

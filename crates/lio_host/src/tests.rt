@@ -1,9 +1,7 @@
 //! The worked runs of the host: each case of `rows.rt` holds.
 
 use crate::cases::first_failing;
-use crate::rows::{FAULTS, REFUSED_SCRIPTS, REFUSED_TURNS, RUNS, WRONG_WORDS};
-use crate::status::HostStatus;
-use lio_values::Text;
+use crate::rows::{CLASHES, FAULTS, REFUSED_POLICIES, REFUSED_SCRIPTS, RUNS, WRONG_WORDS};
 use std::process::Abort;
 use std::test::Fail;
 
@@ -26,8 +24,13 @@ fn other_scripts_are_refused(rt: HostRuntime) -> Result<(), Fail> {
 }
 
 #[test]
-fn other_numbers_of_turns_are_refused(rt: HostRuntime) -> Result<(), Fail> {
-    assert_all_hold(&rt, REFUSED_TURNS)
+fn other_policies_are_refused(rt: HostRuntime) -> Result<(), Fail> {
+    assert_all_hold(&rt, REFUSED_POLICIES)
+}
+
+#[test]
+fn taken_names_clash(rt: HostRuntime) -> Result<(), Fail> {
+    assert_all_hold(&rt, CLASHES)
 }
 
 #[test]
@@ -38,13 +41,4 @@ fn faults_name_their_file(rt: HostRuntime) -> Result<(), Fail> {
 #[test]
 fn words_are_two_names(rt: HostRuntime) -> Result<(), Fail> {
     assert_all_hold(&rt, WRONG_WORDS)
-}
-
-#[test]
-fn answers_have_numbers(rt: HostRuntime) -> Result<(), Fail> {
-    let name = Text::of(rt.alloc(), b"a")?;
-    assert_eq!(rt; HostStatus::Done.number(), 0);
-    assert_eq!(rt; HostStatus::WriteFault(name).number(), 7);
-    assert_eq!(rt; HostStatus::NotYet(1, 2).number(), 20);
-    Ok(())
 }

@@ -1,5 +1,5 @@
 -- What the rules decide.
-use Rattle.std.proofs.Common.{◌≡◌, ◌∙◌, ◌⊎◌, inl, inr, ℕ, List, ◌∷◌, length, map, Option, Some, None, Result, Ok, Err, IfErr, sym, ap, subst}
+use Rattle.std.proofs.Common.{◌≡◌, ◌∙◌, ◌⊎◌, inl, inr, ℕ, List, ◌∷◌, length, map, Option, Some, None, Result, Ok, Err, IfOk, IfErr, sym, ap, subst}
 use Rattle.std.specs.List.{filter_map}
 use Rattle.serde_json.specs.Data.{Data}
 use Rattle.serde_json.specs.Find.{as_str}
@@ -8,7 +8,7 @@ use Rattle.serde_json.specs.declared.value.Value.{Value}
 use Rattle.lio_policy.specs.Converted.{first_failing, unmade}
 use Rattle.lio_policy.specs.Shape.{Parts, parts_of, file_of, task_of}
 use Rattle.lio_policy.specs.Rules.{Failing, entries, version_fails, names_fail, labels_fail, flow_fails, arguments_fail, limits_fail, files_fail, file_entry, task_entry, known, tasks_of, longest_of}
-use Rattle.lio_policy.specs.Verdict.{fault_at, blamed, first_fault, least, made, judged, unless_fault, shape_fails, drafted, draft_of, document_of, from_document, from_parts, from_draft, policy_of}
+use Rattle.lio_policy.specs.Verdict.{Gives, fault_at, blamed, first_fault, least, made, judged, unless_fault, shape_fails, drafted, draft_of, document_of, from_document, from_parts, from_draft, policy_of}
 use Rattle.lio_policy.specs.declared.draft.Draft.{Draft}
 use Rattle.lio_policy.specs.declared.draft.FileDraft.{FileDraft}
 use Rattle.lio_policy.specs.declared.draft.TaskDraft.{TaskDraft}
@@ -18,6 +18,9 @@ use Rattle.lio_policy.specs.declared.policy.Policy.{Policy}
 use Rattle.lio_policy.specs.declared.policy.FileEntry.{FileEntry}
 use Rattle.lio_policy.specs.declared.policy.TaskEntry.{TaskEntry}
 use Rattle.lio_policy.proofs.ConvertedLemmas.{unmade_of_map, filter_map_of_map}
+use Rattle.lio_policy.specs.Policy.{PolicyParts, IsPolicy}
+use Rattle.lio_policy.proofs.MadeLemmas.{nothing_fails}
+use Rattle.lio_policy.proofs.PolicyLemmas.{parts, is_policy}
 use Rattle.lio_policy.proofs.FailingLemmas.{Blames, HasLengths, length_unmade}
 
 -- where no entry fails, the rule blames none
@@ -124,21 +127,34 @@ none_blamed d a b c g i j k =
 pub judged_ok : (d : Draft) → Clean (version_fails d) → Clean (names_fail d) → Clean (labels_fail d) → Clean (flow_fails d) → Clean (arguments_fail d) → Clean (limits_fail d) → Clean (files_fail d) → judged d ≡ Ok (made d)
 judged_ok d a b c g i j k = ap (λ o. unless_fault o (Ok (made d))) (none_blamed d a b c g i j k)
 
-abbrev pub Made : Result Policy PolicyFault → Result Policy PolicyFault → Type 0
-Made r s = r ≡ s
-
-pub made_is : (d : Draft) (longest : ℕ) (names : List (List ℕ)) (channels inputs : List FileEntry) (tasks : List TaskEntry) → longest ≡ longest_of d → names ≡ d.principals
+-- the same of what was read part by part
+pub parts_are : (d : Draft) (longest : ℕ) (names : List (List ℕ)) (channels inputs : List FileEntry) (tasks : List TaskEntry) → longest ≡ longest_of d → names ≡ d.principals
     → channels ≡ filter_map (file_entry d.principals) d.channels → inputs ≡ filter_map (file_entry d.principals) d.inputs → tasks ≡ filter_map (task_entry (known d)) (tasks_of d)
-    → Made (Ok (made d)) (Ok (record { longest = longest; names = names; channels = channels; inputs = inputs; tasks = tasks }))
-unfolding made
-made_is d longest names channels inputs tasks e f g h i =
+    → parts d ≡ record { longest = longest; names = names; channels = channels; inputs = inputs; tasks = tasks }
+parts_are d longest names channels inputs tasks e f g h i =
+    let with : ℕ → List (List ℕ) → List FileEntry → List FileEntry → List TaskEntry → PolicyParts = λ l n c i t. record { longest = l; names = n; channels = c; inputs = i; tasks = t } in
     sym (
-    ap (λ x. Ok (record { longest = x; names = names; channels = channels; inputs = inputs; tasks = tasks })) e
-    ∙ ap (λ x. Ok (record { longest = longest_of d; names = x; channels = channels; inputs = inputs; tasks = tasks })) f
-    ∙ ap (λ x. Ok (record { longest = longest_of d; names = d.principals; channels = x; inputs = inputs; tasks = tasks })) g
-    ∙ ap (λ x. Ok (record { longest = longest_of d; names = d.principals; channels = filter_map (file_entry d.principals) d.channels; inputs = x; tasks = tasks })) h
-    ∙ ap (λ x. Ok (record { longest = longest_of d; names = d.principals; channels = filter_map (file_entry d.principals) d.channels; inputs = filter_map (file_entry d.principals) d.inputs; tasks = x })) i
+    ap (λ x. with x names channels inputs tasks) e
+    ∙ ap (λ x. with (longest_of d) x channels inputs tasks) f
+    ∙ ap (λ x. with (longest_of d) d.principals x inputs tasks) g
+    ∙ ap (λ x. with (longest_of d) d.principals (filter_map (file_entry d.principals) d.channels) x tasks) h
+    ∙ ap (λ x. with (longest_of d) d.principals (filter_map (file_entry d.principals) d.channels) (filter_map (file_entry d.principals) d.inputs) x) i
     )
+
+pub made_is : (d : Draft) (p : PolicyParts) → parts d ≡ p → made d ≡ p
+unfolding made
+made_is d p e = e
+
+-- where all pass, the parts are those of a policy
+pub passes_all : (d : Draft) (p : PolicyParts) → parts d ≡ p → Clean (names_fail d) → Clean (labels_fail d) → Clean (flow_fails d) → Clean (arguments_fail d) → Clean (limits_fail d) → Clean (files_fail d) → IsPolicy p
+passes_all d p is b c g i j k = subst IsPolicy is (is_policy d (record {
+  names = nothing_fails (names_fail d) b;
+  labels = nothing_fails (labels_fail d) c;
+  flow = nothing_fails (flow_fails d) g;
+  arguments = nothing_fails (arguments_fail d) i;
+  limits = nothing_fails (limits_fail d) j;
+  files = nothing_fails (files_fail d) k;
+}))
 
 -- ---- the text
 
@@ -156,7 +172,12 @@ pub is_judged : (bytes : List ℕ) (document : Data) (d : Draft) → document_of
 unfolding policy_of
 is_judged bytes document d is e = ap (λ o. from_draft (from_document o)) is ∙ ap from_draft e
 
-pub fault_weaker : (r : Result Policy PolicyFault) (d : Draft) (bytes : List ℕ) → policy_of bytes ≡ judged d → IfErr r (λ fault. (fault ≡ NoMemory) ⊎ (judged d ≡ Err fault)) → IfErr r (λ fault. (fault ≡ NoMemory) ⊎ (policy_of bytes ≡ Err fault))
-fault_weaker (Ok policy) d bytes same h = tt
-fault_weaker (Err fault) d bytes same (inl e) = inl e
-fault_weaker (Err fault) d bytes same (inr e) = inr (same ∙ e)
+-- so what a draft gives, its text gives
+pub gives_ok : (r : Result Policy PolicyFault) (d : Draft) (bytes : List ℕ) → policy_of bytes ≡ judged d → Gives (judged d) r → IfOk r (λ policy. policy_of bytes ≡ Ok policy)
+gives_ok (Ok policy) d bytes same h = same ∙ h
+gives_ok (Err fault) d bytes same h = tt
+
+pub gives_fault : (r : Result Policy PolicyFault) (d : Draft) (bytes : List ℕ) → policy_of bytes ≡ judged d → Gives (judged d) r → IfErr r (λ fault. (fault ≡ NoMemory) ⊎ (policy_of bytes ≡ Err fault))
+gives_fault (Ok policy) d bytes same h = tt
+gives_fault (Err fault) d bytes same (inl e) = inl e
+gives_fault (Err fault) d bytes same (inr e) = inr (same ∙ e)

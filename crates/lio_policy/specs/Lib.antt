@@ -3,3 +3,5 @@ pub mod Shape
 pub mod Rules
 pub mod Verdict
 pub mod Parts
+pub mod Entries
+pub mod Policy

@@ -26,17 +26,21 @@ use Rattle.lio_policy.specs.declared.policy.Arg.TheVariants as arg
 use Rattle.lio_policy.specs.declared.policy.TaskEntry.{TaskEntry}
 use Rattle.lio_policy.specs.declared.arguments.Known.{Known}
 
--- which entries fail
-pub record Failing : Type 0 where
-  pub document : Bool
-  pub principals : List Bool
-  pub channels : List Bool
-  pub inputs : List Bool
-  pub tasks : List Bool
+-- something of each entry
+pub record OfEntries (A : Type 0) : Type 0 where
+  pub document : A
+  pub principals : List A
+  pub channels : List A
+  pub inputs : List A
+  pub tasks : List A
 
 -- the same in the order of their numbers
-abbrev pub entries : Failing → List Bool
+abbrev pub entries : {A : Type 0} → OfEntries A → List A
 entries f = f.document ∷ (f.principals ++ (f.channels ++ (f.inputs ++ f.tasks)))
+
+-- which entries fail
+abbrev pub Failing : Type 0
+Failing = OfEntries Bool
 
 -- no item of a list fails
 abbrev pub none_of : {X : Type 0} → List X → List Bool

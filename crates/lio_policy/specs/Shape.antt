@@ -1,6 +1,6 @@
 -- The shape of a policy's document: which JSON values are which parts of it. A part that has not exactly its keys, or of which a value is
 -- not of its kind, is no part.
-use Rattle.std.specs.Prelude.{ℕ, ◌^◌, ℤ, pos, negsuc, Bool, true, false, ◌&&◌, nat_lt, if◌then◌else◌, List, [], ◌∷◌, codes, bytes_eq, Option, Some, None, option_map, option_and_then, unwrap_or}
+use Rattle.std.specs.Prelude.{ℕ, ℤ, pos, negsuc, Bool, true, false, ◌&&◌, nat_le, if◌then◌else◌, List, [], ◌∷◌, codes, bytes_eq, Option, Some, None, option_map, option_and_then, unwrap_or}
 use Rattle.std.specs.Result.{result_ok}
 use Rattle.serde_json.specs.Data.{Data, Items, no_items, item, Members, no_members, member}
 use Rattle.serde_json.specs.Find.{get, as_null, as_bool, as_number, as_str, as_array, as_object, as_u64, as_i64, as_integer}
@@ -45,8 +45,8 @@ natural (negsuc n) = None
 abbrev pub whole_at : List ℕ → Data → Option (Option ℕ)
 whole_at key d = option_map natural (option_and_then as_integer (option_and_then as_number (get key d)))
 
-abbrev pub of_32_bits : ℕ → Option ℕ
-of_32_bits n = if nat_lt n (2 ^ 32) then Some n else None
+unfoldable pub of_32_bits : ℕ → Option ℕ
+of_32_bits n = if nat_le n 4294967295 then Some n else None
 
 abbrev pub count_at : List ℕ → Data → Option ℕ
 count_at key d = option_and_then of_32_bits (option_and_then as_u64 (option_and_then as_number (get key d)))

@@ -101,3 +101,8 @@ policy_of bytes = from_draft (from_document (document_of bytes))
 abbrev pub Passes : {A : Type 0} → ℕ → ℕ → List Bool → Result A PolicyFault → (A → Type 0) → Type 0
 Passes rule first failing (Ok result) Holds = (first_failing first failing ≡ None) × Holds result
 Passes rule first failing (Err fault) Holds = (fault ≡ NoMemory) ⊎ (fault_at rule (first_failing first failing) ≡ Some fault)
+
+-- what is expected, or want of memory
+abbrev pub Gives : {A : Type 0} → Result A PolicyFault → Result A PolicyFault → Type 0
+Gives expected (Ok result) = expected ≡ Ok result
+Gives expected (Err fault) = (fault ≡ NoMemory) ⊎ (expected ≡ Err fault)

@@ -3,7 +3,7 @@ use lio_labels::Label;
 use lio_values::{List, Plain, Text};
 
 /// A channel or an input, as it is written.
-#[derive(Debug, Drop)]
+#[derive(Drop)]
 pub struct FileDraft {
     pub name: Text,
     pub label: Text,
@@ -11,7 +11,7 @@ pub struct FileDraft {
 }
 
 /// An argument of a task, as it is written.
-#[derive(Debug, Drop)]
+#[derive(Drop)]
 pub enum ArgDraft {
     /// The input with this name.
     Input(Text),
@@ -28,7 +28,7 @@ pub enum ArgDraft {
 }
 
 /// A task, as it is written.
-#[derive(Debug, Drop)]
+#[derive(Drop)]
 pub struct TaskDraft {
     pub name: Text,
     pub proc_name: Text,
@@ -40,7 +40,7 @@ pub struct TaskDraft {
 }
 
 /// A policy's document, as it is written. A negative version or longest is none.
-#[derive(Debug, Drop)]
+#[derive(Drop)]
 pub struct Draft {
     pub version: Option<u64>,
     pub longest: Option<u64>,
@@ -51,7 +51,7 @@ pub struct Draft {
 }
 
 /// An argument of a task whose label or formula is read.
-#[derive(Debug, Drop)]
+#[derive(Drop)]
 pub enum LabelledArg {
     /// The input with this name.
     Input(Text),
@@ -61,7 +61,7 @@ pub enum LabelledArg {
 }
 
 /// A task whose labels and formulas are read.
-#[derive(Debug, Drop)]
+#[derive(Drop)]
 pub struct LabelledTask {
     pub name: Text,
     pub proc_name: Text,

@@ -1,5 +1,6 @@
 //! Looking into a JSON value.
 ghost use Rattle.std.specs.Prelude.{◌≡◌, IfOk, map, option_map};
+ghost use Rattle.serde_json.specs.Find.{as_str};
 ghost use Rattle.serde_json.specs.View.{view};
 ghost use Rattle.lio_policy.specs.Shape as spec;
 
@@ -25,6 +26,16 @@ pub(crate) fn has_keys(value: &Value, keys: &[&str]) -> bool
     place == keys.len()
 }
 
+/// The text that a value is.
+pub(crate) fn text_of(alloc: Global, value: &Value) -> Result<Option<Text>, NoMemory>
+    ensures { IfOk result (λ text. text ≡ as_str (view value.now)) }
+{
+    match value.as_str() {
+        Some(text) => Ok(Some(Text::of(alloc, text.as_bytes())?)),
+        None => Ok(None),
+    }
+}
+
 /// The text at a key.
 pub(crate) fn text_at(alloc: Global, value: &Value, key: &str) -> Result<Option<Text>, NoMemory>
     ensures { IfOk result (λ text. text ≡ spec.text_at key.now (view value.now)) }
@@ -32,10 +43,7 @@ pub(crate) fn text_at(alloc: Global, value: &Value, key: &str) -> Result<Option<
     let Some(found) = value.get(key) else {
         return Ok(None);
     };
-    match found.as_str() {
-        Some(text) => Ok(Some(Text::of(alloc, text.as_bytes())?)),
-        None => Ok(None),
-    }
+    text_of(alloc, found)
 }
 
 /// The items of the array at a key.
@@ -60,15 +68,21 @@ pub(crate) fn whole_at(value: &Value, key: &str) -> Option<Option<u64>>
     }
 }
 
+/// A number that has 32 bits.
+fn of_32_bits(number: u64) -> Option<u32>
+    ensures { result ≡ spec.of_32_bits number }
+{
+    if number <= u32::MAX as u64 {
+        Some(number as u32)
+    } else {
+        None
+    }
+}
+
 /// The whole number of 32 bits without sign at a key.
 pub(crate) fn count_at(value: &Value, key: &str) -> Option<u32>
     ensures { result ≡ spec.count_at key.now (view value.now) }
 {
     let found = value.get(key)?;
-    let number = found.as_u64()?;
-    if number < 1 << 32 {
-        Some(number as u32)
-    } else {
-        None
-    }
+    of_32_bits(found.as_u64()?)
 }

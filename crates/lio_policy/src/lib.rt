@@ -12,13 +12,16 @@ mod files;
 mod json;
 mod keys;
 mod labels;
+pub mod laws;
 mod limits;
 mod names;
+mod numbering;
 mod policy;
 mod read;
 mod shape;
 mod table;
 
 pub use fault::PolicyFault;
+pub use numbering::{EntryAt, EntryKind, entry_at};
 pub use policy::{Arg, Args, FileEntries, FileEntry, Policy, TaskEntries, TaskEntry};
 pub use read::read_policy;

@@ -2,6 +2,7 @@
 use lio_clauses::Names;
 use lio_labels::Label;
 use lio_values::{List, Plain, Text};
+use std::marker::Model;
 
 /// A channel or an input: its name, its label, and the file that it is written to or read from.
 #[derive(Debug, Drop)]
@@ -12,7 +13,7 @@ pub struct FileEntry {
 }
 
 /// An argument of a task.
-#[derive(Debug, Drop)]
+#[derive(Drop)]
 pub enum Arg {
     /// The input with this number.
     Input(u32),
@@ -20,7 +21,7 @@ pub enum Arg {
 }
 
 /// A task: the procedure that it runs, its label and clearance, and the turns, cells and arguments that it is given.
-#[derive(Debug, Drop)]
+#[derive(Drop)]
 pub struct TaskEntry {
     pub name: Text,
     pub proc_name: Text,
@@ -31,7 +32,8 @@ pub struct TaskEntry {
     pub args: Args,
 }
 
-/// A policy: the longest text, the principals, the channels and inputs, and the tasks.
+/// A policy: the longest text, the principals, the channels and inputs, and the tasks. Its type keeps the rules on names, labels, flow,
+/// arguments, limits and files (`IsPolicy`), which a proof learns where the code reads a field.
 #[derive(Drop)]
 pub struct Policy {
     pub longest: u32,
@@ -39,6 +41,28 @@ pub struct Policy {
     pub channels: FileEntries,
     pub inputs: FileEntries,
     pub tasks: TaskEntries,
+}
+
+impl Model for Policy {
+    ghost use Rattle.lio_policy.specs.Policy.{PolicyParts, IsPolicy};
+
+    ghost Value = { PolicyParts };
+
+    ghost view = { λ p. record {
+      longest = p.longest;
+      names = p.names;
+      channels = p.channels;
+      inputs = p.inputs;
+      tasks = p.tasks;
+    } };
+
+    ghost invariant = { λ p. IsPolicy (record {
+      longest = p.longest;
+      names = p.names;
+      channels = p.channels;
+      inputs = p.inputs;
+      tasks = p.tasks;
+    }) };
 }
 
 /// A list of arguments.

@@ -1,7 +1,7 @@
 //! Reading a policy: its rules in their order.
 ghost use Rattle.std.specs.Prelude.{◌≡◌, ◌⊎◌, IfOk, IfErr, Ok, Err};
 ghost use Rattle.lio_policy.specs.Rules.{entries, is_one, version_fails};
-ghost use Rattle.lio_policy.specs.Verdict.{Passes, judged, policy_of};
+ghost use Rattle.lio_policy.specs.Verdict.{Gives, Passes, judged, policy_of};
 
 use crate::arguments::{Known, read_arguments};
 use crate::document::{read_draft, read_value};
@@ -38,9 +38,7 @@ fn check_version(draft: &Draft) -> Result<(), PolicyFault>
 
 /// The policy of a draft.
 fn judge(alloc: Global, draft: &Draft) -> Result<Policy, PolicyFault>
-    ensures ok { IfOk result (λ policy. judged draft.now ≡ Ok policy) }
-    ensures fault { IfErr result (λ fault. (fault ≡ PolicyFault.NoMemory)
-        ⊎ (judged draft.now ≡ Err fault)) }
+    ensures { Gives (judged draft.now) result }
 {
     check_version(draft)?;
     let Named {

@@ -6,7 +6,7 @@ ghost use Rattle.lio_policy.specs.Shape as spec;
 
 use crate::conversion::{Conversion, each};
 use crate::draft::{ArgDraft, FileDraft, TaskDraft};
-use crate::json::{count_at, has_keys, items_at, text_at};
+use crate::json::{count_at, has_keys, items_at, text_at, text_of};
 use lio_clauses::NoMemory;
 use lio_values::{List, Text};
 use serde_json::Value;
@@ -19,10 +19,7 @@ impl Conversion<Value, Text> for Shape {
     ghost gives = { λ _ value. as_str (view value) };
 
     fn convert(&self, alloc: Global, value: &Value) -> Result<Option<Text>, NoMemory> {
-        match value.as_str() {
-            Some(text) => Ok(Some(Text::of(alloc, text.as_bytes())?)),
-            None => Ok(None),
-        }
+        text_of(alloc, value)
     }
 }
 

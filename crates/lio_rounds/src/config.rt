@@ -14,14 +14,14 @@ use lio_values::{Act, Content, Entry, Reply, Text};
 use std::alloc::Global;
 
 /// A node and, where it is a job, its task.
-#[derive(Debug, Drop)]
+#[derive(Drop)]
 pub struct Holder {
     pub state: State,
     pub task: Option<Task>,
 }
 
 /// The nodes by number, and how long a text may become.
-#[derive(Debug, Drop)]
+#[derive(Drop)]
 pub struct Config {
     pub holders: Vec<Holder>,
     pub longest: u32,

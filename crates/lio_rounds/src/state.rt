@@ -9,7 +9,7 @@ use lio_labels::Label;
 use lio_values::{Act, Content, Text};
 
 /// What a node holds.
-#[derive(Debug, Drop)]
+#[derive(Drop)]
 pub enum State {
     /// Nothing.
     Absent,

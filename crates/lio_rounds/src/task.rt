@@ -11,7 +11,7 @@ use lio_values::{Act, Content, Fault, FaultKind, Held, Plain, Reply};
 use std::alloc::Global;
 
 /// What a task's next turn does.
-#[derive(Debug, Drop)]
+#[derive(Drop)]
 pub enum Next {
     /// Nothing: the task has ended.
     Over,

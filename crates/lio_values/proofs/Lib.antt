@@ -1,1 +1,3 @@
 pub mod ErasureLemmas
+pub mod DerivedEquality
+pub mod EqualityLemmas

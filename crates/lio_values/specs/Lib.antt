@@ -1,6 +1,5 @@
 pub mod Erasure
 pub mod Laws
+pub mod Equality
 pub mod Quoted
 pub mod PlainText
-pub mod ValueText
-pub mod Named

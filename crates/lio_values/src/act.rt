@@ -12,24 +12,37 @@ use std::alloc::Global;
 /// An operation that a guard tests.
 #[derive(Clone, Copy, Debug, PartialEq, Eq)]
 pub enum Op {
+    /// Sealing a value.
     Seal,
+    /// Making a reference.
     NewRef,
+    /// Making a variable.
     NewVar,
+    /// Writing to a reference.
     Write,
+    /// Sending to a channel.
     Send,
+    /// Forking a task.
     Fork,
+    /// Lowering the clearance.
     Lower,
+    /// Opening a sealed value.
     Unlabel,
+    /// Raising the current label.
     Taint,
+    /// Reading a reference.
     Read,
+    /// Waiting for a result.
     Wait,
+    /// Taking from a variable.
     Take,
+    /// Putting into a variable.
     Put,
 }
 
 /// A new task: its procedure's place in the script and its arguments, the label of its result, its clearance, its turns, and the
 /// numbers that it is given.
-#[derive(Debug, PartialEq, Eq, Drop)]
+#[derive(PartialEq, Eq, Drop)]
 pub struct Birth {
     pub proc_at: u32,
     pub args: Values,
@@ -41,7 +54,7 @@ pub struct Birth {
 }
 
 /// What a task does in a turn.
-#[derive(Debug, PartialEq, Eq, Drop)]
+#[derive(PartialEq, Eq, Drop)]
 pub enum Act {
     /// Something that concerns the task alone.
     Step,
@@ -53,14 +66,23 @@ pub enum Act {
     Lower(Label),
     /// Releases a content from the first label to the second by a privilege.
     Release(Held<Label>, Held<Label>, Priv, Held<Content>),
+    /// Makes a reference with this label that holds the value.
     NewRef(Label, Held<Value>),
+    /// Makes a variable with this label, which is full where there is a value.
     NewVar(Label, Held<Option<Value>>),
+    /// Makes a task whose result can be waited for.
     Fork(Held<Birth>),
+    /// Makes a task that nobody waits for.
     Spawn(Held<Birth>),
+    /// Reads a reference.
     Read,
+    /// Writes the value to a reference.
     Write(Held<Value>),
+    /// Takes what a variable holds, and leaves it empty.
     Take,
+    /// Puts the value into an empty variable.
     Put(Held<Value>),
+    /// Waits for the result of a task.
     Wait,
     /// Sends the text to a channel.
     Send(Text),
@@ -69,8 +91,9 @@ pub enum Act {
 }
 
 /// What a turn is answered.
-#[derive(Debug, PartialEq, Eq, Drop)]
+#[derive(PartialEq, Eq, Drop)]
 pub enum Reply {
+    /// The turn was carried out.
     Done,
     /// What a reference or a variable held.
     Got(Held<Value>),

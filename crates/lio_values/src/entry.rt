@@ -8,7 +8,7 @@ use std::alloc::Global;
 use std::mem::size_of;
 
 /// One turn of one task, as a journal records it. Source: the small steps of the concurrent calculus of LIO, ICFP 2012.
-#[derive(Debug, PartialEq, Eq, Drop)]
+#[derive(PartialEq, Eq, Drop)]
 pub struct Entry {
     /// How many turns came before it.
     pub ticket: u64,
@@ -35,8 +35,8 @@ impl Entry {
         ensures { IfOk result (λ entry. entry ≡ self.now) }
     {
         let at = self.at.copy(alloc)?;
-        let act = self.act.copy(alloc)?;
         let reply = self.reply.copy(alloc)?;
+        let act = self.act.copy(alloc)?;
         Ok(Entry {
             ticket: self.ticket,
             actor: self.actor,

@@ -162,8 +162,8 @@ impl Entry {
         ensures { IfOk result (λ entry. entry ≡ erase_entry observer.now self.now) }
     {
         let at = self.at.copy(alloc)?;
-        let act = self.act.erase(alloc, observer)?;
         let reply = self.reply.erase(alloc, observer)?;
+        let act = self.act.erase(alloc, observer)?;
         Ok(Entry {
             ticket: self.ticket,
             actor: self.actor,

@@ -8,7 +8,7 @@ use lio_labels::{Label, Priv};
 use std::alloc::Global;
 
 /// What went wrong.
-#[derive(Debug, PartialEq, Eq, Drop)]
+#[derive(PartialEq, Eq, Drop)]
 pub enum FaultKind {
     /// The current label doesn't flow to the target.
     FlowCurrent(Label, Label),
@@ -41,10 +41,19 @@ pub enum FaultKind {
 }
 
 /// A fault, with the current label of the task when it was thrown.
-#[derive(Debug, PartialEq, Eq, Drop)]
+#[derive(PartialEq, Eq, Drop)]
 pub struct Fault {
     pub kind: FaultKind,
     pub at: Label,
+}
+
+/// Copies of two labels.
+fn copy_two(alloc: Global, first: &Label, second: &Label) -> Result<(Label, Label), NoMemory>
+    ensures { IfOk result (λ labels. (labels.0 ≡ first.now) × (labels.1 ≡ second.now)) }
+{
+    let first = first.copy(alloc)?;
+    let second = second.copy(alloc)?;
+    Ok((first, second))
 }
 
 impl FaultKind {
@@ -53,23 +62,23 @@ impl FaultKind {
         ensures { IfOk result (λ kind. kind ≡ self.now) }
     {
         match self {
-            FaultKind::FlowCurrent(current, target) => Ok(FaultKind::FlowCurrent(
-                current.copy(alloc)?,
-                target.copy(alloc)?,
-            )),
-            FaultKind::FlowClearance(target, clearance) => Ok(FaultKind::FlowClearance(
-                target.copy(alloc)?,
-                clearance.copy(alloc)?,
-            )),
-            FaultKind::FlowRaise(raised, clearance) => Ok(FaultKind::FlowRaise(
-                raised.copy(alloc)?,
-                clearance.copy(alloc)?,
-            )),
-            FaultKind::FlowPrivilege(power, source, target) => Ok(FaultKind::FlowPrivilege(
-                power.copy(alloc)?,
-                source.copy(alloc)?,
-                target.copy(alloc)?,
-            )),
+            FaultKind::FlowCurrent(current, target) => {
+                let (current, target) = copy_two(alloc, current, target)?;
+                Ok(FaultKind::FlowCurrent(current, target))
+            }
+            FaultKind::FlowClearance(target, clearance) => {
+                let (target, clearance) = copy_two(alloc, target, clearance)?;
+                Ok(FaultKind::FlowClearance(target, clearance))
+            }
+            FaultKind::FlowRaise(raised, clearance) => {
+                let (raised, clearance) = copy_two(alloc, raised, clearance)?;
+                Ok(FaultKind::FlowRaise(raised, clearance))
+            }
+            FaultKind::FlowPrivilege(power, source, target) => {
+                let power = power.copy(alloc)?;
+                let (source, target) = copy_two(alloc, source, target)?;
+                Ok(FaultKind::FlowPrivilege(power, source, target))
+            }
             FaultKind::BadType => Ok(FaultKind::BadType),
             FaultKind::Overflow => Ok(FaultKind::Overflow),
             FaultKind::DivZero => Ok(FaultKind::DivZero),
@@ -78,10 +87,10 @@ impl FaultKind {
             FaultKind::NoCells(asked, left) => Ok(FaultKind::NoCells(*asked, *left)),
             FaultKind::ChildTurns(asked, left) => Ok(FaultKind::ChildTurns(*asked, *left)),
             FaultKind::Depth => Ok(FaultKind::Depth),
-            FaultKind::LabelWide(left, right) => Ok(FaultKind::LabelWide(
-                left.copy(alloc)?,
-                right.copy(alloc)?,
-            )),
+            FaultKind::LabelWide(left, right) => {
+                let (left, right) = copy_two(alloc, left, right)?;
+                Ok(FaultKind::LabelWide(left, right))
+            }
             FaultKind::User(plain) => Ok(FaultKind::User(plain.copy(alloc)?)),
         }
     }

@@ -1,5 +1,11 @@
-//! The laws of erasure. Each function does nothing: its contract is the law.
+//! The laws of erasure and of equality. Each function does nothing: its contract is the law.
+ghost use Rattle.lio_values.specs.Equality.{IsEquality};
 ghost use Rattle.lio_values.specs.Laws.{EntryErasedBelow, EntryErasedTwice, ValueErasedBelow, ValueErasedTwice};
+
+use crate::act::{Act, Birth, Reply};
+use crate::entry::Entry;
+use crate::fault::{Fault, FaultKind};
+use crate::value::{Content, Handle, Plain, Value};
 
 /// Erasing a value twice at one label is erasing it once.
 #[tactic(auto, using(crate::proofs::ErasureLemmas::value_erased_twice))]
@@ -23,4 +29,29 @@ pub fn entry_erased_twice()
 #[tactic(auto, using(crate::proofs::ErasureLemmas::entry_erased_below))]
 pub fn entry_erased_below()
     ensures { EntryErasedBelow }
+{}
+
+/// `==` of handles, plain values, contents and values is true exactly where they are equal.
+#[tactic(auto, using(crate::proofs::EqualityLemmas::handle_equality, crate::proofs::EqualityLemmas::plain_equality, crate::proofs::EqualityLemmas::content_equality, crate::proofs::EqualityLemmas::value_equality))]
+pub fn equality_of_values()
+    ensures handles { IsEquality ⟦<Handle as PartialEq>⟧.eq }
+    ensures plains { IsEquality ⟦<Plain as PartialEq>⟧.eq }
+    ensures contents { IsEquality ⟦<Content as PartialEq>⟧.eq }
+    ensures values { IsEquality ⟦<Value as PartialEq>⟧.eq }
+{}
+
+/// `==` of faults and of their kinds is true exactly where they are equal.
+#[tactic(auto, using(crate::proofs::EqualityLemmas::kind_equality, crate::proofs::EqualityLemmas::fault_equality))]
+pub fn equality_of_faults()
+    ensures kinds { IsEquality ⟦<FaultKind as PartialEq>⟧.eq }
+    ensures faults { IsEquality ⟦<Fault as PartialEq>⟧.eq }
+{}
+
+/// `==` of births, acts, replies and entries is true exactly where they are equal.
+#[tactic(auto, using(crate::proofs::EqualityLemmas::birth_equality, crate::proofs::EqualityLemmas::act_equality, crate::proofs::EqualityLemmas::reply_equality, crate::proofs::EqualityLemmas::entry_equality))]
+pub fn equality_of_turns()
+    ensures births { IsEquality ⟦<Birth as PartialEq>⟧.eq }
+    ensures acts { IsEquality ⟦<Act as PartialEq>⟧.eq }
+    ensures replies { IsEquality ⟦<Reply as PartialEq>⟧.eq }
+    ensures entries { IsEquality ⟦<Entry as PartialEq>⟧.eq }
 {}

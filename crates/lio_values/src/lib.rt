@@ -9,7 +9,6 @@ mod held;
 pub mod laws;
 mod list;
 mod print;
-mod print_values;
 mod text;
 mod value;
 
@@ -19,6 +18,5 @@ pub use fault::{Fault, FaultKind};
 pub use held::Held;
 pub use list::List;
 pub use print::{print_label, print_number, print_power, print_quoted};
-pub use print_values::{print_content, print_fault, print_labels, print_value};
 pub use text::Text;
 pub use value::{Content, Handle, Plain, Value, Values};

@@ -1,6 +1,7 @@
-//! Printing texts, labels and plain values, as scripts and journals have them.
-ghost use Rattle.std.specs.Prelude.{◌≡◌, ◌++◌, ◌^◌, ◌<◌, List, ℕ, codes, decimal, OnOk};
+//! Printing texts, labels and plain values, as scripts and journals have them. After want of memory what is printed to is as before.
+ghost use Rattle.std.specs.Prelude.{◌≡◌, ◌++◌, ◌^◌, ◌<◌, List, ℕ, codes, decimal, take, OnOk, OnErr};
 ghost use Rattle.std.specs.Fmt.{signed_decimal};
+ghost use Rattle.lio_clauses.specs.FormulaPrint.{Extends};
 ghost use Rattle.lio_labels.specs.LabelPrint.{AreNamed};
 ghost use Rattle.lio_values.specs.Quoted.{hex_digit, escaped, quoted};
 ghost use Rattle.lio_values.specs.PlainText.{label_in_brackets, power_text, handle_text, plain_text, IsPowerNamed, IsPlainNamed};
@@ -12,7 +13,8 @@ use lio_labels::{Label, Priv};
 
 /// Appends a number.
 pub fn print_number(out: &mut Vec<u8>, number: u64) -> Result<(), NoMemory>
-    ensures { OnOk result (out.new.items ≡ out.old.items ++ decimal number) }
+    ensures ok { OnOk result (out.new.items ≡ out.old.items ++ decimal number) }
+    ensures err { OnErr result (out.new.items ≡ out.old.items) }
 {
     let mut buffer = Buffer::new();
     out.extend_from_slice(buffer.format(number).as_bytes())?;
@@ -21,7 +23,8 @@ pub fn print_number(out: &mut Vec<u8>, number: u64) -> Result<(), NoMemory>
 
 /// Appends a number with a sign.
 fn print_whole(out: &mut Vec<u8>, number: i64) -> Result<(), NoMemory>
-    ensures { OnOk result (out.new.items ≡ out.old.items ++ signed_decimal number) }
+    ensures ok { OnOk result (out.new.items ≡ out.old.items ++ signed_decimal number) }
+    ensures err { OnErr result (out.new.items ≡ out.old.items) }
 {
     let mut buffer = Buffer::new();
     out.extend_from_slice(buffer.format(number).as_bytes())?;
@@ -43,7 +46,8 @@ fn hex_digit(digit: u8) -> u8
 /// Appends a byte as it stands in quotes.
 #[tactic(auto, unfolding(crate::specs::Quoted::escaped))]
 fn print_escaped(out: &mut Vec<u8>, byte: u8) -> Result<(), NoMemory>
-    ensures { OnOk result (out.new.items ≡ out.old.items ++ escaped byte) }
+    ensures ok { OnOk result (out.new.items ≡ out.old.items ++ escaped byte) }
+    ensures err { OnErr result (out.new.items ≡ out.old.items) }
 {
     match byte {
         b'"' => out.extend_from_slice(b"\\\"")?,
@@ -55,9 +59,22 @@ fn print_escaped(out: &mut Vec<u8>, byte: u8) -> Result<(), NoMemory>
     Ok(())
 }
 
-/// Appends bytes in quotes.
-pub fn print_quoted(out: &mut Vec<u8>, bytes: &[u8]) -> Result<(), NoMemory>
-    ensures { OnOk result (out.new.items ≡ out.old.items ++ quoted bytes.now) }
+/// Takes off again what stands behind the first `len` bytes, where it couldn't be printed whole.
+fn restore(out: &mut Vec<u8>, len: usize, printed: Result<(), NoMemory>) -> Result<(), NoMemory>
+    ensures same { result ≡ printed }
+    ensures ok { OnOk result (out.new.items ≡ out.old.items) }
+    ensures err { OnErr result (out.new.items ≡ take len out.old.items) }
+{
+    if printed.is_err() {
+        out.truncate(len);
+    }
+    printed
+}
+
+/// Appends bytes in quotes. After want of memory a part of them may stand at the end.
+fn append_quoted(out: &mut Vec<u8>, bytes: &[u8]) -> Result<(), NoMemory>
+    ensures ok { OnOk result (out.new.items ≡ out.old.items ++ quoted bytes.now) }
+    ensures kept { Extends out.old.items out.new.items }
 {
     out.push(b'"')?;
     for byte in bytes {
@@ -67,10 +84,21 @@ pub fn print_quoted(out: &mut Vec<u8>, bytes: &[u8]) -> Result<(), NoMemory>
     Ok(())
 }
 
-/// Appends a label between `<` and `>`.
-pub fn print_label(out: &mut Vec<u8>, label: &Label, names: &Names) -> Result<(), NoMemory>
+/// Appends bytes in quotes.
+pub fn print_quoted(out: &mut Vec<u8>, bytes: &[u8]) -> Result<(), NoMemory>
+    ensures ok { OnOk result (out.new.items ≡ out.old.items ++ quoted bytes.now) }
+    ensures err { OnErr result (out.new.items ≡ out.old.items) }
+{
+    let len = out.len();
+    let printed = append_quoted(out, bytes);
+    restore(out, len, printed)
+}
+
+/// Appends a label between `<` and `>`. After want of memory a part of it may stand at the end.
+fn append_label(out: &mut Vec<u8>, label: &Label, names: &Names) -> Result<(), NoMemory>
     requires { AreNamed names.now label.now }
-    ensures { OnOk result (out.new.items ≡ out.old.items ++ label_in_brackets names.now label.now) }
+    ensures ok { OnOk result (out.new.items ≡ out.old.items ++ label_in_brackets names.now label.now) }
+    ensures kept { Extends out.old.items out.new.items }
 {
     out.push(b'<')?;
     label.secrecy.print_to(out, names)?;
@@ -80,15 +108,54 @@ pub fn print_label(out: &mut Vec<u8>, label: &Label, names: &Names) -> Result<()
     Ok(())
 }
 
-/// Appends a privilege.
-pub fn print_power(out: &mut Vec<u8>, privilege: &Priv, names: &Names) -> Result<(), NoMemory>
+/// Appends a label between `<` and `>`.
+pub fn print_label(out: &mut Vec<u8>, label: &Label, names: &Names) -> Result<(), NoMemory>
+    requires { AreNamed names.now label.now }
+    ensures ok { OnOk result (out.new.items ≡ out.old.items ++ label_in_brackets names.now label.now) }
+    ensures err { OnErr result (out.new.items ≡ out.old.items) }
+{
+    let len = out.len();
+    let printed = append_label(out, label, names);
+    restore(out, len, printed)
+}
+
+/// Appends a privilege. After want of memory a part of it may stand at the end.
+fn append_power(out: &mut Vec<u8>, privilege: &Priv, names: &Names) -> Result<(), NoMemory>
     requires { IsPowerNamed names.now privilege.now }
-    ensures { OnOk result (out.new.items ≡ out.old.items ++ power_text names.now privilege.now) }
+    ensures ok { OnOk result (out.new.items ≡ out.old.items ++ power_text names.now privilege.now) }
+    ensures kept { Extends out.old.items out.new.items }
 {
     out.extend_from_slice(b"power<")?;
     privilege.power.print_to(out, names)?;
     out.push(b'>')?;
     Ok(())
+}
+
+/// Appends a privilege.
+pub fn print_power(out: &mut Vec<u8>, privilege: &Priv, names: &Names) -> Result<(), NoMemory>
+    requires { IsPowerNamed names.now privilege.now }
+    ensures ok { OnOk result (out.new.items ≡ out.old.items ++ power_text names.now privilege.now) }
+    ensures err { OnErr result (out.new.items ≡ out.old.items) }
+{
+    let len = out.len();
+    let printed = append_power(out, privilege, names);
+    restore(out, len, printed)
+}
+
+/// Appends a handle of a kind. After want of memory a part of it may stand at the end.
+fn append_handle(
+    out: &mut Vec<u8>,
+    kind: &[u8],
+    handle: &Handle,
+    names: &Names,
+) -> Result<(), NoMemory>
+    requires { AreNamed names.now handle.now.label }
+    ensures ok { OnOk result (out.new.items ≡ out.old.items ++ handle_text names.now kind.now handle.now) }
+    ensures kept { Extends out.old.items out.new.items }
+{
+    out.extend_from_slice(kind)?;
+    print_number(out, u64::from(handle.number))?;
+    print_label(out, &handle.label, names)
 }
 
 /// Appends a handle of a kind.
@@ -99,19 +166,20 @@ fn print_handle(
     names: &Names,
 ) -> Result<(), NoMemory>
     requires { AreNamed names.now handle.now.label }
-    ensures { OnOk result (out.new.items ≡ out.old.items ++ handle_text names.now kind.now handle.now) }
+    ensures ok { OnOk result (out.new.items ≡ out.old.items ++ handle_text names.now kind.now handle.now) }
+    ensures err { OnErr result (out.new.items ≡ out.old.items) }
 {
-    out.extend_from_slice(kind)?;
-    print_number(out, u64::from(handle.number))?;
-    print_label(out, &handle.label, names)
+    let len = out.len();
+    let printed = append_handle(out, kind, handle, names);
+    restore(out, len, printed)
 }
 
 impl Plain {
     /// Appends its text: `unit`, `true`, `-5`, `"text"`, `<label>`, `power<formula>`, `ref#3<label>` and so on.
-    /// After want of memory a part of it may stand at the end.
     pub fn print_to(&self, out: &mut Vec<u8>, names: &Names) -> Result<(), NoMemory>
         requires { IsPlainNamed names.now self.now }
-        ensures { OnOk result (out.new.items ≡ out.old.items ++ plain_text names.now self.now) }
+        ensures ok { OnOk result (out.new.items ≡ out.old.items ++ plain_text names.now self.now) }
+        ensures err { OnErr result (out.new.items ≡ out.old.items) }
     {
         match self {
             Plain::Unit => out.extend_from_slice(b"unit")?,

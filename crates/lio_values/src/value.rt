@@ -10,20 +10,24 @@ use lio_labels::{Label, Priv};
 use std::alloc::Global;
 
 /// A node by its number, with its label.
-#[derive(Debug, PartialEq, Eq, Drop)]
+#[derive(PartialEq, Eq, Drop)]
 pub struct Handle {
     pub number: u32,
     pub label: Label,
 }
 
 /// A value without a label of its own.
-#[derive(Debug, PartialEq, Eq, Drop)]
+#[derive(PartialEq, Eq, Drop)]
 pub enum Plain {
     /// The value that says nothing.
     Unit,
+    /// A truth value.
     Flag(bool),
+    /// A number of 64 bits with a sign.
     Whole(i64),
+    /// A text.
     Bytes(Text),
+    /// A label.
     Lab(Label),
     /// A privilege. It comes from the policy alone.
     Power(Priv),
@@ -38,18 +42,22 @@ pub enum Plain {
 }
 
 /// What a labelled value or a result holds.
-#[derive(Debug, PartialEq, Eq, Drop)]
+#[derive(PartialEq, Eq, Drop)]
 pub enum Content {
+    /// A plain value.
     Kept(Plain),
+    /// The fault with which what would have given a value ended.
     Faulted(Held<Fault>),
     /// What stands for a content that an observer may not learn.
     Hidden,
 }
 
 /// A value: bare, or sealed under a label. Source: the labelled values of LIO, ICFP 2012.
-#[derive(Debug, PartialEq, Eq, Drop)]
+#[derive(PartialEq, Eq, Drop)]
 pub enum Value {
+    /// A plain value.
     Bare(Plain),
+    /// A content under a label.
     Sealed(Label, Held<Content>),
 }
 

@@ -1,7 +1,6 @@
-use Rattle.std.proofs.Common.{◌∙◌}
-use Rattle.std.proofs.lemmas.Result.{err_from_is_err_and, IfOk-weaker}
+use Rattle.std.proofs.lemmas.Result.{err_from_is_err_and}
 use Rattle.serde_json.specs.View.{view}
-use Rattle.lio_policy.proofs.VerdictLemmas.{no_document, no_draft, is_judged, fault_weaker}
+use Rattle.lio_policy.proofs.VerdictLemmas.{no_document, no_draft, is_judged, gives_ok, gives_fault}
 use Rattle.lio_policy.proofs.read.read_policy.Goals as goal
 
 pub returns-in_err-value-clause-fault : goal.returns-in_err-value-clause-fault
@@ -16,10 +15,10 @@ returns-in_err-draft-clause-fault c =
 
 pub returns-clause-ok : goal.returns-clause-ok
 returns-clause-ok c =
-    let same = is_judged c.args.bytes.now (view c.in_ok-value.value) c.in_ok-draft.draft c.in_ok-value.ensures.ok c.in_ok-draft.ensures.ok in
-    IfOk-weaker c.judge.result _ _ (λ policy h. same ∙ h) c.judge.ensures.ok
+    gives_ok c.judge.result c.in_ok-draft.draft c.args.bytes.now
+    (is_judged c.args.bytes.now (view c.in_ok-value.value) c.in_ok-draft.draft c.in_ok-value.ensures.ok c.in_ok-draft.ensures.ok) c.judge.ensures
 
 pub returns-clause-fault : goal.returns-clause-fault
 returns-clause-fault c =
-    let same = is_judged c.args.bytes.now (view c.in_ok-value.value) c.in_ok-draft.draft c.in_ok-value.ensures.ok c.in_ok-draft.ensures.ok in
-    fault_weaker c.judge.result c.in_ok-draft.draft c.args.bytes.now same c.judge.ensures.fault
+    gives_fault c.judge.result c.in_ok-draft.draft c.args.bytes.now
+    (is_judged c.args.bytes.now (view c.in_ok-value.value) c.in_ok-draft.draft c.in_ok-value.ensures.ok c.in_ok-draft.ensures.ok) c.judge.ensures

@@ -1,0 +1,10 @@
+use Rattle.std.proofs.Common.{◌≡◌, take, drop, []}
+use Rattle.lio_host.specs.Clash.{first_taken, is_read}
+use Rattle.lio_host.specs.Loading.{named}
+use Rattle.lio_host.proofs.clash.clash.Given as goal
+
+-- none of the channels so far is taken
+abbrev pub invariant-loop-place : goal.invariant-loop-place
+invariant-loop-place l =
+    let read = is_read (named l.command) l.policy in
+    first_taken read [] l.policy.channels ≡ first_taken read (take l.place l.policy.channels) (drop l.place l.policy.channels)
