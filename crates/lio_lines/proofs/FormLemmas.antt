@@ -3,7 +3,7 @@ use Rattle.std.proofs.Common.{◌≡◌, ℕ, true, false, List, [], ◌∷◌, 
 use Rattle.std.proofs.lemmas.List.{append-nil}
 use Rattle.std.specs.Option.{option_map}
 use Rattle.lio_lines.specs.declared.line.Operand.{Operand}
-use Rattle.lio_lines.specs.Literals.{is_name}
+use Rattle.lio_words.specs.Literals.{is_name}
 use Rattle.lio_lines.specs.Operands.{operand_of}
 use Rattle.lio_lines.specs.Forms.{◌>>=◌, operands, names_of}
 

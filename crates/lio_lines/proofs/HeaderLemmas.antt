@@ -3,13 +3,13 @@ use Rattle.std.proofs.Common.{◌≡◌, ℕ, suc, ◌+◌, ◌≤◌, Bool, tru
 use Rattle.std.proofs.lemmas.Bool.Decides.{nat_tests}
 use Rattle.std.specs.Prelude.{nat_le, if◌then◌else◌}
 use Rattle.std.specs.Option.{option_map}
-use Rattle.lio_lines.specs.declared.keyword.Keyword.{Keyword}
-use Rattle.lio_lines.specs.declared.keyword.Keyword.TheVariants as keyword
+use Rattle.lio_words.specs.declared.keyword.Keyword.{Keyword}
+use Rattle.lio_words.specs.declared.keyword.Keyword.TheVariants as keyword
 use Rattle.lio_lines.specs.declared.line.Line.{Line}
 use Rattle.lio_lines.specs.declared.line.Line.TheVariants as line
 use Rattle.lio_lines.specs.declared.line.ParsedLine.TheVariants.{Blank}
-use Rattle.lio_lines.specs.Literals.{is_name}
-use Rattle.lio_lines.specs.Keyword.{keyword_of}
+use Rattle.lio_words.specs.Literals.{is_name}
+use Rattle.lio_words.specs.Keyword.{keyword_of}
 use Rattle.lio_lines.specs.Forms.{◌>>=◌, ended, names_of, header, form, one, two_names, simple, parsed, is_proc_keyword, is_proc, begins_comment, words_line, line_of_words}
 use Rattle.lio_lines.specs.Header.{signature, header_of, parsed_header}
 use Rattle.lio_lines.specs.Limited.{limited}

@@ -1,4 +1,2 @@
-pub mod WordLemmas
-pub mod LiteralLemmas
 pub mod FormLemmas
 pub mod HeaderLemmas

@@ -2,15 +2,15 @@
 use Rattle.std.specs.Prelude.{ℕ, List, ◌++◌, codes}
 use Rattle.std.specs.List.{flat_map}
 use Rattle.lio_values.specs.PlainText.{plain_text}
-use Rattle.lio_lines.specs.declared.keyword.Keyword.TheVariants as keyword
+use Rattle.lio_words.specs.declared.keyword.Keyword.TheVariants as keyword
 use Rattle.lio_lines.specs.declared.line.Operand.{Operand}
 use Rattle.lio_lines.specs.declared.line.Operand.TheVariants.{Name, Literal}
 use Rattle.lio_lines.specs.declared.line.Simple.{Simple}
 use Rattle.lio_lines.specs.declared.line.Simple.TheVariants.{Let, LetOne, LetTwo, Call, Return, Stop, Throw, Label, Unlabel, Taint, Lower, Relabel, NewRef, NewVar, FullVar, Read, Write, Take, Put, Fork, Spawn, Wait, Send}
 use Rattle.lio_lines.specs.declared.line.Line.{Line}
 use Rattle.lio_lines.specs.declared.line.Line.TheVariants.{Proc, If, Else, While, Try, Catch, End, Do}
-use Rattle.lio_lines.specs.Keyword.{word_of}
-use Rattle.lio_lines.specs.Operators.{one_word, two_word}
+use Rattle.lio_words.specs.Keyword.{word_of}
+use Rattle.lio_words.specs.Operators.{one_word, two_word}
 
 -- an operand: a name, or the text of a literal
 abbrev pub operand_text : List (List ℕ) → Operand → List ℕ

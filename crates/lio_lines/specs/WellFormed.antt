@@ -6,7 +6,7 @@ use Rattle.lio_lines.specs.declared.line.Line.{Line}
 use Rattle.lio_lines.specs.declared.line.Line.TheVariants.{Proc, If, Else, While, Try, Catch, End, Do}
 use Rattle.lio_lines.specs.declared.line.ParsedLine.{ParsedLine}
 use Rattle.lio_lines.specs.declared.line.ParsedLine.TheVariants.{Blank, Invalid, Says}
-use Rattle.lio_lines.specs.Literals.{is_name}
+use Rattle.lio_words.specs.Literals.{is_name}
 use Rattle.lio_lines.specs.Operands.{IsOperand}
 
 -- a name is no reserved word

@@ -7,8 +7,8 @@ ghost use Rattle.lio_lines.specs.WellFormed.{IsName, IsSimple};
 
 use crate::fault::LineFault;
 use crate::line::Operand;
-use crate::literals::{is_name, read_literal};
-use crate::words::split_word;
+use lio_words::{is_name, read_literal};
+use lio_words::split_word;
 use lio_clauses::Names;
 use lio_values::Text;
 use std::alloc::Global;
@@ -22,7 +22,7 @@ pub(crate) struct Words<'a> {
 
 impl<'a> Model for Words<'a> {
     ghost use Rattle.std.specs.Prelude.{List, ℕ};
-    ghost use Rattle.lio_lines.specs.Words.{words};
+    ghost use Rattle.lio_words.specs.Words.{words};
 
     ghost Value = { List (List ℕ) };
 
@@ -46,7 +46,7 @@ pub(crate) fn read_operand(alloc: Global, names: &Names, word: &[u8]) -> Result<
 }
 
 impl<'a> Words<'a> {
-    ghost use Rattle.lio_lines.specs.Words.{words};
+    ghost use Rattle.lio_words.specs.Words.{words};
 
     /// The words of a line.
     pub(crate) fn of(line: &'a [u8]) -> Words<'a>

@@ -1,5 +1,5 @@
 //! What the lines of a script say.
-use crate::operators::{One, Two};
+use lio_words::{One, Two};
 use lio_values::{List, Plain, Text};
 
 /// What a statement works on.

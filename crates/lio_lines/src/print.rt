@@ -1,11 +1,11 @@
 //! Printing lines.
 ghost use Rattle.std.specs.Prelude.{◌≡◌, ◌++◌, OnOk, All};
-ghost use Rattle.lio_lines.specs.Keyword.{word_of};
+ghost use Rattle.lio_words.specs.Keyword.{word_of};
 ghost use Rattle.lio_lines.specs.LineText.{line_text, names_spaced, operand_spaced, operands_spaced, simple_text, spaced};
 ghost use Rattle.lio_lines.specs.Operands.{IsOperand};
 ghost use Rattle.lio_lines.specs.WellFormed.{IsLine, IsSimple};
 
-use crate::keyword::Keyword;
+use lio_words::Keyword;
 use crate::line::{Line, Operand, Simple};
 use lio_clauses::{Names, NoMemory};
 use lio_values::Text;

@@ -1,7 +1,9 @@
 //! Scripts.
-ghost use Rattle.std.specs.Prelude.{◌≡◌};
+ghost use Rattle.std.specs.Prelude.{◌≡◌, IfOk};
 
+use lio_clauses::NoMemory;
 use lio_lines::Line;
+use std::alloc::Global;
 use std::marker::Model;
 
 /// A script, seen as the list of its procedures. It keeps its lines, without those that say nothing, and they break no rule.
@@ -46,4 +48,23 @@ impl Script {
     {
         self.lines.as_slice()
     }
+
+    /// An equal script.
+    pub fn copy(&self, alloc: Global) -> Result<Script, NoMemory>
+        ensures { IfOk result (λ script. script ≡ self.now) }
+    {
+        let lines = copy_lines(alloc, self.lines.as_slice())?;
+        Ok(Script { lines })
+    }
+}
+
+/// Equal lines.
+fn copy_lines(alloc: Global, lines: &[Line]) -> Result<Vec<Line>, NoMemory>
+    ensures { IfOk result (λ copies. copies.items ≡ lines.now) }
+{
+    let mut copies = Vec::new(alloc);
+    for line in lines {
+        copies.push(line.copy(alloc)?)?;
+    }
+    Ok(copies)
 }

@@ -1,6 +1,6 @@
 use Rattle.std.proofs.Common.{◌≡◌, ℕ, List, [], ◌∷◌, sym, ◌∙◌, ap, Option, Some, None, Bor, MatchOption}
 use Rattle.std.specs.Option.{option_map}
-use Rattle.lio_lines.specs.Words.{words, without_return}
+use Rattle.lio_words.specs.Words.{words, without_return}
 use Rattle.lio_lines.specs.Header.{Signature, signature}
 use Rattle.lio_lines.proofs.HeaderLemmas.{none-blank, none-comment, none-other, header-proc}
 use Rattle.lio_lines.proofs.header.read_header.Goals as goal
