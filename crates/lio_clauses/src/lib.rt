@@ -12,5 +12,5 @@ mod text;
 
 pub use faults::{FormFault, NameFault, NoMemory, TextFault};
 pub use formula::Formula;
-pub use names::Names;
+pub use names::{Names, name_fault};
 pub use text::laws as text_laws;

@@ -1,7 +1,7 @@
 //! The names of principals.
 ghost use Rattle.std.specs.Prelude.{◌≡◌, ◌↔◌, ◌<◌, ◌≤◌, ◌++◌, [], ◌∷◌, length, slice_get, Contains, IsTrue, IsNone, IfSome, IfOk, OnOk, OnErr, IsOkAnd, MatchOption, IsOkUnless};
 ghost use Rattle.lio_clauses.specs.Names as spec;
-ghost use Rattle.lio_clauses.specs.Names.{AreNames, name_fault, number_of};
+ghost use Rattle.lio_clauses.specs.Names.{AreNames, number_of};
 
 use crate::faults::{NameFault, NoMemory};
 use indexmap::IndexSet;
@@ -25,9 +25,10 @@ impl Model for Names {
     ghost invariant = { λ names. AreNames (bytes_of names.set.keys) };
 }
 
-/// The first place whose byte may not stand there in a name, 0 for the empty name.
-fn fault_place(name: &[u8]) -> Option<u32>
-    ensures { result ≡ name_fault name.now }
+/// The first place whose byte may not stand there in a name: 1 to 32 bytes of `a` to `z`, `0` to `9` and `_` that begin with a letter.
+/// It is 0 for the empty name and 32 for a longer one.
+pub fn name_fault(name: &[u8]) -> Option<u32>
+    ensures { result ≡ spec.name_fault name.now }
 {
     if name.is_empty() {
         return Some(0);
@@ -80,7 +81,7 @@ impl Names {
         // A name that breaks a rule is refused for the first one; another is added, unless memory runs out.
         ensures fault { MatchOption (refusal self.old name.now) (IsOkUnless result NameFault.NoMemory) (λ fault. result ≡ Err fault) }
     {
-        if let Some(place) = fault_place(name) {
+        if let Some(place) = name_fault(name) {
             return Err(NameFault::BadName(place));
         }
         if let Some(number) = self.find(name) {

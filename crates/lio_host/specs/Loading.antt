@@ -6,8 +6,8 @@ use Rattle.lio_outside.specs.Count.{Rose}
 use Rattle.lio_outside.specs.Keep.{PartlyKept}
 use Rattle.lio_policy.specs.declared.fault.PolicyFault.{PolicyFault}
 use Rattle.lio_policy.specs.declared.fault.PolicyFault.TheVariants as policy_fault
-use Rattle.lio_syntax.specs.declared.read.ScriptFault.{ScriptFault}
-use Rattle.lio_syntax.specs.declared.read.ScriptFault.TheVariants as script_fault
+use Rattle.lio_sends.specs.declared.read.ScriptFault.{ScriptFault}
+use Rattle.lio_sends.specs.declared.read.ScriptFault.TheVariants as script_fault
 use Rattle.lio_host.specs.declared.command.Command as declared_command
 use Rattle.lio_host.specs.declared.load.Job.{Job}
 use Rattle.lio_host.specs.declared.load.LoadFault.{LoadFault}

@@ -4,8 +4,8 @@ use Rattle.lio_policy.specs.declared.policy.Policy.{Policy}
 use Rattle.lio_policy.specs.declared.fault.PolicyFault.{PolicyFault}
 use Rattle.lio_policy.specs.declared.fault.PolicyFault.TheVariants as policy_fault
 use Rattle.lio_policy.specs.Verdict.{policy_of}
-use Rattle.lio_syntax.specs.declared.script.Stmt.{Stmt}
-use Rattle.lio_syntax.specs.ScriptText.{script_of}
+use Rattle.lio_sends.specs.declared.script.Stmt.{Stmt}
+use Rattle.lio_sends.specs.ScriptText.{script_of}
 use Rattle.lio_host.specs.declared.load.Job.{Job}
 use Rattle.lio_host.specs.declared.status.HostStatus.{HostStatus}
 use Rattle.lio_host.specs.declared.status.HostStatus.TheVariants.{BadWords, Missing, BadPolicy, NotYet, NoMemory, Clash}

@@ -15,7 +15,7 @@ use lio_events::Journal;
 use lio_outside::Store;
 use lio_policy::{Policy, TaskEntry};
 use lio_rounds::{Config, Machine};
-use lio_syntax::Script;
+use lio_sends::Script;
 use std::alloc::Global;
 
 /// The turns of the first task.

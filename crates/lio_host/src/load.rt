@@ -11,7 +11,7 @@ use crate::command::Command;
 use lio_clauses::NoMemory;
 use lio_outside::{FetchFault, Store};
 use lio_policy::{Policy, PolicyFault, read_policy};
-use lio_syntax::{Script, ScriptFault, read_script};
+use lio_sends::{Script, ScriptFault, read_script};
 use lio_values::Text;
 use std::alloc::Global;
 use thiserror::Error;

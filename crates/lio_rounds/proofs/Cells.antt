@@ -4,7 +4,7 @@ use Rattle.std.specs.Vec.{with_item}
 use Rattle.std.proofs.lemmas.List.{map-set, get_or-map}
 use Rattle.lio_values.specs.declared.value.Content.{Content}
 use Rattle.lio_values.specs.declared.act.Act.{Act}
-use Rattle.lio_syntax.specs.declared.script.Stmt.{Stmt}
+use Rattle.lio_sends.specs.declared.script.Stmt.{Stmt}
 use Rattle.lio_rounds.specs.declared.state.State.{State}
 use Rattle.lio_rounds.specs.declared.task.Task.{Task}
 use Rattle.lio_rounds.specs.declared.config.Holder.{Holder}

@@ -7,8 +7,8 @@ use Rattle.std.proofs.lemmas.Bool.Decides.{nat_tests}
 use Rattle.lio_values.specs.declared.act.Act.{Act}
 use Rattle.lio_values.specs.declared.fault.FaultKind.TheVariants.{NoTurns}
 use Rattle.lio_values.specs.declared.value.Content.TheVariants.{Faulted}
-use Rattle.lio_syntax.specs.declared.script.Stmt.{Stmt}
-use Rattle.lio_syntax.specs.declared.script.Stmt.TheVariants.{Send, Stop}
+use Rattle.lio_sends.specs.declared.script.Stmt.{Stmt}
+use Rattle.lio_sends.specs.declared.script.Stmt.TheVariants.{Send, Stop}
 use Rattle.lio_rounds.specs.Task.{TaskState, Plan, plan, plan_of, ends_with, act_of, gone_on}
 use Rattle.lio_rounds.specs.Step.{Configuration, Turn, step}
 use Rattle.lio_rounds.proofs.Steps.{parts, task_list, task_list-step, task_list-actor}

@@ -1,8 +1,8 @@
 -- When a task can take a turn that meets a node.
 use Rattle.std.proofs.Common.{◌≡◌, ℕ, Bool, true, false, List, [], ◌∷◌, refl, sym, ap, subst, ◌∙◌, cond, Option, Some, None, ◌==◌}
 use Rattle.std.specs.Prelude.{is_some}
-use Rattle.lio_syntax.specs.declared.script.Stmt.{Stmt}
-use Rattle.lio_syntax.specs.declared.script.Stmt.TheVariants.{Send, Stop}
+use Rattle.lio_sends.specs.declared.script.Stmt.{Stmt}
+use Rattle.lio_sends.specs.declared.script.Stmt.TheVariants.{Send, Stop}
 use Rattle.lio_rounds.specs.Node.{is_channel}
 use Rattle.lio_rounds.specs.Task.{TaskState, Plan, plan, plan_of, target_of}
 use Rattle.lio_rounds.specs.Step.{Configuration, cell_at, turn_by, turn_of, can}

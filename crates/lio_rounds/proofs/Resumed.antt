@@ -7,8 +7,8 @@ use Rattle.lio_values.specs.declared.value.Plain.TheVariants.{Unit as unit}
 use Rattle.lio_values.specs.declared.fault.FaultKind.TheVariants.{NoTurns}
 use Rattle.lio_values.specs.declared.value.Content.{Content}
 use Rattle.lio_values.specs.declared.value.Content.TheVariants.{Kept, Faulted}
-use Rattle.lio_syntax.specs.declared.script.Stmt.{Stmt}
-use Rattle.lio_syntax.specs.declared.script.Stmt.TheVariants.{Send, Stop}
+use Rattle.lio_sends.specs.declared.script.Stmt.{Stmt}
+use Rattle.lio_sends.specs.declared.script.Stmt.TheVariants.{Send, Stop}
 use Rattle.lio_rounds.specs.Task.{TaskState, plan, plan_of, act_of, gone_on}
 use Rattle.lio_rounds.specs.Node.{text_sent}
 use Rattle.lio_rounds.specs.StateOf.{left_of}

@@ -4,7 +4,7 @@ use Rattle.std.proofs.Math.ListN.{set}
 use Rattle.lio_rounds.specs.Task.{TaskState, plan, gone_on}
 use Rattle.lio_rounds.specs.Step.{Cell, Configuration, Turn, step}
 use Rattle.lio_values.specs.declared.entry.Entry.{Entry}
-use Rattle.lio_syntax.specs.declared.script.Stmt.{Stmt}
+use Rattle.lio_sends.specs.declared.script.Stmt.{Stmt}
 use Rattle.lio_rounds.specs.declared.task.Task.{Task}
 use Rattle.lio_rounds.specs.declared.config.Holder.{Holder}
 use Rattle.lio_rounds.specs.StateOf.{state_of, cell_of}

@@ -1,7 +1,7 @@
 -- A machine, as contracts see it, and what its turns do to it.
 use Rattle.std.specs.Prelude.{◌≡◌, ℕ, List, ◌++◌, length, Some}
 use Rattle.lio_values.specs.declared.entry.Entry.{Entry}
-use Rattle.lio_syntax.specs.declared.script.Stmt.{Stmt}
+use Rattle.lio_sends.specs.declared.script.Stmt.{Stmt}
 use Rattle.lio_rounds.specs.Step.{Configuration}
 use Rattle.lio_rounds.specs.Run.{run_from, actors}
 use Rattle.lio_rounds.specs.Rounds.{IsByRounds}

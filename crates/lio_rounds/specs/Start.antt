@@ -1,7 +1,7 @@
 -- The first configuration of a script that runs with one channel.
 use Rattle.std.specs.Prelude.{ℕ, List, [], ◌∷◌, None, Some}
 use Rattle.lio_labels.specs.Extremes.{public}
-use Rattle.lio_syntax.specs.declared.script.Stmt.{Stmt}
+use Rattle.lio_sends.specs.declared.script.Stmt.{Stmt}
 use Rattle.lio_rounds.specs.declared.state.State.TheVariants.{Chan, Job}
 use Rattle.lio_rounds.specs.Task.{at_start}
 use Rattle.lio_rounds.specs.Step.{Cell, Configuration}

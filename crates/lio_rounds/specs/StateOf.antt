@@ -1,6 +1,6 @@
 -- What the code's tasks and configurations stand for.
 use Rattle.std.specs.Prelude.{ℕ, List, [], drop, map, Option, None, Some, is_none, option_map}
-use Rattle.lio_syntax.specs.declared.script.Stmt.{Stmt}
+use Rattle.lio_sends.specs.declared.script.Stmt.{Stmt}
 use Rattle.lio_rounds.specs.declared.task.Task.{Task}
 use Rattle.lio_rounds.specs.declared.config.Holder.{Holder}
 use Rattle.lio_rounds.specs.declared.config.Config.{Config}

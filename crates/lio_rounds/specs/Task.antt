@@ -8,8 +8,8 @@ use Rattle.lio_values.specs.declared.value.Content.TheVariants.{Kept, Faulted}
 use Rattle.lio_values.specs.declared.act.Act.{Act}
 use Rattle.lio_values.specs.declared.act.Act.TheVariants.{Send as send, Ended as ended}
 use Rattle.lio_values.specs.declared.act.Reply.TheVariants.{Done}
-use Rattle.lio_syntax.specs.declared.script.Stmt.{Stmt}
-use Rattle.lio_syntax.specs.declared.script.Stmt.TheVariants.{Send, Stop}
+use Rattle.lio_sends.specs.declared.script.Stmt.{Stmt}
+use Rattle.lio_sends.specs.declared.script.Stmt.TheVariants.{Send, Stop}
 use Rattle.lio_rounds.specs.declared.task.Next.{Next}
 use Rattle.lio_rounds.specs.declared.task.Next.TheVariants.{Over, Own, Visit}
 

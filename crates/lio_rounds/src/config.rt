@@ -9,7 +9,7 @@ use crate::state::State;
 use crate::task::{Next, Task};
 use lio_clauses::NoMemory;
 use lio_labels::Label;
-use lio_syntax::Script;
+use lio_sends::Script;
 use lio_values::{Act, Content, Entry, Reply, Text};
 use std::alloc::Global;
 
@@ -29,7 +29,7 @@ pub struct Config {
 
 impl Holder {
     ghost use Rattle.std.specs.Prelude.{◌≡◌, List, IfOk};
-    ghost use Rattle.lio_syntax.specs.declared.script.Stmt.{Stmt};
+    ghost use Rattle.lio_sends.specs.declared.script.Stmt.{Stmt};
     ghost use Rattle.lio_rounds.specs.Start.{channel_cell, task_cell};
     ghost use Rattle.lio_rounds.specs.StateOf.{cell_of};
 
@@ -60,7 +60,7 @@ impl Holder {
 
 impl Config {
     ghost use Rattle.std.specs.Prelude.{◌≡◌, List, false, vec_len, IfOk, IfErr, OnOk, OnErr, Err, option_map};
-    ghost use Rattle.lio_syntax.specs.declared.script.Stmt.{Stmt};
+    ghost use Rattle.lio_sends.specs.declared.script.Stmt.{Stmt};
     ghost use Rattle.lio_rounds.specs.Node.{is_ready, is_channel};
     ghost use Rattle.lio_rounds.specs.Task.{plan, act_of};
     ghost use Rattle.lio_rounds.specs.Step.{can, step, cell_at, met};

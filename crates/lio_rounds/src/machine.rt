@@ -5,7 +5,7 @@ ghost use Rattle.std.specs.Prelude.{◌≡◌};
 use crate::config::Config;
 use lio_clauses::NoMemory;
 use lio_events::Journal;
-use lio_syntax::Script;
+use lio_sends::Script;
 use lio_values::Entry;
 use std::alloc::Global;
 use std::marker::Model;

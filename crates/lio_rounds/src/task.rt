@@ -6,7 +6,7 @@ ghost use Rattle.lio_rounds.specs.Task.{ends_with};
 use crate::state::text_sent;
 use lio_clauses::NoMemory;
 use lio_labels::Label;
-use lio_syntax::{Script, Stmt};
+use lio_sends::{Script, Stmt};
 use lio_values::{Act, Content, Fault, FaultKind, Held, Plain, Reply};
 use std::alloc::Global;
 
@@ -36,7 +36,7 @@ pub struct Task {
 
 impl Task {
     ghost use Rattle.std.specs.Prelude.{◌≡◌, [], List, IfOk};
-    ghost use Rattle.lio_syntax.specs.declared.script.Stmt.{Stmt};
+    ghost use Rattle.lio_sends.specs.declared.script.Stmt.{Stmt};
     ghost use Rattle.lio_rounds.specs.Task.{plan, gone_on, act_of, target_of, at_start};
     ghost use Rattle.lio_rounds.specs.StateOf.{state_of};
 

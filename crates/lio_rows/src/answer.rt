@@ -32,6 +32,9 @@ pub enum Refusal {
     /// The rule that a policy breaks, and the entry.
     #[error("BadPolicy({0}, {1})")]
     BadPolicy(u32, u32),
+    /// The line of a script that breaks a rule, and the rule.
+    #[error("BadScript({0}, {1})")]
+    BadScript(u32, u32),
     #[error("NoMemory")]
     NoMemory,
 }

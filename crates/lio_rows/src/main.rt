@@ -9,6 +9,7 @@ mod formulas;
 mod labels;
 mod names;
 mod policies;
+mod scripts;
 mod session;
 mod turns;
 mod values;

@@ -1,2 +1,6 @@
-pub mod Lines
-pub mod Reading
+pub mod GrammarLemmas
+pub mod TextLemmas
+pub mod HeaderLemmas
+pub mod FaultLemmas
+pub mod ProgressLemmas
+pub mod ReadLemmas

@@ -1,2 +1,12 @@
-pub mod ScriptText
+pub mod Statements
+pub mod Lines
+pub mod Behind
+pub mod ScriptCode
+pub mod OpenBlocks
+pub mod Rules
+pub mod Verdict
 pub mod Refusal
+pub mod Headers
+pub mod Progress
+pub mod Kept
+pub mod ScriptText

@@ -1,10 +1,10 @@
 -- What the faults of reading a script say.
-use Rattle.std.specs.Prelude.{◌≡◌, ℕ, List, Result, Err}
-use Rattle.lio_syntax.specs.declared.script.Stmt.{Stmt}
-use Rattle.lio_syntax.specs.declared.read.ScriptFault.{ScriptFault}
-use Rattle.lio_syntax.specs.declared.read.ScriptFault.TheVariants.{NotYet, NoMemory}
+use Rattle.std.specs.Prelude.{◌≡◌, Option, Some}
+use Rattle.lio_syntax.specs.Verdict.{Place}
+use Rattle.lio_syntax.specs.declared.fault.ScriptFault.{ScriptFault}
+use Rattle.lio_syntax.specs.declared.fault.ScriptFault.TheVariants.{Bad, NoMemory}
 
--- a fault names the line at which the text first can't go on; want of memory may come in its place
-abbrev pub Refuses : Result (List Stmt) ℕ → ScriptFault → Type 0
-Refuses read (NotYet line) = read ≡ Err line
-Refuses read NoMemory = Unit {0}
+-- a fault names the first line that breaks a rule and the lowest rule that it breaks; want of memory may come in its place
+abbrev pub Refuses : Option Place → ScriptFault → Type 0
+Refuses place (Bad line rule) = place ≡ Some (record { line = line; rule = rule })
+Refuses place NoMemory = Unit {0}

@@ -1,8 +1,17 @@
-//! Scripts: their statements, and how a script is read from its text.
+//! Scripts: their procedures, and how a script is read from its text and printed.
 #![tactic(auto)]
 
+mod fault;
+mod headers;
+mod open_block;
+mod print;
+mod progress;
 mod read;
+mod rules;
 mod script;
+mod text;
 
-pub use read::{ScriptFault, read_script};
-pub use script::{Script, Stmt};
+pub use fault::ScriptFault;
+pub use print::print_script;
+pub use read::read_script;
+pub use script::Script;

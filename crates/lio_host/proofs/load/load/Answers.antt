@@ -2,8 +2,8 @@ use Rattle.std.proofs.Common.{◌∙◌, ap, subst, sym, List, ℕ, Option, Some
 use Rattle.std.proofs.lemmas.Result.{err_from_is_err_and}
 use Rattle.lio_outside.specs.FileMap.{FileMap}
 use Rattle.lio_outside.specs.Fetch.{IsGiven}
-use Rattle.lio_syntax.specs.Refusal.{Refuses}
-use Rattle.lio_syntax.specs.ScriptText.{script_of}
+use Rattle.lio_sends.specs.Refusal.{Refuses}
+use Rattle.lio_sends.specs.ScriptText.{script_of}
 use Rattle.lio_host.specs.Loading.{named, FetchSays}
 use Rattle.lio_host.proofs.Loads.{says-no_script, says-bad_script, loaded-clash, loaded-job}
 use Rattle.lio_host.proofs.load.load.Goals as goal

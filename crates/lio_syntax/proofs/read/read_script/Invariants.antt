@@ -1,13 +1,15 @@
-use Rattle.std.proofs.Common.{◌≡◌, ◌+◌, ◌≤◌, length}
-use Rattle.lio_syntax.specs.ScriptText.{script_of, lines_of, body_of, after}
+use Rattle.std.proofs.Common.{length, All}
+use Rattle.lio_lines.specs.WellFormed.{IsLine}
+use Rattle.lio_syntax.specs.Verdict.{parsed_lines}
+use Rattle.lio_syntax.proofs.ReadLemmas.{Reached}
 use Rattle.lio_syntax.proofs.read.read_script.Given as goal
 
--- the statements so far stand before what the rest of the text is read as
-abbrev pub invariant-loop-text : goal.invariant-loop-text
-invariant-loop-text l = record {
-  so_far : script_of l.fn.text ≡ after l.statements.items (body_of l.line (lines_of l.rest));
-  few : l.line + length l.rest ≤ 262146;
+-- the lines so far break no rule, and the first fault is behind them
+abbrev pub invariant-lines : goal.invariant-lines
+invariant-lines l = record {
+  reached : Reached (parsed_lines l.names l.fn.bytes) l.progress (parsed_lines l.names l.rest);
+  sound : All (IsLine l.names) l.progress.lines.items;
 }
 
-abbrev pub decreases-loop-text : goal.decreases-loop-text
-decreases-loop-text l = length l.rest
+abbrev pub decreases-lines : goal.decreases-lines
+decreases-lines l = length l.rest

@@ -1,6 +1,6 @@
 use Rattle.std.proofs.Common.{◌≡◌, ℕ, ◌<◌, List, length, Option, Some, None, Bor, refl, sym, ap, subst, ◌∙◌, arith}
 use Rattle.std.specs.Option.{option_copied}
-use Rattle.lio_syntax.specs.declared.script.Stmt.{Stmt}
+use Rattle.lio_sends.specs.declared.script.Stmt.{Stmt}
 use Rattle.lio_rounds.specs.Node.{text_sent}
 use Rattle.lio_rounds.specs.Task.{plan, act_of}
 use Rattle.lio_rounds.proofs.Resumed.{at_place, goes_on, next_place, place-inside}

@@ -1,0 +1,6 @@
+pub mod Operands
+pub mod Forms
+pub mod WellFormed
+pub mod Header
+pub mod Limited
+pub mod LineText

@@ -1,0 +1,42 @@
+//! Printing a script.
+ghost use Rattle.std.specs.Prelude.{◌≡◌, ◌++◌, codes, All, IfOk, OnOk};
+ghost use Rattle.lio_lines.specs.LineText.{line_text};
+ghost use Rattle.lio_lines.specs.WellFormed.{IsLine};
+ghost use Rattle.lio_syntax.specs.ScriptText.{lines_text, script_text};
+ghost use Rattle.lio_syntax.specs.Verdict.{IsOver};
+
+use crate::script::Script;
+use lio_clauses::{Names, NoMemory};
+use lio_lines::Line;
+use std::alloc::Global;
+
+/// Appends a line with its line end.
+fn print_line(out: &mut Vec<u8>, names: &Names, line: &Line) -> Result<(), NoMemory>
+    requires { IsLine names.now line.now }
+    ensures { OnOk result (out.new.items ≡ out.old.items ++ (line_text names.now line.now ++ codes "\n")) }
+{
+    line.print_to(out, names)?;
+    Ok(out.push(b'\n')?)
+}
+
+/// Appends lines.
+#[tactic(auto, unfolding(crate::specs::ScriptText::lines_text))]
+fn print_lines(out: &mut Vec<u8>, names: &Names, lines: &[Line]) -> Result<(), NoMemory>
+    requires { All (IsLine names.now) lines.now }
+    ensures { OnOk result (out.new.items ≡ out.old.items ++ lines_text names.now lines.now) }
+{
+    for line in lines {
+        print_line(out, names, line)?;
+    }
+    Ok(())
+}
+
+/// The canonical text of a script, over the names of principals.
+pub fn print_script(alloc: Global, script: &Script, names: &Names) -> Result<Vec<u8>, NoMemory>
+    requires { IsOver names.now script.now }
+    ensures { IfOk result (λ text. text.items ≡ script_text names.now script.now) }
+{
+    let mut text = Vec::new(alloc);
+    print_lines(&mut text, names, script.lines())?;
+    Ok(text)
+}

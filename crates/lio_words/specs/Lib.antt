@@ -1,0 +1,4 @@
+pub mod Keyword
+pub mod Operators
+pub mod Words
+pub mod Literals
