@@ -7,10 +7,9 @@ ghost use Rattle.lio_lines.specs.WellFormed.{IsName, IsSimple};
 
 use crate::fault::LineFault;
 use crate::line::Operand;
-use lio_words::{is_name, read_literal};
-use lio_words::split_word;
 use lio_clauses::Names;
 use lio_values::Text;
+use lio_words::{is_name, read_literal, split_word};
 use std::alloc::Global;
 use std::marker::Model;
 

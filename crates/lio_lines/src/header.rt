@@ -7,11 +7,9 @@ ghost use Rattle.lio_lines.specs.Header.{header_of, parsed_header, call_of, line
 ghost use Rattle.lio_lines.specs.Limited.{limited};
 
 use crate::forms::Words;
-use lio_words::Keyword;
 use crate::line::{Line, Simple};
-use lio_words::is_name;
 use crate::shapes::MOST_PARAMETERS;
-use lio_words::without_return;
+use lio_words::{Keyword, is_name, without_return};
 
 impl<'a> Words<'a> {
     /// How many names there are up to the end, if there are at most 8 and nothing else.

@@ -1,6 +1,6 @@
 //! What the lines of a script say.
-use lio_words::{One, Two};
 use lio_values::{List, Plain, Text};
+use lio_words::{One, Two};
 
 /// What a statement works on.
 #[derive(Drop)]

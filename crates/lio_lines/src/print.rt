@@ -5,10 +5,10 @@ ghost use Rattle.lio_lines.specs.LineText.{line_text, names_spaced, operand_spac
 ghost use Rattle.lio_lines.specs.Operands.{IsOperand};
 ghost use Rattle.lio_lines.specs.WellFormed.{IsLine, IsSimple};
 
-use lio_words::Keyword;
 use crate::line::{Line, Operand, Simple};
 use lio_clauses::{Names, NoMemory};
 use lio_values::Text;
+use lio_words::Keyword;
 
 /// Appends a first word.
 fn print_keyword(out: &mut Vec<u8>, keyword: Keyword) -> Result<(), NoMemory>

@@ -6,12 +6,10 @@ ghost use Rattle.lio_lines.specs.WellFormed.{IsName, IsSimple, IsLine, IsParsed}
 
 use crate::fault::LineFault;
 use crate::forms::{Words, read_operand};
-use lio_words::Keyword;
 use crate::line::{Line, ParsedLine, Simple};
-use lio_words::{One, Two};
-use lio_words::without_return;
 use lio_clauses::{Names, NoMemory};
 use lio_values::Text;
+use lio_words::{Keyword, One, Two, without_return};
 use std::alloc::Global;
 
 /// `OP A`, behind `let X =`

@@ -7,9 +7,9 @@ ghost use Rattle.lio_lines.specs.WellFormed.{IsName, IsSimple};
 use crate::fault::LineFault;
 use crate::forms::{Words, read_operand};
 use crate::line::{Operand, Operands, Texts};
-use lio_words::is_name;
 use lio_clauses::Names;
 use lio_values::{List, Text};
+use lio_words::is_name;
 use std::alloc::Global;
 
 /// The most parameters of a procedure.
