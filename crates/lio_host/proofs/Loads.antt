@@ -1,5 +1,5 @@
 -- What a command is found to run, over what the store gave.
-use Rattle.std.proofs.Common.{◌≡◌, sym, refl, subst, ℕ, ◌≤◌, arith, nat_eq, if◌then◌else◌, List, Option, Some, None, Ok, Err, inl, inr, lit<}
+use Rattle.std.proofs.Common.{◌≡◌, sym, refl, subst, ℕ, ◌≤◌, arith, nat_eq, if◌then◌else◌, List, Option, Some, None, Ok, Err, inl, inr}
 use Rattle.std.specs.Prelude.{IfSome, ◌⊎◌}
 use Rattle.lio_outside.specs.FileMap.{FileMap}
 use Rattle.lio_outside.specs.Fetch.{given, IsGiven, IsMissing}
@@ -20,8 +20,8 @@ use Rattle.lio_host.specs.Command.{Command}
 use Rattle.lio_host.specs.Beyond.{first_beyond}
 use Rattle.lio_host.specs.Clash.{clash}
 use Rattle.lio_host.specs.Verdict.{Fetched, policy_from, most_policy_bytes, most_script_bytes}
-use Rattle.lio_host.specs.Answers.{IsFetched}
-use Rattle.lio_host.specs.Loading.{FetchSays, PolicyLoaded, IsLoaded, LoadSays, of_policy, of_script}
+use Rattle.lio_host.specs.Answers.{IsFetched, PolicyLoaded}
+use Rattle.lio_host.specs.Loading.{FetchSays, IsLoaded, LoadSays, of_policy, of_script}
 
 -- what a store that tells gave under a name, or that no file has it
 abbrev pub Gave : Option FileMap → List ℕ → ℕ → Option (List ℕ) → Type 0
@@ -104,7 +104,7 @@ policy_from-bad text rule entry is = rw is refl
 pub says-no_policy : (told : Option FileMap) (command : Command) (before after : ℕ) (fault : LoadFault) → FetchSays told command.policy before after fault → LoadSays told command before after fault
 says-no_policy told command before after fault (inl (is, missing)) =
     subst (λ (f : LoadFault). LoadSays told command before after f) (sym is) (loaded-no_policy told command (gave-missing told command.policy most_policy_bytes before after missing), missing)
-says-no_policy told command before after fault (inr (inl (is, rose))) = subst (λ (f : LoadFault). LoadSays told command before after f) (sym is) ((0, lit< tt, refl), rose)
+says-no_policy told command before after fault (inr (inl (is, rose))) = subst (λ (f : LoadFault). LoadSays told command before after f) (sym is) (inl refl, rose)
 says-no_policy told command before after fault (inr (inr is)) = subst (λ (f : LoadFault). LoadSays told command before after f) (sym is) tt
 
 -- the script isn't fetched, after the policy was read
@@ -113,7 +113,7 @@ says-no_script told command policy before middle after fault read first second (
     subst (λ (f : LoadFault). LoadSays told command before after f) (sym is)
     (loaded-no_script told command policy read (gave-missing told command.script most_script_bytes middle after missing), IsMissing-in_part told command.script before middle after after first second (omega arith) missing)
 says-no_script told command policy before middle after fault read first second (inr (inl (is, rose))) =
-    subst (λ (f : LoadFault). LoadSays told command before after f) (sym is) ((1, lit< tt, refl), Rose-in_part before middle after after first second (omega arith) rose)
+    subst (λ (f : LoadFault). LoadSays told command before after f) (sym is) (inr (refl, (policy, read)), Rose-in_part before middle after after first second (omega arith) rose)
 says-no_script told command policy before middle after fault read first second (inr (inr is)) = subst (λ (f : LoadFault). LoadSays told command before after f) (sym is) tt
 
 -- the policy isn't read

@@ -1,16 +1,17 @@
 -- What each answer of the host says.
-use Rattle.std.specs.Prelude.{◌≡◌, ℕ, List, [], ◌∷◌, Option, Some, None, Result, Ok, Err, IfSome, Contains, ◌⊎◌}
+use Rattle.std.specs.Prelude.{◌≡◌, ℕ, List, [], Option, Some, None, Result, Ok, Err, IfSome, ◌⊎◌}
 use Rattle.lio_values.specs.declared.entry.Entry.{Entry}
 use Rattle.lio_events.specs.ChannelBytes.{channel_bytes}
 use Rattle.lio_outside.specs.FileMap.{FileMap}
-use Rattle.lio_outside.specs.Fetch.{given, IsMissing}
+use Rattle.lio_outside.specs.Fetch.{given, IsGiven, IsMissing}
 use Rattle.lio_outside.specs.Keep.{told_with, PartlyKept}
 use Rattle.lio_outside.specs.Count.{Rose}
 use Rattle.lio_host.specs.declared.load.Job.{Job}
 use Rattle.lio_host.specs.declared.status.HostStatus.{HostStatus}
 use Rattle.lio_host.specs.declared.status.HostStatus.TheVariants.{Done, BadWords, Missing, ReadFault, BadPolicy, NotYet, WriteFault, NoMemory, Clash}
 use Rattle.lio_host.specs.Command.{Command, command_of}
-use Rattle.lio_host.specs.Verdict.{Fetched, verdict}
+use Rattle.lio_policy.specs.declared.policy.Policy.{Policy}
+use Rattle.lio_host.specs.Verdict.{Fetched, verdict, policy_from, most_policy_bytes}
 use Rattle.lio_host.specs.Headline.{IsRunOf, file_of}
 
 -- a call of the host: its words, what the store told of its files and how many faults it had counted, before and after
@@ -64,11 +65,21 @@ pub record SaysMissing (call : Call) (name : List ℕ) : Type 0 where
   pub refused : Refuses call (Missing name)
   pub missing : IsMissing call.told_before name call.faults_before call.faults_after
 
--- ReadFault: the name is one of a file that the call reads, and the count of faults rose
+-- this policy was read of what the store gave
+pub record PolicyLoaded (told : Option FileMap) (command : Command) (policy : Policy) : Type 0 where
+  pub text : List ℕ
+  pub is_given : IsGiven told command.policy most_policy_bytes text
+  pub is_policy : policy_from text ≡ Ok policy
+
+-- a file that a command reads: the policy, and the script once the policy was read
+abbrev pub IsRead : Option FileMap → Command → List ℕ → Type 0
+IsRead told command name = (name ≡ command.policy) ⊎ ((name ≡ command.script) × ((policy : Policy) × PolicyLoaded told command policy))
+
+-- ReadFault: the name is that of a file that the call was to read, and the count of faults rose
 pub record SaysReadFault (call : Call) (name : List ℕ) : Type 0 where
   pub command : Command
   pub words : command_of call.words ≡ Some command
-  pub is_read : Contains (command.policy ∷ command.script ∷ []) name
+  pub is_read : IsRead call.told_before command name
   pub rose : Rose call.faults_before call.faults_after
   pub nothing : NothingDone call
 

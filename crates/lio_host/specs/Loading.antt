@@ -1,10 +1,9 @@
 -- What the steps of a call say before its script runs.
-use Rattle.std.specs.Prelude.{◌≡◌, ℕ, List, [], ◌∷◌, Option, Result, Ok, Err, Contains, ◌⊎◌}
+use Rattle.std.specs.Prelude.{◌≡◌, ℕ, List, Option, Result, Err, ◌⊎◌}
 use Rattle.lio_outside.specs.FileMap.{FileMap}
-use Rattle.lio_outside.specs.Fetch.{IsMissing, IsGiven}
+use Rattle.lio_outside.specs.Fetch.{IsMissing}
 use Rattle.lio_outside.specs.Count.{Rose}
 use Rattle.lio_outside.specs.Keep.{PartlyKept}
-use Rattle.lio_policy.specs.declared.policy.Policy.{Policy}
 use Rattle.lio_policy.specs.declared.fault.PolicyFault.{PolicyFault}
 use Rattle.lio_policy.specs.declared.fault.PolicyFault.TheVariants as policy_fault
 use Rattle.lio_syntax.specs.declared.read.ScriptFault.{ScriptFault}
@@ -18,8 +17,8 @@ use Rattle.lio_host.specs.declared.status.HostStatus.TheVariants.{Missing, ReadF
 use Rattle.lio_host.specs.declared.write.OutFault.{OutFault}
 use Rattle.lio_host.specs.declared.write.OutFault.TheVariants as out
 use Rattle.lio_host.specs.Command.{Command}
-use Rattle.lio_host.specs.Verdict.{Fetched, loaded, policy_from, most_policy_bytes}
-use Rattle.lio_host.specs.Answers.{IsFetched}
+use Rattle.lio_host.specs.Verdict.{Fetched, loaded}
+use Rattle.lio_host.specs.Answers.{IsFetched, IsRead}
 
 -- the command that the words name
 abbrev pub named : declared_command.Command → Command
@@ -49,12 +48,6 @@ abbrev pub FetchSays : Option FileMap → List ℕ → ℕ → ℕ → LoadFault
 FetchSays told name before after fault =
     ((fault ≡ load.Missing name) × IsMissing told name before after) ⊎ (((fault ≡ load.ReadFault name) × Rose before after) ⊎ (fault ≡ load.NoMemory))
 
--- the policy that was read of what the store gave
-pub record PolicyLoaded (told : Option FileMap) (command : Command) (policy : Policy) : Type 0 where
-  pub text : List ℕ
-  pub is_given : IsGiven told command.policy most_policy_bytes text
-  pub is_policy : policy_from text ≡ Ok policy
-
 -- what a command is found to run, or the refusal, over what the store gave
 pub record IsLoaded (told : Option FileMap) (command : Command) (is : Result Job HostStatus) : Type 0 where
   pub fetched : Fetched
@@ -64,7 +57,7 @@ pub record IsLoaded (told : Option FileMap) (command : Command) (is : Result Job
 -- why a command isn't run
 abbrev pub LoadSays : Option FileMap → Command → ℕ → ℕ → LoadFault → Type 0
 LoadSays told command before after (load.Missing name) = IsLoaded told command (Err (Missing name)) × IsMissing told name before after
-LoadSays told command before after (load.ReadFault name) = Contains (command.policy ∷ command.script ∷ []) name × Rose before after
+LoadSays told command before after (load.ReadFault name) = IsRead told command name × Rose before after
 LoadSays told command before after (load.BadPolicy rule entry) = IsLoaded told command (Err (BadPolicy rule entry))
 LoadSays told command before after (load.NotYet document place) = IsLoaded told command (Err (NotYet document place))
 LoadSays told command before after (load.Clash name) = IsLoaded told command (Err (Clash name))

@@ -1,8 +1,11 @@
 //! Reads the worked runs of `rows.rt`, runs each over a store in memory, and compares.
 
 use crate::host::host_main;
+use crate::refusal::refusal_text;
+use crate::status::HostStatus;
 use lio_labels::Label;
 use lio_outside::MemStore;
+use lio_policy::entry_at;
 use lio_values::{Act, Content, Entry, Fault, FaultKind, Held, Plain, Reply, Text};
 use std::alloc::{AllocError, Global};
 use std::fmt::Write;
@@ -194,10 +197,17 @@ fn holds(alloc: Global, case: &Case, policy: &str, script: &str) -> Result<bool,
     let outcome = host_main(alloc, words.as_slice(), &mut store);
     let answer = &outcome.status;
     let status = format!(in alloc; "{answer}")?;
+    let found = match answer {
+        HostStatus::BadPolicy(_, entry) => entry_at(alloc, policy.as_bytes(), *entry)?,
+        HostStatus::NotYet(0, entry) => entry_at(alloc, policy.as_bytes(), *entry)?,
+        _ => None,
+    };
+    let said = refusal_text(alloc, answer, words.as_slice(), found.as_ref())?;
     let history = history_text(alloc, outcome.journal.entries())?;
     Ok(
         status.as_str() == expected.about.as_str()
             && history.as_str() == case.text("history").unwrap_or("")
+            && said.as_str().starts_with(case.text("says").unwrap_or(""))
             && case.parts.iter().all(|part| is_true_of(part, &store)),
     )
 }

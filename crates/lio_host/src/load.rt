@@ -2,7 +2,8 @@
 
 ghost use Rattle.std.specs.Prelude.{◌≡◌, ◌≤◌, Ok, IfOk, IfErr};
 ghost use Rattle.lio_outside.specs.Fetch.{IsGiven};
-ghost use Rattle.lio_host.specs.Loading.{named, FetchSays, PolicyLoaded, IsLoaded, LoadSays};
+ghost use Rattle.lio_host.specs.Answers.{PolicyLoaded};
+ghost use Rattle.lio_host.specs.Loading.{named, FetchSays, IsLoaded, LoadSays};
 
 use crate::beyond::first_beyond;
 use crate::clash::clash;

@@ -34,8 +34,8 @@ fn main(rt: HostRuntime) -> ExitCode {
     let mut store = RealStore::new(&rt);
     let outcome = host_main(rt.alloc(), words.as_slice(), &mut store);
     let words = words.as_slice();
-    let entry = refused_entry(rt.alloc(), &mut store, &outcome.status, words);
+    let entry = refused_entry(rt.alloc(), &rt, &mut store, &outcome.status, words);
     // A refusal that can't be printed still has its exit status.
-    let _ = print_refusal(&rt, &outcome.status, words, entry.as_ref());
+    let _ = print_refusal(&rt, rt.alloc(), &outcome.status, words, entry.as_ref());
     ExitCode::from(outcome.status.number())
 }

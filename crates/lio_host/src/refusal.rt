@@ -5,8 +5,10 @@ use crate::status::HostStatus;
 use lio_outside::Store;
 use lio_policy::{EntryAt, EntryKind, entry_at};
 use lio_values::Text;
-use std::alloc::Global;
-use std::{fmt, io, str};
+use std::alloc::{AllocError, Global};
+use std::fmt::Write;
+use std::fs::Files;
+use std::{fmt, fs, io, str};
 
 /// What the words are to be.
 const USAGE: &str =
@@ -20,9 +22,24 @@ const POLICY: &str =
 const SCRIPT: &str =
     "a script that runs so far is the line `proc main c`, then lines `send c \"TEXT\"` and `stop`, then the line `end`, with a line end after each line, single blanks between words, and in TEXT printable ASCII bytes other than `\"` and `\\`";
 
-/// A name as text.
-fn shown(name: &Text) -> &str {
-    str::from_utf8(name.bytes()).unwrap_or("a file")
+/// A name as it is shown: in one line, with its control characters escaped.
+#[derive(Clone, Copy)]
+struct Shown<'a>(&'a Text);
+
+impl fmt::Display for Shown<'_> {
+    fn fmt<W: fmt::Write>(&self, f: &mut fmt::Formatter<W>) -> fmt::Result {
+        for character in str::from_utf8(self.0.bytes()).unwrap_or("a file").chars() {
+            match character {
+                '\n' => f.write_str("\\n")?,
+                '\u{0}'..='\u{1f}' | '\u{7f}'..='\u{9f}' => {
+                    let code = character as u32;
+                    write!(f, "\\x{code:02x}")?;
+                }
+                _ => f.write_char(character)?,
+            }
+        }
+        Ok(())
+    }
 }
 
 impl fmt::Display for HostStatus {
@@ -30,12 +47,24 @@ impl fmt::Display for HostStatus {
         match self {
             HostStatus::Done => f.write_str("Done"),
             HostStatus::BadWords => f.write_str("BadWords"),
-            HostStatus::Missing(name) => write!(f, "Missing({})", shown(name)),
-            HostStatus::ReadFault(name) => write!(f, "ReadFault({})", shown(name)),
+            HostStatus::Missing(name) => {
+                let name = Shown(name);
+                write!(f, "Missing({name})")
+            }
+            HostStatus::ReadFault(name) => {
+                let name = Shown(name);
+                write!(f, "ReadFault({name})")
+            }
             HostStatus::BadPolicy(rule, entry) => write!(f, "BadPolicy({rule}, {entry})"),
             HostStatus::NotYet(document, place) => write!(f, "NotYet({document}, {place})"),
-            HostStatus::Clash(name) => write!(f, "Clash({})", shown(name)),
-            HostStatus::WriteFault(name) => write!(f, "WriteFault({})", shown(name)),
+            HostStatus::Clash(name) => {
+                let name = Shown(name);
+                write!(f, "Clash({name})")
+            }
+            HostStatus::WriteFault(name) => {
+                let name = Shown(name);
+                write!(f, "WriteFault({name})")
+            }
             HostStatus::NoMemory => f.write_str("NoMemory"),
         }
     }
@@ -79,16 +108,17 @@ impl fmt::Display for ShownEntry<'_> {
             write!(f, " {place}")?;
         }
         if let Some(name) = &found.name {
-            let name = shown(name);
+            let name = Shown(name);
             write!(f, ", \"{name}\"")?;
         }
         Ok(())
     }
 }
 
-/// The entry of the policy that an answer names, where it names one and the policy can be read once more.
+/// The entry of the policy that an answer names, where it names one and the policy is a plain file, which can be read once more.
 pub fn refused_entry<S: Store>(
     alloc: Global,
+    files: &impl Files,
     store: &mut S,
     status: &HostStatus,
     words: &[String],
@@ -99,6 +129,10 @@ pub fn refused_entry<S: Store>(
         _ => return None,
     };
     let name = words.first()?;
+    let about = fs::metadata(files, name.as_str()).ok()?;
+    if !about.is_file() {
+        return None;
+    }
     match store.fetch(alloc, name.as_bytes(), MOST_POLICY_BYTES) {
         Ok(text) => entry_at(alloc, text.as_slice(), entry).unwrap_or(None),
         Err(_) => None,
@@ -131,34 +165,34 @@ fn rule_text(rule: u32) -> &'static str {
 }
 
 /// With what the name of a file that is written clashes.
-fn taken_by(name: &str, words: &[String]) -> &'static str {
-    if name == word(words, 0) {
+fn taken_by(name: &Text, words: &[String]) -> &'static str {
+    if name.bytes() == word(words, 0).as_bytes() {
         "it is the policy's own file"
-    } else if name == word(words, 1) {
+    } else if name.bytes() == word(words, 1).as_bytes() {
         "it is the script's file"
     } else {
         "it is an input's file, or written before"
     }
 }
 
-/// Prints what was refused, where, and how to mend it, on standard error. Nothing is printed where the script ran.
-pub fn print_refusal(
-    rt: &impl Eprint,
+/// What is printed of a refusal: what was refused, where, and how to mend it. Nothing where the script ran.
+pub fn refusal_text(
+    alloc: Global,
     status: &HostStatus,
     words: &[String],
     found: Option<&EntryAt>,
-) -> io::Result<()> {
+) -> Result<String, AllocError> {
     let policy = word(words, 0);
     let script = word(words, 1);
     match status {
-        HostStatus::Done => Ok(()),
+        HostStatus::Done => Ok(String::new(alloc)),
         HostStatus::BadWords => {
-            eprintln!(rt; "lio_host: {status}: the words aren't two names\n{USAGE}")
+            format!(in alloc; "lio_host: {status}: the words aren't two names\n{USAGE}")
         }
         HostStatus::Missing(_) => {
-            eprintln!(rt; "lio_host: {status}: there is no such file\n{USAGE}")
+            format!(in alloc; "lio_host: {status}: there is no such file\n{USAGE}")
         }
-        HostStatus::ReadFault(_) => eprintln!(rt;
+        HostStatus::ReadFault(_) => format!(in alloc;
             "lio_host: {status}: the file couldn't be read; see that it is a file, and that it may be read"
         ),
         HostStatus::BadPolicy(rule, entry) => {
@@ -167,10 +201,10 @@ pub fn print_refusal(
                 number: *entry,
                 found,
             };
-            eprintln!(rt; "lio_host: {status}: {policy}: {entry}: {asked}")
+            format!(in alloc; "lio_host: {status}: {policy}: {entry}: {asked}")
         }
         HostStatus::NotYet(0, 0) => {
-            eprintln!(rt;
+            format!(in alloc;
                 "lio_host: {status}: {policy}: a policy without tasks doesn't run; {POLICY}"
             )
         }
@@ -179,29 +213,46 @@ pub fn print_refusal(
                 number: *entry,
                 found,
             };
-            eprintln!(rt; "lio_host: {status}: {policy}: {entry}: it doesn't run yet; {POLICY}")
+            format!(in alloc; "lio_host: {status}: {policy}: {entry}: it doesn't run yet; {POLICY}")
         }
-        HostStatus::NotYet(_, 0) => eprintln!(rt;
+        HostStatus::NotYet(_, 0) => format!(in alloc;
             "lio_host: {status}: {script}: the script has more than 262144 bytes, the most that are read"
         ),
         HostStatus::NotYet(_, line) => {
             let line = *line;
-            eprintln!(rt;
+            format!(in alloc;
                 "lio_host: {status}: {script}:{line}: the script can't go on so at this line; {SCRIPT}"
             )
         }
         HostStatus::Clash(name) => {
-            let name = shown(name);
             let by = taken_by(name, words);
-            eprintln!(rt;
+            let name = Shown(name);
+            format!(in alloc;
                 "lio_host: {status}: {policy}: the file {name} is to be written, but {by}; give the channel another file"
             )
         }
-        HostStatus::WriteFault(_) => eprintln!(rt;
+        HostStatus::WriteFault(_) => format!(in alloc;
             "lio_host: {status}: the file couldn't be written; see that it and its folder may be written, and that there is room"
         ),
         HostStatus::NoMemory => {
-            eprintln!(rt; "lio_host: {status}: no memory was left; no file was changed")
+            format!(in alloc; "lio_host: {status}: no memory was left; no file was changed")
         }
+    }
+}
+
+/// Prints a refusal on standard error; without memory for its words, the answer alone.
+pub fn print_refusal(
+    rt: &impl Eprint,
+    alloc: Global,
+    status: &HostStatus,
+    words: &[String],
+    found: Option<&EntryAt>,
+) -> io::Result<()> {
+    if let HostStatus::Done = status {
+        return Ok(());
+    }
+    match refusal_text(alloc, status, words, found) {
+        Ok(text) => eprintln!(rt; "{text}"),
+        Err(_) => eprintln!(rt; "lio_host: {status}"),
     }
 }

@@ -11,6 +11,7 @@
 //! | `fail N` | call N of the store fails |
 //! | `status STATUS` | the answer |
 //! | `file NAME`, `absent NAME` | what a file holds afterwards, or that it isn't there |
+//! | `says` | how the words begin that are printed of the answer |
 //! | `history` | the entries, one a line; none where there is none |
 
 /// Scripts that run.
@@ -100,6 +101,22 @@ status Done
 file out.txt
 history
 |0 1 - <True %% True> ended fault(no_turns at <True %% True>) : ok
+case a public task under two principals, with cells
+policy
+|{"version":1,"longest":4096,"principals":["alice","bob"],~
+|"channels":[{"name":"out","label":"True %% True","file":"out.txt"}],~
+|"inputs":[],~
+|"tasks":[{"name":"main","proc":"main","label":"True %% True","clearance":"True %% True","turns":20,"cells":4,"args":[{"channel":"out"}]}]}~
+script
+|proc main c
+|send c "hi"
+|end
+status Done
+file out.txt
+|hi~
+history
+|0 1 0 <True %% True> send "hi" : ok
+|1 1 - <True %% True> ended unit : ok
 case principals, other names and cells
 policy
 |{"version":1,"longest":1,"principals":["alice","bob"],~
@@ -124,11 +141,15 @@ script
 |send c "hi"
 |end
 status BadPolicy(1, 0)
+says
+|lio_host: BadPolicy(1, 0): p.json: the document: a policy is a JSON text~
 absent out.txt
 case a policy without tasks
 policy
 |{"version":1,"longest":4096,"principals":[],"channels":[],"inputs":[]}~
 status BadPolicy(2, 0)
+says
+|lio_host: BadPolicy(2, 0): p.json: the document: each object has exactly the keys~
 absent out.txt
 case a second version
 policy
@@ -137,6 +158,8 @@ policy
 |"inputs":[],~
 |"tasks":[{"name":"main","proc":"main","label":"True %% True","clearance":"True %% True","turns":20,"cells":0,"args":[{"channel":"out"}]}]}~
 status BadPolicy(3, 0)
+says
+|lio_host: BadPolicy(3, 0): p.json: the document: `version` is 1~
 absent out.txt
 case a principal that is there before
 policy
@@ -145,6 +168,8 @@ policy
 |"inputs":[],~
 |"tasks":[{"name":"main","proc":"main","label":"True %% True","clearance":"True %% True","turns":20,"cells":0,"args":[{"channel":"out"}]}]}~
 status BadPolicy(4, 2)
+says
+|lio_host: BadPolicy(4, 2): p.json: principal 2, "alice": a name has 1 to 32 bytes~
 absent out.txt
 case a channel with an unknown principal
 policy
@@ -153,6 +178,8 @@ policy
 |"inputs":[],~
 |"tasks":[{"name":"main","proc":"main","label":"True %% True","clearance":"True %% True","turns":20,"cells":0,"args":[{"channel":"out"}]}]}~
 status BadPolicy(5, 3)
+says
+|lio_host: BadPolicy(5, 3): p.json: channel 1, "out": a label is two formulas~
 absent out.txt
 case a task above its clearance
 policy
@@ -161,6 +188,8 @@ policy
 |"inputs":[],~
 |"tasks":[{"name":"main","proc":"main","label":"alice %% True","clearance":"True %% True","turns":20,"cells":0,"args":[{"channel":"out"}]}]}~
 status BadPolicy(6, 4)
+says
+|lio_host: BadPolicy(6, 4): p.json: task 1, "main": a task's label flows to its clearance~
 absent out.txt
 case an argument that is no channel of the policy
 policy
@@ -169,6 +198,8 @@ policy
 |"inputs":[],~
 |"tasks":[{"name":"main","proc":"main","label":"True %% True","clearance":"True %% True","turns":20,"cells":0,"args":[{"channel":"log"}]}]}~
 status BadPolicy(7, 2)
+says
+|lio_host: BadPolicy(7, 2): p.json: task 1, "main": an argument names an input or a channel~
 absent out.txt
 case too many turns for the longest text
 policy
@@ -177,6 +208,8 @@ policy
 |"inputs":[],~
 |"tasks":[{"name":"main","proc":"main","label":"True %% True","clearance":"True %% True","turns":262145,"cells":0,"args":[{"channel":"out"}]}]}~
 status BadPolicy(8, 0)
+says
+|lio_host: BadPolicy(8, 0): p.json: the document: `longest` is 1 to 65536~
 absent out.txt
 case a file without a name
 policy
@@ -185,6 +218,8 @@ policy
 |"inputs":[],~
 |"tasks":[{"name":"main","proc":"main","label":"True %% True","clearance":"True %% True","turns":20,"cells":0,"args":[{"channel":"out"}]}]}~
 status BadPolicy(9, 1)
+says
+|lio_host: BadPolicy(9, 1): p.json: channel 1, "out": a file's name has 1 to 255 bytes~
 absent out.txt
 case a policy is refused before its script is looked for
 words
@@ -198,6 +233,8 @@ policy
 |"inputs":[],~
 |"tasks":[]}~
 status NotYet(0, 0)
+says
+|lio_host: NotYet(0, 0): p.json: a policy without tasks~
 absent out.txt
 case a channel that is not public
 policy
@@ -230,6 +267,8 @@ policy
 |"inputs":[{"name":"a","label":"alice %% True","file":"a.txt"}],~
 |"tasks":[{"name":"main","proc":"main","label":"True %% True","clearance":"True %% True","turns":20,"cells":0,"args":[{"channel":"out"}]}]}~
 status NotYet(0, 4)
+says
+|lio_host: NotYet(0, 4): p.json: input 1, "a": it doesn't run yet~
 absent out.txt
 case a second task
 policy
@@ -279,11 +318,34 @@ policy
 |"tasks":[{"name":"main","proc":"main","label":"True %% True","clearance":"True %% True","turns":20,"cells":0,"args":[{"channel":"out"},{"channel":"out"}]}]}~
 status NotYet(0, 2)
 absent out.txt
+case a task that somebody vouches for
+policy
+|{"version":1,"longest":4096,"principals":["alice","bob"],~
+|"channels":[{"name":"out","label":"True %% True","file":"out.txt"}],~
+|"inputs":[],~
+|"tasks":[{"name":"main","proc":"main","label":"True %% alice","clearance":"True %% True","turns":20,"cells":4,"args":[{"channel":"out"}]}]}~
+status NotYet(0, 4)
+absent out.txt
+case two arguments once more
+policy
+|{"version":1,"longest":4096,"principals":[],~
+|"channels":[{"name":"out","label":"True %% True","file":"out.txt"}],~
+|"inputs":[],~
+|"tasks":[{"name":"main","proc":"main","label":"True %% True","clearance":"True %% True","turns":20,"cells":0,"args":[{"channel":"out"},{"channel":"out"}]}]}~
+status NotYet(0, 2)
 case a policy that doesn't run is refused before its script is looked for
 words
 |p.json
 |t.lio
 status NotYet(0, 2)
+case a policy that doesn't run is refused before its script is read
+fail 1
+status NotYet(0, 2)
+case a policy that breaks a rule is refused before its script is read
+policy
+|{~
+fail 1
+status BadPolicy(1, 0)
 "#;
 
 /// Scripts that don't run so far, with the line at which each first can't go on.
@@ -298,6 +360,8 @@ script
 |let x = 1
 |end
 status NotYet(1, 2)
+says
+|lio_host: NotYet(1, 2): s.lio:2: the script can't go on so at this line~
 absent out.txt
 case an empty script
 script
@@ -404,6 +468,8 @@ script
 |send c "hi"
 |end
 status Clash(p.json)
+says
+|lio_host: Clash(p.json): p.json: the file p.json is to be written, but it is the policy's own file~
 case a channel's file is the script
 policy
 |{"version":1,"longest":4096,"principals":[],~
@@ -411,6 +477,8 @@ policy
 |"inputs":[],~
 |"tasks":[{"name":"main","proc":"main","label":"True %% True","clearance":"True %% True","turns":20,"cells":0,"args":[{"channel":"out"}]}]}~
 status Clash(s.lio)
+says
+|lio_host: Clash(s.lio): p.json: the file s.lio is to be written, but it is the script's file~
 file s.lio
 |proc main c
 |send c "hi"
@@ -436,6 +504,8 @@ script
 |end
 fail 0
 status ReadFault(p.json)
+says
+|lio_host: ReadFault(p.json): the file couldn't be read~
 absent out.txt
 case the script isn't read
 fail 1
@@ -444,6 +514,8 @@ absent out.txt
 case the channel's file isn't written
 fail 2
 status WriteFault(out.txt)
+says
+|lio_host: WriteFault(out.txt): the file couldn't be written~
 absent out.txt
 history
 |0 1 0 <True %% True> send "hi" : ok
@@ -471,6 +543,8 @@ words
 |p.json
 |t.lio
 status Missing(t.lio)
+says
+|lio_host: Missing(t.lio): there is no such file~
 absent out.txt
 case the policy is missing
 words
@@ -484,12 +558,27 @@ words
 |t.lio
 status Missing(q.json)
 absent out.txt
+case a file whose name has a line end isn't written
+policy
+|{"version":1,"longest":4096,"principals":[],~
+|"channels":[{"name":"out","label":"True %% True","file":"out\n\u001b.txt"}],~
+|"inputs":[],~
+|"tasks":[{"name":"main","proc":"main","label":"True %% True","clearance":"True %% True","turns":20,"cells":0,"args":[{"channel":"out"}]}]}~
+fail 2
+status WriteFault(out\n\x1b.txt)
+says
+|lio_host: WriteFault(out\n\x1b.txt): the file couldn't be written~
+history
+|0 1 0 <True %% True> send "hi" : ok
+|1 1 - <True %% True> ended unit : ok
 "#;
 
 /// Words that aren't two names.
 pub const WRONG_WORDS: &str = r#"case no words
 words
 status BadWords
+says
+|lio_host: BadWords: the words aren't two names~
 absent out.txt
 case one word
 words

@@ -3,12 +3,16 @@
 
 mod answer;
 mod command;
+mod entries;
 mod escape;
 mod formulas;
 mod labels;
 mod names;
 mod policies;
 mod session;
+mod turns;
+mod values;
+mod words;
 
 use answer::write_answer;
 use session::Session;

@@ -9,7 +9,7 @@ use std::str;
 pub fn answer(alloc: Global, word: &[u8], fields: &[Vec<u8>]) -> Result<Option<Answer>, Refusal> {
     match (word, fields) {
         (b"policy", [json]) => Ok(Some(policy(alloc, json.as_slice())?)),
-        (b"entry", [number, json]) => match number_of(number.as_slice()) {
+        (b"policy_entry", [number, json]) => match number_of(number.as_slice()) {
             Some(number) => Ok(Some(entry(alloc, number, json.as_slice())?)),
             None => Ok(None),
         },
@@ -33,7 +33,7 @@ fn number_of(field: &[u8]) -> Option<u32> {
     str::from_utf8(field).ok()?.parse::<u32>().ok()
 }
 
-/// `entry NUMBER JSON`: the kind of the entry with this number, its place in its list and its name, or `none`.
+/// `policy_entry NUMBER JSON`: the kind of the entry with this number, its place in its list and its name, or `none`.
 fn entry(alloc: Global, number: u32, json: &[u8]) -> Result<Answer, Refusal> {
     match entry_at(alloc, json, number)? {
         Some(entry) => Ok(Answer::Text(entry_text(alloc, &entry)?)),

@@ -2,7 +2,7 @@
 
 use crate::answer::{Answer, Refusal};
 use crate::command::read_command;
-use crate::{formulas, labels, names, policies};
+use crate::{entries, formulas, labels, names, policies};
 use lio_clauses::{Names, NoMemory};
 use std::alloc::Global;
 
@@ -45,6 +45,9 @@ fn answer(
         return Ok(Some(answer));
     }
     if let Some(answer) = labels::answer(alloc, names, word, fields)? {
+        return Ok(Some(answer));
+    }
+    if let Some(answer) = entries::answer(alloc, names, word, fields)? {
         return Ok(Some(answer));
     }
     policies::answer(alloc, word, fields)
