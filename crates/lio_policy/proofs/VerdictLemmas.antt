@@ -1,5 +1,5 @@
 -- What the rules decide.
-use Rattle.std.proofs.Common.{◌≡◌, ◌∙◌, ◌⊎◌, inl, inr, ℕ, List, ◌∷◌, length, map, Option, Some, None, Result, Ok, Err, IfOk, IfErr, sym, ap, subst}
+use Rattle.std.proofs.Common.{◌≡◌, ◌∙◌, ◌⊎◌, inl, inr, ℕ, List, [], ◌∷◌, length, map, Option, Some, None, Result, Ok, Err, IfOk, IfErr, refl, sym, ap, subst}
 use Rattle.std.specs.List.{filter_map}
 use Rattle.serde_json.specs.Data.{Data}
 use Rattle.serde_json.specs.Find.{as_str}
@@ -8,7 +8,7 @@ use Rattle.serde_json.specs.declared.value.Value.{Value}
 use Rattle.lio_policy.specs.Converted.{first_failing, unmade}
 use Rattle.lio_policy.specs.Shape.{Parts, parts_of, file_of, task_of}
 use Rattle.lio_policy.specs.Rules.{Failing, entries, version_fails, names_fail, labels_fail, flow_fails, arguments_fail, limits_fail, files_fail, file_entry, task_entry, known, tasks_of, longest_of}
-use Rattle.lio_policy.specs.Verdict.{Gives, fault_at, blamed, first_fault, least, made, judged, unless_fault, shape_fails, drafted, draft_of, document_of, from_document, from_parts, from_draft, policy_of}
+use Rattle.lio_policy.specs.Verdict.{Gives, fault_at, blamed, first_fault, declarations_fault, uses_fault, least, made, judged, unless_fault, shape_fails, drafted, draft_of, document_of, from_document, from_parts, from_draft, policy_of}
 use Rattle.lio_policy.specs.declared.draft.Draft.{Draft}
 use Rattle.lio_policy.specs.declared.draft.FileDraft.{FileDraft}
 use Rattle.lio_policy.specs.declared.draft.TaskDraft.{TaskDraft}
@@ -20,18 +20,29 @@ use Rattle.lio_policy.specs.declared.policy.TaskEntry.{TaskEntry}
 use Rattle.lio_policy.proofs.ConvertedLemmas.{unmade_of_map, filter_map_of_map}
 use Rattle.lio_policy.specs.Policy.{PolicyParts, IsPolicy}
 use Rattle.lio_policy.proofs.MadeLemmas.{nothing_fails}
-use Rattle.lio_policy.proofs.PolicyLemmas.{parts, is_policy}
+use Rattle.lio_policy.proofs.PolicyLemmas.{BreaksNone, parts, is_policy}
 use Rattle.lio_policy.proofs.FailingLemmas.{Blames, HasLengths, length_unmade}
 
 -- where no entry fails, the rule blames none
 pub not_blamed : (rule : ℕ) (f : Failing) → first_failing 0 (entries f) ≡ None → blamed rule f ≡ None
 not_blamed rule f h = ap (fault_at rule) h
 
+blames_none : (rule : ℕ) (f : Failing) → blamed rule f ≡ None → first_failing 0 (entries f) ≡ None
+blames_none rule f h = by (first_failing 0 (entries f)) h
+  where
+    by : (o : Option ℕ) → fault_at rule o ≡ None → o ≡ None
+    by None e = refl
+    by (Some n) e = absurd (cc)
+
 skip : (o : Option PolicyFault) (more : List (Option PolicyFault)) → o ≡ None → first_fault (o ∷ more) ≡ first_fault more
 skip o more h = ap (λ p. first_fault (p ∷ more)) h
 
 stop : (o : Option PolicyFault) (more : List (Option PolicyFault)) (fault : PolicyFault) → o ≡ Some fault → first_fault (o ∷ more) ≡ Some fault
 stop o more fault h = ap (λ p. first_fault (p ∷ more)) h
+
+none_first : (o : Option PolicyFault) (more : List (Option PolicyFault)) → first_fault (o ∷ more) ≡ None → (o ≡ None) × (first_fault more ≡ None)
+none_first None more h = (refl, h)
+none_first (Some fault) more h = absurd (cc)
 
 -- the values of a document, seen as their data
 pub seen_none : {Z : Type 0} (make : Data → Option Z) (k : ℕ) (vs : List Value) → first_failing k (unmade (λ v. make (view v)) vs) ≡ None → first_failing k (unmade make (map view vs)) ≡ None
@@ -67,65 +78,70 @@ drafted_ok p ps cs is ts none e f g h =
 abbrev pub Clean : Failing → Type 0
 Clean f = first_failing 0 (entries f) ≡ None
 
+-- want of memory, or the fault that there is
+abbrev pub Faults : Option PolicyFault → PolicyFault → Type 0
+Faults least fault = (fault ≡ NoMemory) ⊎ (least ≡ Some fault)
+
+rests : (rule : ℕ) (f : Failing) (least : Option PolicyFault) (fault : PolicyFault) → (blamed rule f ≡ Some fault → least ≡ Some fault) → Blames rule (first_failing 0 (entries f)) fault → Faults least fault
+rests rule f least fault then (inl e) = inl e
+rests rule f least fault then (inr e) = inr (then e)
+
 -- the rules in their order: those before one pass, and it decides
-judge_by : (d : Draft) (fault : PolicyFault) → least d ≡ Some fault → judged d ≡ Err fault
-judge_by d fault h = ap (λ o. unless_fault o (Ok (made d))) h
+pub version_decides : (d : Draft) (fault : PolicyFault) → Blames 3 (first_failing 0 (entries (version_fails d))) fault → Faults (declarations_fault d) fault
+unfolding declarations_fault
+version_decides d fault h = rests 3 (version_fails d) (declarations_fault d) fault (λ e. stop _ _ fault e) h
 
-rests : (rule : ℕ) (f : Failing) (d : Draft) (fault : PolicyFault) → (blamed rule f ≡ Some fault → least d ≡ Some fault) → Blames rule (first_failing 0 (entries f)) fault → (fault ≡ NoMemory) ⊎ (judged d ≡ Err fault)
-rests rule f d fault then (inl e) = inl e
-rests rule f d fault then (inr e) = inr (judge_by d fault (then e))
+pub names_decide : (d : Draft) (fault : PolicyFault) → Clean (version_fails d) → Blames 4 (first_failing 0 (entries (names_fail d))) fault → Faults (declarations_fault d) fault
+unfolding declarations_fault
+names_decide d fault a h = rests 4 (names_fail d) (declarations_fault d) fault (λ e. skip _ _ (not_blamed 3 (version_fails d) a) ∙ stop _ _ fault e) h
 
-pub judged_by_version : (d : Draft) (fault : PolicyFault) → Blames 3 (first_failing 0 (entries (version_fails d))) fault → (fault ≡ NoMemory) ⊎ (judged d ≡ Err fault)
-unfolding least
-judged_by_version d fault h = rests 3 (version_fails d) d fault (λ e. stop _ _ fault e) h
+pub labels_decide : (d : Draft) (fault : PolicyFault) → Clean (version_fails d) → Clean (names_fail d) → Blames 5 (first_failing 0 (entries (labels_fail d))) fault → Faults (declarations_fault d) fault
+unfolding declarations_fault
+labels_decide d fault a b h =
+    rests 5 (labels_fail d) (declarations_fault d) fault (λ e. skip _ _ (not_blamed 3 (version_fails d) a) ∙ skip _ _ (not_blamed 4 (names_fail d) b) ∙ stop _ _ fault e) h
 
-pub judged_by_names : (d : Draft) (fault : PolicyFault) → Clean (version_fails d) → Blames 4 (first_failing 0 (entries (names_fail d))) fault → (fault ≡ NoMemory) ⊎ (judged d ≡ Err fault)
-unfolding least
-judged_by_names d fault a h = rests 4 (names_fail d) d fault (λ e. skip _ _ (not_blamed 3 (version_fails d) a) ∙ stop _ _ fault e) h
-
-pub judged_by_labels : (d : Draft) (fault : PolicyFault) → Clean (version_fails d) → Clean (names_fail d) → Blames 5 (first_failing 0 (entries (labels_fail d))) fault → (fault ≡ NoMemory) ⊎ (judged d ≡ Err fault)
-unfolding least
-judged_by_labels d fault a b h =
-    rests 5 (labels_fail d) d fault (λ e. skip _ _ (not_blamed 3 (version_fails d) a) ∙ skip _ _ (not_blamed 4 (names_fail d) b) ∙ stop _ _ fault e) h
-
-pub judged_by_flow : (d : Draft) (fault : PolicyFault) → Clean (version_fails d) → Clean (names_fail d) → Clean (labels_fail d) → Blames 6 (first_failing 0 (entries (flow_fails d))) fault → (fault ≡ NoMemory) ⊎ (judged d ≡ Err fault)
-unfolding least
-judged_by_flow d fault a b c h =
-    rests 6 (flow_fails d) d fault
+pub flow_decides : (d : Draft) (fault : PolicyFault) → Clean (version_fails d) → Clean (names_fail d) → Clean (labels_fail d) → Blames 6 (first_failing 0 (entries (flow_fails d))) fault → Faults (declarations_fault d) fault
+unfolding declarations_fault
+flow_decides d fault a b c h =
+    rests 6 (flow_fails d) (declarations_fault d) fault
     (λ e. skip _ _ (not_blamed 3 (version_fails d) a) ∙ skip _ _ (not_blamed 4 (names_fail d) b) ∙ skip _ _ (not_blamed 5 (labels_fail d) c) ∙ stop _ _ fault e) h
 
-pub judged_by_arguments : (d : Draft) (fault : PolicyFault) → Clean (version_fails d) → Clean (names_fail d) → Clean (labels_fail d) → Clean (flow_fails d)
-    → Blames 7 (first_failing 0 (entries (arguments_fail d))) fault → (fault ≡ NoMemory) ⊎ (judged d ≡ Err fault)
-unfolding least
-judged_by_arguments d fault a b c g h =
-    rests 7 (arguments_fail d) d fault
-    (λ e. skip _ _ (not_blamed 3 (version_fails d) a) ∙ skip _ _ (not_blamed 4 (names_fail d) b) ∙ skip _ _ (not_blamed 5 (labels_fail d) c) ∙ skip _ _ (not_blamed 6 (flow_fails d) g) ∙ stop _ _ fault e) h
+pub declarations_pass : (d : Draft) → Clean (version_fails d) → Clean (names_fail d) → Clean (labels_fail d) → Clean (flow_fails d) → declarations_fault d ≡ None
+unfolding declarations_fault
+declarations_pass d a b c g = skip _ _ (not_blamed 3 (version_fails d) a) ∙ skip _ _ (not_blamed 4 (names_fail d) b) ∙ skip _ _ (not_blamed 5 (labels_fail d) c) ∙ skip _ _ (not_blamed 6 (flow_fails d) g)
 
-pub judged_by_limits : (d : Draft) (fault : PolicyFault) → Clean (version_fails d) → Clean (names_fail d) → Clean (labels_fail d) → Clean (flow_fails d) → Clean (arguments_fail d)
-    → Blames 8 (first_failing 0 (entries (limits_fail d))) fault → (fault ≡ NoMemory) ⊎ (judged d ≡ Err fault)
-unfolding least
-judged_by_limits d fault a b c g i h =
-    rests 8 (limits_fail d) d fault
-    (λ e. skip _ _ (not_blamed 3 (version_fails d) a) ∙ skip _ _ (not_blamed 4 (names_fail d) b) ∙ skip _ _ (not_blamed 5 (labels_fail d) c) ∙ skip _ _ (not_blamed 6 (flow_fails d) g)
-    ∙ skip _ _ (not_blamed 7 (arguments_fail d) i) ∙ stop _ _ fault e) h
+pub arguments_decide : (d : Draft) (fault : PolicyFault) → Blames 7 (first_failing 0 (entries (arguments_fail d))) fault → Faults (uses_fault d) fault
+unfolding uses_fault
+arguments_decide d fault h = rests 7 (arguments_fail d) (uses_fault d) fault (λ e. stop _ _ fault e) h
 
-pub judged_by_files : (d : Draft) (fault : PolicyFault) → Clean (version_fails d) → Clean (names_fail d) → Clean (labels_fail d) → Clean (flow_fails d) → Clean (arguments_fail d) → Clean (limits_fail d)
-    → Blames 9 (first_failing 0 (entries (files_fail d))) fault → (fault ≡ NoMemory) ⊎ (judged d ≡ Err fault)
-unfolding least
-judged_by_files d fault a b c g i j h =
-    rests 9 (files_fail d) d fault
-    (λ e. skip _ _ (not_blamed 3 (version_fails d) a) ∙ skip _ _ (not_blamed 4 (names_fail d) b) ∙ skip _ _ (not_blamed 5 (labels_fail d) c) ∙ skip _ _ (not_blamed 6 (flow_fails d) g)
-    ∙ skip _ _ (not_blamed 7 (arguments_fail d) i) ∙ skip _ _ (not_blamed 8 (limits_fail d) j) ∙ stop _ _ fault e) h
+pub limits_decide : (d : Draft) (fault : PolicyFault) → Clean (arguments_fail d) → Blames 8 (first_failing 0 (entries (limits_fail d))) fault → Faults (uses_fault d) fault
+unfolding uses_fault
+limits_decide d fault a h = rests 8 (limits_fail d) (uses_fault d) fault (λ e. skip _ _ (not_blamed 7 (arguments_fail d) a) ∙ stop _ _ fault e) h
 
-none_blamed : (d : Draft) → Clean (version_fails d) → Clean (names_fail d) → Clean (labels_fail d) → Clean (flow_fails d) → Clean (arguments_fail d) → Clean (limits_fail d) → Clean (files_fail d) → least d ≡ None
-unfolding least
-none_blamed d a b c g i j k =
-    skip _ _ (not_blamed 3 (version_fails d) a) ∙ skip _ _ (not_blamed 4 (names_fail d) b) ∙ skip _ _ (not_blamed 5 (labels_fail d) c) ∙ skip _ _ (not_blamed 6 (flow_fails d) g)
-    ∙ skip _ _ (not_blamed 7 (arguments_fail d) i) ∙ skip _ _ (not_blamed 8 (limits_fail d) j) ∙ skip _ _ (not_blamed 9 (files_fail d) k)
+pub files_decide : (d : Draft) (fault : PolicyFault) → Clean (arguments_fail d) → Clean (limits_fail d) → Blames 9 (first_failing 0 (entries (files_fail d))) fault → Faults (uses_fault d) fault
+unfolding uses_fault
+files_decide d fault a b h =
+    rests 9 (files_fail d) (uses_fault d) fault (λ e. skip _ _ (not_blamed 7 (arguments_fail d) a) ∙ skip _ _ (not_blamed 8 (limits_fail d) b) ∙ stop _ _ fault e) h
+
+pub uses_pass : (d : Draft) → Clean (arguments_fail d) → Clean (limits_fail d) → Clean (files_fail d) → uses_fault d ≡ None
+unfolding uses_fault
+uses_pass d a b c = skip _ _ (not_blamed 7 (arguments_fail d) a) ∙ skip _ _ (not_blamed 8 (limits_fail d) b) ∙ skip _ _ (not_blamed 9 (files_fail d) c)
+
+-- a fault of the declarations is that of the draft, and without one the fault of the uses is
+judged_by : (d : Draft) (fault : PolicyFault) → least d ≡ Some fault → judged d ≡ Err fault
+judged_by d fault h = ap (λ o. unless_fault o (Ok (made d))) h
+
+pub judged_by_declarations : (d : Draft) (fault : PolicyFault) → Faults (declarations_fault d) fault → (fault ≡ NoMemory) ⊎ (judged d ≡ Err fault)
+judged_by_declarations d fault (inl e) = inl e
+judged_by_declarations d fault (inr e) = inr (judged_by d fault (stop (declarations_fault d) (uses_fault d ∷ []) fault e))
+
+pub judged_by_uses : (d : Draft) (fault : PolicyFault) → declarations_fault d ≡ None → Faults (uses_fault d) fault → (fault ≡ NoMemory) ⊎ (judged d ≡ Err fault)
+judged_by_uses d fault none (inl e) = inl e
+judged_by_uses d fault none (inr e) = inr (judged_by d fault (skip (declarations_fault d) (uses_fault d ∷ []) none ∙ stop (uses_fault d) [] fault e))
 
 -- where all pass, the draft makes its policy
-pub judged_ok : (d : Draft) → Clean (version_fails d) → Clean (names_fail d) → Clean (labels_fail d) → Clean (flow_fails d) → Clean (arguments_fail d) → Clean (limits_fail d) → Clean (files_fail d) → judged d ≡ Ok (made d)
-judged_ok d a b c g i j k = ap (λ o. unless_fault o (Ok (made d))) (none_blamed d a b c g i j k)
+pub judged_ok : (d : Draft) → declarations_fault d ≡ None → uses_fault d ≡ None → judged d ≡ Ok (made d)
+judged_ok d a b = ap (λ o. unless_fault o (Ok (made d))) (skip (declarations_fault d) (uses_fault d ∷ []) a ∙ skip (uses_fault d) [] b)
 
 -- the same of what was read part by part
 pub parts_are : (d : Draft) (longest : ℕ) (names : List (List ℕ)) (channels inputs : List FileEntry) (tasks : List TaskEntry) → longest ≡ longest_of d → names ≡ d.principals
@@ -145,16 +161,32 @@ pub made_is : (d : Draft) (p : PolicyParts) → parts d ≡ p → made d ≡ p
 unfolding made
 made_is d p e = e
 
+breaks_none : (d : Draft) → declarations_fault d ≡ None → uses_fault d ≡ None → BreaksNone d
+unfolding declarations_fault uses_fault
+breaks_none d h k =
+    let names = blamed 4 (names_fail d) in
+    let labels = blamed 5 (labels_fail d) in
+    let flow = blamed 6 (flow_fails d) in
+    let limits = blamed 8 (limits_fail d) in
+    let files = blamed 9 (files_fail d) in
+    let a = none_first (blamed 3 (version_fails d)) (names ∷ labels ∷ flow ∷ []) h in
+    let b = none_first names (labels ∷ flow ∷ []) a.1 in
+    let c = none_first labels (flow ∷ []) b.1 in
+    let g = none_first flow [] c.1 in
+    let i = none_first (blamed 7 (arguments_fail d)) (limits ∷ files ∷ []) k in
+    let j = none_first limits (files ∷ []) i.1 in
+    let l = none_first files [] j.1 in record {
+      names = nothing_fails (names_fail d) (blames_none 4 (names_fail d) b.0);
+      labels = nothing_fails (labels_fail d) (blames_none 5 (labels_fail d) c.0);
+      flow = nothing_fails (flow_fails d) (blames_none 6 (flow_fails d) g.0);
+      arguments = nothing_fails (arguments_fail d) (blames_none 7 (arguments_fail d) i.0);
+      limits = nothing_fails (limits_fail d) (blames_none 8 (limits_fail d) j.0);
+      files = nothing_fails (files_fail d) (blames_none 9 (files_fail d) l.0);
+    }
+
 -- where all pass, the parts are those of a policy
-pub passes_all : (d : Draft) (p : PolicyParts) → parts d ≡ p → Clean (names_fail d) → Clean (labels_fail d) → Clean (flow_fails d) → Clean (arguments_fail d) → Clean (limits_fail d) → Clean (files_fail d) → IsPolicy p
-passes_all d p is b c g i j k = subst IsPolicy is (is_policy d (record {
-  names = nothing_fails (names_fail d) b;
-  labels = nothing_fails (labels_fail d) c;
-  flow = nothing_fails (flow_fails d) g;
-  arguments = nothing_fails (arguments_fail d) i;
-  limits = nothing_fails (limits_fail d) j;
-  files = nothing_fails (files_fail d) k;
-}))
+pub passes_all : (d : Draft) (p : PolicyParts) → parts d ≡ p → declarations_fault d ≡ None → uses_fault d ≡ None → IsPolicy p
+passes_all d p is a b = subst IsPolicy is (is_policy d (breaks_none d a b))
 
 -- ---- the text
 

@@ -28,11 +28,17 @@ first_fault [] = None
 first_fault (Some fault ∷ more) = Some fault
 first_fault (None ∷ more) = first_fault more
 
--- the first of rules 3 to 9 that fails, with the first entry at which it does
-unfoldable pub least : Draft → Option PolicyFault
-least d =
-    first_fault (blamed 3 (version_fails d) ∷ blamed 4 (names_fail d) ∷ blamed 5 (labels_fail d) ∷ blamed 6 (flow_fails d)
-    ∷ blamed 7 (arguments_fail d) ∷ blamed 8 (limits_fail d) ∷ blamed 9 (files_fail d) ∷ [])
+-- the first of rules 3 to 6 that fails, with the first entry at which it does
+unfoldable pub declarations_fault : Draft → Option PolicyFault
+declarations_fault d = first_fault (blamed 3 (version_fails d) ∷ blamed 4 (names_fail d) ∷ blamed 5 (labels_fail d) ∷ blamed 6 (flow_fails d) ∷ [])
+
+-- the first of rules 7 to 9
+unfoldable pub uses_fault : Draft → Option PolicyFault
+uses_fault d = first_fault (blamed 7 (arguments_fail d) ∷ blamed 8 (limits_fail d) ∷ blamed 9 (files_fail d) ∷ [])
+
+-- the first of rules 3 to 9
+abbrev pub least : Draft → Option PolicyFault
+least d = first_fault (declarations_fault d ∷ uses_fault d ∷ [])
 
 -- the policy that a draft makes which breaks no rule
 unfoldable pub made : Draft → Policy
@@ -101,6 +107,11 @@ policy_of bytes = from_draft (from_document (document_of bytes))
 abbrev pub Passes : {A : Type 0} → ℕ → ℕ → List Bool → Result A PolicyFault → (A → Type 0) → Type 0
 Passes rule first failing (Ok result) Holds = (first_failing first failing ≡ None) × Holds result
 Passes rule first failing (Err fault) Holds = (fault ≡ NoMemory) ⊎ (fault_at rule (first_failing first failing) ≡ Some fault)
+
+-- there is no fault and there is a result; or the fault is the one there is, or want of memory
+abbrev pub Obeys : {A : Type 0} → Option PolicyFault → Result A PolicyFault → (A → Type 0) → Type 0
+Obeys fault (Ok result) Holds = (fault ≡ None) × Holds result
+Obeys fault (Err other) Holds = (other ≡ NoMemory) ⊎ (fault ≡ Some other)
 
 -- what is expected, or want of memory
 abbrev pub Gives : {A : Type 0} → Result A PolicyFault → Result A PolicyFault → Type 0

@@ -1,18 +1,20 @@
 //! Reading a policy: its rules in their order.
 ghost use Rattle.std.specs.Prelude.{◌≡◌, ◌⊎◌, IfOk, IfErr, Ok, Err};
-ghost use Rattle.lio_policy.specs.Rules.{entries, is_one, version_fails};
-ghost use Rattle.lio_policy.specs.Verdict.{Gives, Passes, judged, policy_of};
+ghost use Rattle.std.specs.List.{filter_map};
+ghost use Rattle.lio_policy.specs.Rules as spec;
+ghost use Rattle.lio_policy.specs.Rules.{entries, is_one, version_fails, file_entry, file_names, tasks_of, task_entry, longest_of};
+ghost use Rattle.lio_policy.specs.Verdict.{Gives, Obeys, Passes, declarations_fault, judged, policy_of, uses_fault};
 
 use crate::arguments::{Known, read_arguments};
 use crate::document::{read_draft, read_value};
-use crate::draft::Draft;
+use crate::draft::{Draft, LabelledTask};
 use crate::entries::fault_at;
 use crate::fault::PolicyFault;
 use crate::files::check_files;
 use crate::labels::{Labelled, check_flow, read_labels};
 use crate::limits::check_limits;
 use crate::names::{Named, read_names};
-use crate::policy::Policy;
+use crate::policy::{Policy, TaskEntries};
 use std::alloc::Global;
 
 /// The number of the rule on the version.
@@ -36,36 +38,73 @@ fn check_version(draft: &Draft) -> Result<(), PolicyFault>
     }
 }
 
+/// What a draft declares: its names, and what has labels.
+#[derive(Drop)]
+struct Declarations {
+    named: Named,
+    labelled: Labelled,
+}
+
+/// What a draft declares, by the rules on its version, names, labels and flow.
+fn read_declarations(alloc: Global, draft: &Draft) -> Result<Declarations, PolicyFault>
+    ensures { Obeys (declarations_fault draft.now) result
+        (λ made. (made.named.names ≡ draft.now.principals)
+        × (made.named.channels ≡ file_names draft.now.channels)
+        × (made.named.inputs ≡ file_names draft.now.inputs)
+        × (made.labelled.channels ≡ filter_map (file_entry draft.now.principals) draft.now.channels)
+        × (made.labelled.inputs ≡ filter_map (file_entry draft.now.principals) draft.now.inputs)
+        × (made.labelled.tasks ≡ tasks_of draft.now)) }
+{
+    check_version(draft)?;
+    let named = read_names(alloc, draft)?;
+    let labelled = read_labels(alloc, draft, &named.names)?;
+    check_flow(draft, labelled.tasks.as_slice())?;
+    Ok(Declarations { named, labelled })
+}
+
+/// What a draft does with what it declares: its tasks with their arguments, and its longest text.
+#[derive(Drop)]
+struct Uses {
+    tasks: TaskEntries,
+    longest: u32,
+}
+
+/// What a draft does with what it declares, by the rules on arguments, limits and files.
+fn read_uses(
+    alloc: Global,
+    draft: &Draft,
+    known: &Known,
+    tasks: &[LabelledTask],
+) -> Result<Uses, PolicyFault>
+    requires same { known.now ≡ spec.known draft.now }
+    requires labelled { tasks.now ≡ tasks_of draft.now }
+    ensures { Obeys (uses_fault draft.now) result
+        (λ made. (made.tasks ≡ filter_map (task_entry (spec.known draft.now)) (tasks_of draft.now))
+        × (made.longest ≡ longest_of draft.now)) }
+{
+    let tasks = read_arguments(alloc, draft, known, tasks)?;
+    let longest = check_limits(draft)?;
+    check_files(alloc, draft)?;
+    Ok(Uses { tasks, longest })
+}
+
 /// The policy of a draft.
 fn judge(alloc: Global, draft: &Draft) -> Result<Policy, PolicyFault>
     ensures { Gives (judged draft.now) result }
 {
-    check_version(draft)?;
-    let Named {
-        names,
-        channels: channel_names,
-        inputs: input_names,
-    } = read_names(alloc, draft)?;
-    let Labelled {
-        channels,
-        inputs,
-        tasks,
-    } = read_labels(alloc, draft, &names)?;
-    check_flow(draft, tasks.as_slice())?;
+    let Declarations { named, labelled } = read_declarations(alloc, draft)?;
     let known = Known {
-        channel_names,
-        channels,
-        input_names,
+        channel_names: named.channels,
+        channels: labelled.channels,
+        input_names: named.inputs,
     };
-    let tasks = read_arguments(alloc, draft, &known, tasks.as_slice())?;
-    let longest = check_limits(draft)?;
-    check_files(alloc, draft)?;
+    let uses = read_uses(alloc, draft, &known, labelled.tasks.as_slice())?;
     Ok(Policy {
-        longest,
-        names,
+        longest: uses.longest,
+        names: named.names,
         channels: known.into_channels(),
-        inputs,
-        tasks,
+        inputs: labelled.inputs,
+        tasks: uses.tasks,
     })
 }
 
