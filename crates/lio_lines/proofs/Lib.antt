@@ -1,2 +1,4 @@
 pub mod FormLemmas
 pub mod HeaderLemmas
+pub mod PrintedLines
+pub mod SaidLemmas

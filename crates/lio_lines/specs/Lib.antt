@@ -4,3 +4,4 @@ pub mod WellFormed
 pub mod Header
 pub mod Limited
 pub mod LineText
+pub mod Literal

@@ -14,6 +14,7 @@ pub fn answer(
 ) -> Result<Option<Answer>, Refusal> {
     match (word, fields) {
         (b"script", [text]) => Ok(Some(script(alloc, names, text)?)),
+        (b"copy_script", [text]) => Ok(Some(copy(alloc, names, text)?)),
         _ => Ok(None),
     }
 }
@@ -22,6 +23,12 @@ pub fn answer(
 fn script(alloc: Global, names: &Names, text: &[u8]) -> Result<Answer, Refusal> {
     let script = read_script(alloc, text, names)?;
     Ok(Answer::Text(print_script(alloc, &script, names)?))
+}
+
+/// `copy_script TEXT`: the canonical text of a copy of the script.
+fn copy(alloc: Global, names: &Names, text: &[u8]) -> Result<Answer, Refusal> {
+    let copy = read_script(alloc, text, names)?.copy(alloc)?;
+    Ok(Answer::Text(print_script(alloc, &copy, names)?))
 }
 
 impl From<ScriptFault> for Refusal {

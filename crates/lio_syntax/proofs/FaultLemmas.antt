@@ -10,11 +10,11 @@ use Rattle.lio_lines.specs.Header.{Signature, header_of, parsed_header, line_cal
 use Rattle.lio_syntax.specs.declared.open_block.OpenBlock.{OpenBlock}
 use Rattle.lio_syntax.specs.Lines.{script_lines}
 use Rattle.lio_syntax.specs.Behind.{script_of_lines}
-use Rattle.lio_syntax.specs.OpenBlocks.{is_misplaced, opened_by, opened_behind, open_from, open_behind, block_count}
+use Rattle.lio_syntax.specs.OpenBlocks.{accepts, is_misplaced, opened_by, opened_behind, open_from, open_behind, block_count}
 use Rattle.lio_syntax.specs.Rules.{or_else, count_if_named, parameters_of, procedure_count, is_unknown, has_other_count, is_again, opens_block, is_past_limits, broken_call, broken_header, broken_limit, broken_by, broken_rule}
 use Rattle.lio_syntax.specs.Verdict.{Place, said, unclosed, fault_or, first_fault, lines_fault}
 use Rattle.lio_syntax.specs.Kept.{KeepsRules}
-use Rattle.lio_syntax.proofs.GrammarLemmas.{accepts, script_lines-accepted}
+use Rattle.lio_syntax.proofs.GrammarLemmas.{script_lines-accepted}
 use Rattle.lio_syntax.proofs.HeaderLemmas.{or_else-assoc}
 
 -- one line more
@@ -194,12 +194,12 @@ pub none-keeps : (all : List ParsedLine) → lines_fault all ≡ None → KeepsR
 unfolding said
 none-keeps all e = ap is_none (none-said all [] all e)
 
-said_says : (lines : List Line) → said (map Says lines) ≡ lines
+pub said_says : (lines : List Line) → said (map Says lines) ≡ lines
 unfolding said
 said_says [] = refl
 said_says (line ∷ lines) = ap (λ ls. line ∷ ls) (said_says lines)
 
-is_none-none : {X : Type 0} (o : Option X) → is_none o ≡ true → o ≡ None
+pub is_none-none : {X : Type 0} (o : Option X) → is_none o ≡ true → o ≡ None
 is_none-none None e = refl
 is_none-none (Some x) e = absurd (true≢false (sym e))
 

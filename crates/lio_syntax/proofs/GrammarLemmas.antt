@@ -1,5 +1,5 @@
 -- The lines of a script give the script, and lines that stand where they can are those of a script.
-use Rattle.std.proofs.Common.{◌≡◌, ℕ, Bool, true, false, not, ◌&&◌, List, [], ◌∷◌, refl, ap, sym, ◌∙◌, true≢false}
+use Rattle.std.proofs.Common.{◌≡◌, ℕ, Bool, true, false, not, List, [], ◌∷◌, refl, ap, sym, ◌∙◌, true≢false}
 use Rattle.std.proofs.lemmas.Bool.{and_parts}
 use Rattle.lio_lines.specs.declared.line.Operand.{Operand}
 use Rattle.lio_lines.specs.declared.line.Simple.{Simple}
@@ -10,13 +10,7 @@ use Rattle.lio_syntax.specs.declared.open_block.OpenBlock.TheVariants as open_bl
 use Rattle.lio_syntax.specs.Statements.{Statement, Statements, Do, If, IfElse, While, Try, Nothing, Then, Procedure}
 use Rattle.lio_syntax.specs.Lines.{statement_lines, block_lines, script_lines}
 use Rattle.lio_syntax.specs.Behind.{Behind, Outside, Block, First, Tried, in_front, before_if, before_while, before_try, before_else, before_catch, before_proc, behind, procedures, script_of_lines}
-use Rattle.lio_syntax.specs.OpenBlocks.{is_if, is_try, is_misplaced, opened_by}
-
--- whether lines stand where they can, before which these are open, and nothing is open in the end
-unfoldable pub accepts : List OpenBlock → List Line → Bool
-accepts [] [] = true
-accepts (innermost ∷ outer) [] = false
-accepts blocks (l ∷ lines) = not (is_misplaced blocks l) && accepts (opened_by blocks l) lines
+use Rattle.lio_syntax.specs.OpenBlocks.{accepts, is_if, is_try}
 
 -- the lines behind a place
 pub lines_behind : Behind → List Line
@@ -26,7 +20,7 @@ lines_behind (First block other k) = block_lines block (line.Else ∷ block_line
 lines_behind (Tried block x y handler k) = block_lines block (line.Catch x y ∷ block_lines handler (line.End ∷ lines_behind k))
 
 -- what is behind a place fits what is open there
-pub Fits : List OpenBlock → Behind → Type 0
+unfoldable pub Fits : List OpenBlock → Behind → Type 0
 Fits [] (Outside all) = Unit {0}
 Fits [] (Block block k) = ⊥
 Fits [] (First block other k) = ⊥

@@ -4,3 +4,6 @@ pub mod HeaderLemmas
 pub mod FaultLemmas
 pub mod ProgressLemmas
 pub mod ReadLemmas
+pub mod PrintedScripts
+pub mod LawLemmas
+pub mod ClosingLemmas

@@ -57,7 +57,7 @@ refuses_along : (p q : Option Place) (fault : ScriptFault) → p ≡ q → Refus
 refuses_along p q (Bad line rule) e h = e ∙ h
 refuses_along p q NoMemory e h = h
 
-short : (names : List (List ℕ)) (text : List ℕ) → length text ≤ 262144 → script_fault names text ≡ lines_fault (parsed_lines names text)
+pub short : (names : List (List ℕ)) (text : List ℕ) → length text ≤ 262144 → script_fault names text ≡ lines_fault (parsed_lines names text)
 unfolding script_fault
 short names text few = let no : nat_lt 262144 (length text) ≡ false = grind (arith, nat_tests) in rw no refl
 

@@ -10,3 +10,5 @@ pub mod Headers
 pub mod Progress
 pub mod Kept
 pub mod ScriptText
+pub mod Laws
+pub mod Closing

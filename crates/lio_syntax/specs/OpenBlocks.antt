@@ -1,5 +1,5 @@
 -- The blocks and the procedure that are open at a place in a script, the innermost first, and which line may stand there.
-use Rattle.std.specs.Prelude.{ℕ, ◌-◌, Bool, true, false, not, List, [], ◌∷◌, drop, length}
+use Rattle.std.specs.Prelude.{ℕ, ◌-◌, Bool, true, false, not, ◌&&◌, List, [], ◌∷◌, drop, length}
 use Rattle.lio_lines.specs.declared.line.Line.{Line}
 use Rattle.lio_lines.specs.declared.line.Line.TheVariants as line
 use Rattle.lio_lines.specs.declared.line.ParsedLine.{ParsedLine}
@@ -81,3 +81,12 @@ open_behind lines = open_from [] lines
 -- how many blocks are open in a procedure
 abbrev pub block_count : List OpenBlock → ℕ
 block_count blocks = length blocks - 1
+
+-- whether lines stand where they can, before which these are open, and nothing is open in the end
+unfoldable pub accepts : List OpenBlock → List Line → Bool
+accepts [] [] = true
+accepts (innermost ∷ outer) [] = false
+accepts blocks (l ∷ lines) = not (is_misplaced blocks l) && accepts (opened_by blocks l) lines
+
+abbrev pub are_placed : List Line → Bool
+are_placed lines = accepts [] lines

@@ -1,8 +1,10 @@
 //! Scripts: their procedures, and how a script is read from its text and printed.
 #![tactic(auto)]
 
+mod ends;
 mod fault;
 mod headers;
+pub mod laws;
 mod open_block;
 mod print;
 mod progress;

@@ -1,9 +1,9 @@
 //! Printing a script.
-ghost use Rattle.std.specs.Prelude.{◌≡◌, ◌++◌, codes, All, IfOk, OnOk};
+ghost use Rattle.std.specs.Prelude.{◌≡◌, ◌≤◌, ◌++◌, length, codes, All, IfOk, OnOk};
 ghost use Rattle.lio_lines.specs.LineText.{line_text};
 ghost use Rattle.lio_lines.specs.WellFormed.{IsLine};
 ghost use Rattle.lio_syntax.specs.ScriptText.{lines_text, script_text};
-ghost use Rattle.lio_syntax.specs.Verdict.{IsOver};
+ghost use Rattle.lio_syntax.specs.Verdict.{IsOver, IsScript};
 
 use crate::script::Script;
 use lio_clauses::{Names, NoMemory};
@@ -34,9 +34,13 @@ fn print_lines(out: &mut Vec<u8>, names: &Names, lines: &[Line]) -> Result<(), N
 /// The canonical text of a script, over the names of principals.
 pub fn print_script(alloc: Global, script: &Script, names: &Names) -> Result<Vec<u8>, NoMemory>
     requires { IsOver names.now script.now }
-    ensures { IfOk result (λ text. text.items ≡ script_text names.now script.now) }
+    ensures text { IfOk result (λ text. text.items ≡ script_text names.now script.now) }
+    // A text that isn't too long is read as the script, over the same names.
+    ensures read { IfOk result (λ text. length text.items ≤ 262144 → IsScript names.now text.items script.now) }
 {
     let mut text = Vec::new(alloc);
     print_lines(&mut text, names, script.lines())?;
+    // What this call ensures is what reading the text asks for.
+    let _ = names.len();
     Ok(text)
 }

@@ -51,5 +51,5 @@ pub fn read_script(alloc: Global, bytes: &[u8], names: &Names) -> Result<Script,
         progress.take(alloc, &headers, parsed)?;
         rest = behind;
     }
-    Ok(Script::of(progress.end()?))
+    Ok(Script::of(alloc, progress.end()?)?)
 }

@@ -1,6 +1,7 @@
 //! Scripts.
-ghost use Rattle.std.specs.Prelude.{◌≡◌, IfOk};
+ghost use Rattle.std.specs.Prelude.{◌≡◌, ◌<◌, ◌+◌, length, IfOk};
 
+use crate::ends::ends_of;
 use lio_clauses::NoMemory;
 use lio_lines::Line;
 use std::alloc::Global;
@@ -10,6 +11,8 @@ use std::marker::Model;
 #[derive(Drop)]
 pub struct Script {
     lines: Vec<Line>,
+    /// For each line the place at which the innermost block ends that is open behind it.
+    ends: Vec<usize>,
 }
 
 impl Model for Script {
@@ -17,7 +20,9 @@ impl Model for Script {
     ghost use Rattle.lio_syntax.specs.Statements.{Procedure};
     ghost use Rattle.lio_syntax.specs.Behind.{script_of_lines};
     ghost use Rattle.lio_syntax.specs.ScriptCode.{script_code};
-    ghost use Rattle.lio_syntax.specs.Kept.{KeepsRules};
+    ghost use Rattle.lio_syntax.specs.Closing.{ends_behind};
+    ghost use Rattle.lio_syntax.specs.Kept.{KeepsRules, SaysLiterals};
+    ghost use Rattle.std.specs.Prelude.{◌≡◌};
 
     ghost Value = { List Procedure };
 
@@ -25,26 +30,30 @@ impl Model for Script {
 
     ghost view = { λ script. script_of_lines script.lines.items };
 
-    ghost invariant = { λ script. KeepsRules script.lines.items };
+    ghost invariant = { λ script. KeepsRules script.lines.items × (script.ends.items ≡ ends_behind 0 script.lines.items) × SaysLiterals script.lines.items };
 }
 
 impl Script {
     ghost use Rattle.lio_syntax.specs.Behind.{script_of_lines};
-    ghost use Rattle.lio_syntax.specs.Kept.{KeepsRules};
+    ghost use Rattle.lio_syntax.specs.Closing.{end_of};
+    ghost use Rattle.lio_syntax.specs.Kept.{KeepsRules, SaysLiterals};
     ghost use Rattle.lio_syntax.specs.Lines.{script_lines};
 
     /// The script of these lines.
-    pub(crate) fn of(lines: Vec<Line>) -> Script
-        requires { KeepsRules lines.items }
-        ensures { result ≡ script_of_lines lines.items }
+    pub(crate) fn of(alloc: Global, lines: Vec<Line>) -> Result<Script, NoMemory>
+        requires rules { KeepsRules lines.items }
+        requires literals { SaysLiterals lines.items }
+        ensures { IfOk result (λ script. script ≡ script_of_lines lines.items) }
     {
-        Script { lines }
+        let ends = ends_of(alloc, lines.as_slice())?;
+        Ok(Script { lines, ends })
     }
 
-    /// Its lines in order, without those that say nothing. They break no rule.
+    /// Its lines in order, without those that say nothing. They break no rule, and their literals are neither privileges nor handles.
     pub fn lines(&self) -> &[Line]
         ensures lines { script_lines self.now ≡ result.now }
         ensures rules { KeepsRules result.now }
+        ensures literals { SaysLiterals result.now }
     {
         self.lines.as_slice()
     }
@@ -54,7 +63,16 @@ impl Script {
         ensures { IfOk result (λ script. script ≡ self.now) }
     {
         let lines = copy_lines(alloc, self.lines.as_slice())?;
-        Ok(Script { lines })
+        let ends = Vec::from_slice(alloc, self.ends.as_slice())?;
+        Ok(Script { lines, ends })
+    }
+
+    /// The place of the line at which the innermost block ends that is open behind the line at a place. It takes the same time at any depth.
+    pub fn end_behind(&self, at: usize) -> usize
+        requires { at < length (script_lines self.now) }
+        ensures { result ≡ end_of (script_lines self.now) (at + 1) }
+    {
+        self.ends[at]
     }
 }
 

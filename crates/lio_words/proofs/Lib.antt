@@ -4,3 +4,4 @@ pub mod SolidLemmas
 pub mod RangeLemmas
 pub mod PrintedLemmas
 pub mod LabelLemmas
+pub mod InlineLemmas

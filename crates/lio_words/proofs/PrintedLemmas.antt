@@ -88,7 +88,7 @@ pub text_is_no_name : (bytes : List ℕ) → is_name (quoted bytes) ≡ false
 text_is_no_name bytes = no_name 34 (flat_map quoted.escaped bytes ++ codes "\"") refl
 
 -- numbers
-own : IsNumeralModel (λ ds. list_all is_digit ds ≡ true) (number_from 0)
+pub own : IsNumeralModel (λ ds. list_all is_digit ds ≡ true) (number_from 0)
 unfolding number_from
 own = numerals_by_fold _ (search rules) number_from (search rules)
 

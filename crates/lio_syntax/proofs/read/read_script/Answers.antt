@@ -1,5 +1,6 @@
 use Rattle.std.proofs.Common.{All, sym, subst, arith, rules}
 use Rattle.lio_lines.specs.WellFormed.{IsLine}
+use Rattle.lio_lines.proofs.SaidLemmas.{lines_said}
 use Rattle.lio_syntax.specs.Refusal.{Refuses}
 use Rattle.lio_syntax.specs.Verdict.{parsed_lines, script_fault}
 use Rattle.lio_syntax.proofs.ReadLemmas.{Reached, reached-step, reached-fault, reached-unclosed, reached-keeps, reached-script, parsed-split, parsed-none, too_long, over-script}
@@ -43,19 +44,22 @@ of-requires c =
     let names = c.args.names.now in
     let all = parsed_lines names c.args.bytes.now in
     let reached = subst (Reached all c.lines.progress) (parsed-none names c.lines.rest.now c.in_default.ensures) c.lines.invariant.reached in
-    reached-keeps all c.lines.progress _ reached c.in_ok-end.ensures.ok.0 (c.in_ok-end.ensures.ok.1 reached.before reached.stands)
+    record {
+      rules = reached-keeps all c.lines.progress _ reached c.in_ok-end.ensures.ok.0 (c.in_ok-end.ensures.ok.1 reached.before reached.stands);
+      literals = lines_said names _ (subst (All (IsLine names)) (sym c.in_ok-end.ensures.ok.0) c.lines.invariant.sound);
+    }
 
 pub returns-clause-script : goal.returns-clause-script
 returns-clause-script c =
     let names = c.args.names.now in
     let all = parsed_lines names c.args.bytes.now in
     let reached = subst (Reached all c.lines.progress) (parsed-none names c.lines.rest.now c.in_default.ensures) c.lines.invariant.reached in
-    reached-script names c.args.bytes.now c.lines.progress _ _ (omega arith) reached c.in_ok-end.ensures.ok.0 (c.in_ok-end.ensures.ok.1 reached.before reached.stands) c.of.ensures
+    reached-script names c.args.bytes.now c.lines.progress _ _ (omega arith) reached c.in_ok-end.ensures.ok.0 (c.in_ok-end.ensures.ok.1 reached.before reached.stands) c.in_ok-of.ensures
 
 pub returns-clause-over : goal.returns-clause-over
 returns-clause-over c =
     let names = c.args.names.now in
     let all = parsed_lines names c.args.bytes.now in
     let reached = subst (Reached all c.lines.progress) (parsed-none names c.lines.rest.now c.in_default.ensures) c.lines.invariant.reached in
-    over-script names _ _ (reached-keeps all c.lines.progress _ reached c.in_ok-end.ensures.ok.0 (c.in_ok-end.ensures.ok.1 reached.before reached.stands)) c.of.ensures
+    over-script names _ _ (reached-keeps all c.lines.progress _ reached c.in_ok-end.ensures.ok.0 (c.in_ok-end.ensures.ok.1 reached.before reached.stands)) c.in_ok-of.ensures
     (subst (All (IsLine names)) (sym c.in_ok-end.ensures.ok.0) c.lines.invariant.sound)

@@ -4,4 +4,4 @@ use Rattle.lio_syntax.proofs.FaultLemmas.{keeps-lines}
 use Rattle.lio_syntax.proofs.script.Script.lines.Goals as goal
 
 pub returns-clause-lines : goal.returns-clause-lines
-returns-clause-lines c = ap script_lines (sym c.self.view_is) ∙ keeps-lines c.self.inside.lines.items c.self.invariant ∙ sym c.as_slice.ensures.value
+returns-clause-lines c = ap script_lines (sym c.self.view_is) ∙ keeps-lines c.self.inside.lines.items c.self.invariant.0 ∙ sym c.as_slice.ensures.value

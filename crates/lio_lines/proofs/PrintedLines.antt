@@ -1,0 +1,377 @@
+-- What is printed of a line is read as it.
+use Rattle.std.proofs.Common.{◌≡◌, ℕ, zero, suc, ◌-◌, Bool, true, false, All, List, [], ◌∷◌, ◌++◌, length, map, drop, refl, ap, sym, arith, ◌∙◌, append_assoc, Some, true≢false, codes, bytes_eq}
+use Rattle.std.specs.Prelude.{nat_le}
+use Rattle.std.proofs.lemmas.Bool.Decides.{nat_tests}
+use Rattle.std.proofs.lemmas.Bool.{and_parts}
+use Rattle.std.proofs.lemmas.List.{append-nil}
+use Rattle.std.proofs.lemmas.Slice.Eq.{bytes_eq-Decides}
+use Rattle.std.specs.List.{list_all, flat_map, AllByRecursion}
+use Rattle.std.specs.Option.{option_map}
+use Rattle.lio_clauses.specs.Names.{AreNames}
+use Rattle.lio_words.specs.declared.keyword.Keyword.{Keyword}
+use Rattle.lio_words.specs.declared.keyword.Keyword.TheVariants as keyword
+use Rattle.lio_words.specs.declared.operators.One.{One}
+use Rattle.lio_words.specs.declared.operators.One.TheVariants as one_op
+use Rattle.lio_words.specs.declared.operators.Two.{Two}
+use Rattle.lio_words.specs.declared.operators.Two.TheVariants as two_op
+use Rattle.lio_words.specs.Keyword.{word_of, keyword_of}
+use Rattle.lio_words.specs.Operators.{one_word, two_word, one_of, two_of}
+use Rattle.lio_words.specs.Words.{cut, words, without_return}
+use Rattle.lio_words.proofs.WordLemmas.{words-blank}
+use Rattle.lio_words.proofs.SolidLemmas.{solid_keyword, solid_one, solid_two, solid_plain}
+use Rattle.lio_words.proofs.LabelLemmas.{is_inline, both}
+use Rattle.lio_words.proofs.InlineLemmas.{Good, good_name, good_literal, literal_no_name, literal_back}
+use Rattle.lio_lines.specs.declared.line.Operand.{Operand}
+use Rattle.lio_lines.specs.declared.line.Operand.TheVariants.{Name, Literal}
+use Rattle.lio_lines.specs.declared.line.Simple.{Simple}
+use Rattle.lio_lines.specs.declared.line.Simple.TheVariants.{Let, LetOne, LetTwo, Call, Return, Stop, Throw, Label, Unlabel, Taint, Lower, Relabel, NewRef, NewVar, FullVar, Read, Write, Take, Put, Fork, Spawn, Wait, Send}
+use Rattle.lio_lines.specs.declared.line.Line.{Line}
+use Rattle.lio_lines.specs.declared.line.Line.TheVariants.{Proc, If, Else, While, Try, Catch, End, Do}
+use Rattle.lio_lines.specs.declared.line.ParsedLine.TheVariants.{Says}
+use Rattle.lio_lines.specs.Forms.{operands, names_of, one, two, three, name_one, name_two, name_three, two_names, header, called, call, spawn, fork, unary, binary, expression, assignment, simple, form, begins_comment, line_of_words, line_of}
+use Rattle.lio_lines.specs.LineText.{operand_text, spaced, operand_spaced, names_spaced, operands_spaced, simple_text, line_text}
+use Rattle.lio_lines.specs.Operands.{operand_of, IsOperand}
+use Rattle.lio_lines.specs.WellFormed.{IsName, IsSimple, IsLine}
+
+-- words of the language
+keyword_back : (k : Keyword) → keyword_of (word_of k) ≡ Some k
+unfolding keyword_of
+keyword_back keyword.Proc = refl
+keyword_back k = refl
+
+keyword_inline : (k : Keyword) → list_all is_inline (word_of k) ≡ true
+keyword_inline keyword.Proc = refl
+keyword_inline k = refl
+
+keyword_no_comment : (k : Keyword) → begins_comment (word_of k) ≡ false
+keyword_no_comment keyword.Proc = refl
+keyword_no_comment k = refl
+
+one_back : (op : One) → one_of (one_word op) ≡ Some op
+unfolding one_of
+one_back one_op.Not = refl
+one_back op = refl
+
+one_inline : (op : One) → list_all is_inline (one_word op) ≡ true
+one_inline one_op.Not = refl
+one_inline op = refl
+
+two_back : (op : Two) → two_of (two_word op) ≡ Some op
+unfolding two_of
+two_back two_op.Add = refl
+two_back op = refl
+
+two_inline : (op : Two) → list_all is_inline (two_word op) ≡ true
+two_inline two_op.Add = refl
+two_inline op = refl
+
+good_keyword : (k : Keyword) → Good (word_of k)
+good_keyword k = record { solid = solid_keyword k; inline = keyword_inline k }
+
+good_one : (op : One) → Good (one_word op)
+good_one op = record { solid = solid_one op; inline = one_inline op }
+
+good_two : (op : Two) → Good (two_word op)
+good_two op = record { solid = solid_two op; inline = two_inline op }
+
+good_equals : Good (codes "=")
+good_equals = record { solid = solid_plain _ refl; inline = refl }
+
+-- operands
+good_operand : (names : List (List ℕ)) (a : Operand) → AreNames names → IsOperand names a → Good (operand_text names a)
+good_operand names (Name name) known h = good_name name h
+good_operand names (Literal plain) known h = good_literal names plain known h
+
+operand_back : (names : List (List ℕ)) (a : Operand) → AreNames names → IsOperand names a → operand_of names (operand_text names a) ≡ Some a
+unfolding operand_of
+operand_back names (Name name) known h = rw h refl
+operand_back names (Literal plain) known h = rw (literal_no_name names plain h, literal_back names plain known h) refl
+
+abbrev texts : List (List ℕ) → List Operand → List (List ℕ)
+texts names arguments = map (operand_text names) arguments
+
+operands_back : (names : List (List ℕ)) (arguments : List Operand) → AreNames names → All (IsOperand names) arguments → operands names (texts names arguments) ≡ Some arguments
+unfolding operands
+operands_back names [] known h = refl
+operands_back names (a ∷ arguments) known h =
+    rw (operand_back names a known (h 0 a (omega arith)), operands_back names arguments known (λ k d l. h (suc k) d (omega arith))) refl
+
+good_operands : (names : List (List ℕ)) (arguments : List Operand) → AreNames names → All (IsOperand names) arguments → AllByRecursion Good (texts names arguments)
+good_operands names [] known h = tt
+good_operands names (a ∷ arguments) known h = (good_operand names a known (h 0 a (omega arith)), good_operands names arguments known (λ k d l. h (suc k) d (omega arith)))
+
+names_back : (parameters : List (List ℕ)) → All IsName parameters → names_of parameters ≡ Some parameters
+unfolding names_of
+names_back [] h = refl
+names_back (name ∷ parameters) h = rw (names_back parameters (λ k d l. h (suc k) d (omega arith)), h 0 name (omega arith)) refl
+
+good_names : (parameters : List (List ℕ)) → All IsName parameters → AllByRecursion Good parameters
+good_names [] h = tt
+good_names (name ∷ parameters) h = (good_name name (h 0 name (omega arith)), good_names parameters (λ k d l. h (suc k) d (omega arith)))
+
+operands_texts : (names : List (List ℕ)) (arguments : List Operand) → operands_spaced names arguments ≡ flat_map spaced (texts names arguments)
+unfolding operands_spaced
+operands_texts names [] = refl
+operands_texts names (a ∷ arguments) = ap (λ rest. operand_spaced names a ++ rest) (operands_texts names arguments)
+
+-- the words of a line: its first word and the others
+abbrev simple_first : Simple → Keyword
+simple_first (Let x a) = keyword.Let
+simple_first (LetOne x op a) = keyword.Let
+simple_first (LetTwo x a op b) = keyword.Let
+simple_first (Call x p arguments) = keyword.Call
+simple_first (Return a) = keyword.Return
+simple_first Stop = keyword.Stop
+simple_first (Throw a) = keyword.Throw
+simple_first (Label x l a) = keyword.Label
+simple_first (Unlabel x a) = keyword.Unlabel
+simple_first (Taint l) = keyword.Taint
+simple_first (Lower l) = keyword.Lower
+simple_first (Relabel x a l p) = keyword.Relabel
+simple_first (NewRef x l a) = keyword.NewRef
+simple_first (NewVar x l) = keyword.NewVar
+simple_first (FullVar x l a) = keyword.FullVar
+simple_first (Read x r) = keyword.Read
+simple_first (Write r a) = keyword.Write
+simple_first (Take x v) = keyword.Take
+simple_first (Put v a) = keyword.Put
+simple_first (Fork x l t c p arguments) = keyword.Fork
+simple_first (Spawn t c p arguments) = keyword.Spawn
+simple_first (Wait x r) = keyword.Wait
+simple_first (Send c a) = keyword.Send
+
+abbrev simple_rest : List (List ℕ) → Simple → List (List ℕ)
+simple_rest names (Let x a) = x ∷ codes "=" ∷ operand_text names a ∷ []
+simple_rest names (LetOne x op a) = x ∷ codes "=" ∷ one_word op ∷ operand_text names a ∷ []
+simple_rest names (LetTwo x a op b) = x ∷ codes "=" ∷ operand_text names a ∷ two_word op ∷ operand_text names b ∷ []
+simple_rest names (Call x p arguments) = x ∷ p ∷ texts names arguments
+simple_rest names (Return a) = operand_text names a ∷ []
+simple_rest names Stop = []
+simple_rest names (Throw a) = operand_text names a ∷ []
+simple_rest names (Label x l a) = x ∷ operand_text names l ∷ operand_text names a ∷ []
+simple_rest names (Unlabel x a) = x ∷ operand_text names a ∷ []
+simple_rest names (Taint l) = operand_text names l ∷ []
+simple_rest names (Lower l) = operand_text names l ∷ []
+simple_rest names (Relabel x a l p) = x ∷ operand_text names a ∷ operand_text names l ∷ operand_text names p ∷ []
+simple_rest names (NewRef x l a) = x ∷ operand_text names l ∷ operand_text names a ∷ []
+simple_rest names (NewVar x l) = x ∷ operand_text names l ∷ []
+simple_rest names (FullVar x l a) = x ∷ operand_text names l ∷ operand_text names a ∷ []
+simple_rest names (Read x r) = x ∷ operand_text names r ∷ []
+simple_rest names (Write r a) = operand_text names r ∷ operand_text names a ∷ []
+simple_rest names (Take x v) = x ∷ operand_text names v ∷ []
+simple_rest names (Put v a) = operand_text names v ∷ operand_text names a ∷ []
+simple_rest names (Fork x l t c p arguments) = x ∷ operand_text names l ∷ operand_text names t ∷ operand_text names c ∷ p ∷ texts names arguments
+simple_rest names (Spawn t c p arguments) = operand_text names t ∷ operand_text names c ∷ p ∷ texts names arguments
+simple_rest names (Wait x r) = x ∷ operand_text names r ∷ []
+simple_rest names (Send c a) = operand_text names c ∷ operand_text names a ∷ []
+
+abbrev line_first : Line → Keyword
+line_first (Proc p parameters) = keyword.Proc
+line_first (If a) = keyword.If
+line_first Else = keyword.Else
+line_first (While a) = keyword.While
+line_first Try = keyword.Try
+line_first (Catch x y) = keyword.Catch
+line_first End = keyword.End
+line_first (Do statement) = simple_first statement
+
+abbrev line_rest : List (List ℕ) → Line → List (List ℕ)
+line_rest names (Proc p parameters) = p ∷ parameters
+line_rest names (If a) = operand_text names a ∷ []
+line_rest names Else = []
+line_rest names (While a) = operand_text names a ∷ []
+line_rest names Try = []
+line_rest names (Catch x y) = x ∷ y ∷ []
+line_rest names End = []
+line_rest names (Do statement) = simple_rest names statement
+
+-- they are good words
+good_simple : (names : List (List ℕ)) (statement : Simple) → AreNames names → IsSimple names statement → AllByRecursion Good (simple_rest names statement)
+good_simple names (Let x a) known h = (good_name x h.0, (good_equals, (good_operand names a known h.1, tt)))
+good_simple names (LetOne x op a) known h = (good_name x h.0, (good_equals, (good_one op, (good_operand names a known h.1, tt))))
+good_simple names (LetTwo x a op b) known h = (good_name x h.0, (good_equals, (good_operand names a known h.1, (good_two op, (good_operand names b known h.2, tt)))))
+good_simple names (Call x p arguments) known h = (good_name x h.0, (good_name p h.1, good_operands names arguments known h.2))
+good_simple names (Return a) known h = (good_operand names a known h, tt)
+good_simple names Stop known h = tt
+good_simple names (Throw a) known h = (good_operand names a known h, tt)
+good_simple names (Label x l a) known h = (good_name x h.0, (good_operand names l known h.1, (good_operand names a known h.2, tt)))
+good_simple names (Unlabel x a) known h = (good_name x h.0, (good_operand names a known h.1, tt))
+good_simple names (Taint l) known h = (good_operand names l known h, tt)
+good_simple names (Lower l) known h = (good_operand names l known h, tt)
+good_simple names (Relabel x a l p) known h = (good_name x h.0, (good_operand names a known h.1, (good_operand names l known h.2, (good_operand names p known h.3, tt))))
+good_simple names (NewRef x l a) known h = (good_name x h.0, (good_operand names l known h.1, (good_operand names a known h.2, tt)))
+good_simple names (NewVar x l) known h = (good_name x h.0, (good_operand names l known h.1, tt))
+good_simple names (FullVar x l a) known h = (good_name x h.0, (good_operand names l known h.1, (good_operand names a known h.2, tt)))
+good_simple names (Read x r) known h = (good_name x h.0, (good_operand names r known h.1, tt))
+good_simple names (Write r a) known h = (good_operand names r known h.0, (good_operand names a known h.1, tt))
+good_simple names (Take x v) known h = (good_name x h.0, (good_operand names v known h.1, tt))
+good_simple names (Put v a) known h = (good_operand names v known h.0, (good_operand names a known h.1, tt))
+good_simple names (Fork x l t c p arguments) known h =
+    (good_name x h.0, (good_operand names l known h.1, (good_operand names t known h.2, (good_operand names c known h.3, (good_name p h.4, good_operands names arguments known h.5)))))
+good_simple names (Spawn t c p arguments) known h = (good_operand names t known h.0, (good_operand names c known h.1, (good_name p h.2, good_operands names arguments known h.3)))
+good_simple names (Wait x r) known h = (good_name x h.0, (good_operand names r known h.1, tt))
+good_simple names (Send c a) known h = (good_operand names c known h.0, (good_operand names a known h.1, tt))
+
+good_line : (names : List (List ℕ)) (line : Line) → AreNames names → IsLine names line → AllByRecursion Good (line_rest names line)
+good_line names (Proc p parameters) known h = (good_name p h.0, good_names parameters h.1)
+good_line names (If a) known h = (good_operand names a known h, tt)
+good_line names Else known h = tt
+good_line names (While a) known h = (good_operand names a known h, tt)
+good_line names Try known h = tt
+good_line names (Catch x y) known h = (good_name x h.0, (good_name y h.1, tt))
+good_line names End known h = tt
+good_line names (Do statement) known h = good_simple names statement known h
+
+-- the text of a line is its words, with one blank between two
+abbrev Spelled : List ℕ → Keyword → List (List ℕ) → Type 0
+Spelled text k rest = text ≡ word_of k ++ flat_map spaced rest
+
+spell_one : (k a : List ℕ) → k ++ a ≡ k ++ (a ++ [])
+spell_one k a = simp append-nil
+
+spell_two : (k a b : List ℕ) → (k ++ a) ++ b ≡ k ++ (a ++ (b ++ []))
+spell_two k a b = simp (append_assoc, append-nil)
+
+spell_three : (k a b c : List ℕ) → ((k ++ a) ++ b) ++ c ≡ k ++ (a ++ (b ++ (c ++ [])))
+spell_three k a b c = simp (append_assoc, append-nil)
+
+spell_four : (k a b c d : List ℕ) → (((k ++ a) ++ b) ++ c) ++ d ≡ k ++ (a ++ (b ++ (c ++ (d ++ []))))
+spell_four k a b c d = simp (append_assoc, append-nil)
+
+spell_five : (k a b c d e : List ℕ) → ((((k ++ a) ++ b) ++ c) ++ d) ++ e ≡ k ++ (a ++ (b ++ (c ++ (d ++ (e ++ [])))))
+spell_five k a b c d e = simp (append_assoc, append-nil)
+
+spell_call : (k x p r : List ℕ) → ((k ++ x) ++ p) ++ r ≡ k ++ (x ++ (p ++ r))
+spell_call k x p r = simp append_assoc
+
+spell_spawn : (k t c p r : List ℕ) → (((k ++ t) ++ c) ++ p) ++ r ≡ k ++ (t ++ (c ++ (p ++ r)))
+spell_spawn k t c p r = simp append_assoc
+
+spell_fork : (k x l t c p r : List ℕ) → (((((k ++ x) ++ l) ++ t) ++ c) ++ p) ++ r ≡ k ++ (x ++ (l ++ (t ++ (c ++ (p ++ r)))))
+spell_fork k x l t c p r = simp append_assoc
+
+simple_spelled : (names : List (List ℕ)) (statement : Simple) → Spelled (simple_text names statement) (simple_first statement) (simple_rest names statement)
+simple_spelled names (Let x a) = spell_three (word_of keyword.Let) (spaced x) (spaced (codes "=")) (operand_spaced names a)
+simple_spelled names (LetOne x op a) = spell_four (word_of keyword.Let) (spaced x) (spaced (codes "=")) (spaced (one_word op)) (operand_spaced names a)
+simple_spelled names (LetTwo x a op b) = spell_five (word_of keyword.Let) (spaced x) (spaced (codes "=")) (operand_spaced names a) (spaced (two_word op)) (operand_spaced names b)
+simple_spelled names (Call x p arguments) = rw (operands_texts names arguments) (spell_call (word_of keyword.Call) (spaced x) (spaced p) (flat_map spaced (texts names arguments)))
+simple_spelled names (Return a) = spell_one (word_of keyword.Return) (operand_spaced names a)
+simple_spelled names Stop = refl
+simple_spelled names (Throw a) = spell_one (word_of keyword.Throw) (operand_spaced names a)
+simple_spelled names (Label x l a) = spell_three (word_of keyword.Label) (spaced x) (operand_spaced names l) (operand_spaced names a)
+simple_spelled names (Unlabel x a) = spell_two (word_of keyword.Unlabel) (spaced x) (operand_spaced names a)
+simple_spelled names (Taint l) = spell_one (word_of keyword.Taint) (operand_spaced names l)
+simple_spelled names (Lower l) = spell_one (word_of keyword.Lower) (operand_spaced names l)
+simple_spelled names (Relabel x a l p) = spell_four (word_of keyword.Relabel) (spaced x) (operand_spaced names a) (operand_spaced names l) (operand_spaced names p)
+simple_spelled names (NewRef x l a) = spell_three (word_of keyword.NewRef) (spaced x) (operand_spaced names l) (operand_spaced names a)
+simple_spelled names (NewVar x l) = spell_two (word_of keyword.NewVar) (spaced x) (operand_spaced names l)
+simple_spelled names (FullVar x l a) = spell_three (word_of keyword.FullVar) (spaced x) (operand_spaced names l) (operand_spaced names a)
+simple_spelled names (Read x r) = spell_two (word_of keyword.Read) (spaced x) (operand_spaced names r)
+simple_spelled names (Write r a) = spell_two (word_of keyword.Write) (operand_spaced names r) (operand_spaced names a)
+simple_spelled names (Take x v) = spell_two (word_of keyword.Take) (spaced x) (operand_spaced names v)
+simple_spelled names (Put v a) = spell_two (word_of keyword.Put) (operand_spaced names v) (operand_spaced names a)
+simple_spelled names (Fork x l t c p arguments) =
+    rw (operands_texts names arguments) (spell_fork (word_of keyword.Fork) (spaced x) (operand_spaced names l) (operand_spaced names t) (operand_spaced names c) (spaced p) (flat_map spaced (texts names arguments)))
+simple_spelled names (Spawn t c p arguments) =
+    rw (operands_texts names arguments) (spell_spawn (word_of keyword.Spawn) (operand_spaced names t) (operand_spaced names c) (spaced p) (flat_map spaced (texts names arguments)))
+simple_spelled names (Wait x r) = spell_two (word_of keyword.Wait) (spaced x) (operand_spaced names r)
+simple_spelled names (Send c a) = spell_two (word_of keyword.Send) (operand_spaced names c) (operand_spaced names a)
+
+line_spelled : (names : List (List ℕ)) (line : Line) → Spelled (line_text names line) (line_first line) (line_rest names line)
+unfolding names_spaced
+line_spelled names (Proc p parameters) = append_assoc (word_of keyword.Proc) (spaced p) (flat_map spaced parameters)
+line_spelled names (If a) = spell_one (word_of keyword.If) (operand_spaced names a)
+line_spelled names Else = refl
+line_spelled names (While a) = spell_one (word_of keyword.While) (operand_spaced names a)
+line_spelled names Try = refl
+line_spelled names (Catch x y) = spell_two (word_of keyword.Catch) (spaced x) (spaced y)
+line_spelled names End = refl
+line_spelled names (Do statement) = simple_spelled names statement
+
+-- the words of a line are of its form
+simple_back : (names : List (List ℕ)) (statement : Simple) → AreNames names → IsSimple names statement → simple names (simple_first statement) (simple_rest names statement) ≡ Some statement
+unfolding simple assignment expression unary binary one two three name_one name_two name_three called call spawn fork
+simple_back names (Let x a) known h = rw (h.0, operand_back names a known h.1) refl
+simple_back names (LetOne x op a) known h = rw (h.0, one_back op, operand_back names a known h.1) refl
+simple_back names (LetTwo x a op b) known h = rw (h.0, operand_back names a known h.1, two_back op, operand_back names b known h.2) refl
+simple_back names (Call x p arguments) known h = rw (h.0, h.1, operands_back names arguments known h.2) refl
+simple_back names (Return a) known h = rw (operand_back names a known h) refl
+simple_back names Stop known h = refl
+simple_back names (Throw a) known h = rw (operand_back names a known h) refl
+simple_back names (Label x l a) known h = rw (h.0, operand_back names l known h.1, operand_back names a known h.2) refl
+simple_back names (Unlabel x a) known h = rw (h.0, operand_back names a known h.1) refl
+simple_back names (Taint l) known h = rw (operand_back names l known h) refl
+simple_back names (Lower l) known h = rw (operand_back names l known h) refl
+simple_back names (Relabel x a l p) known h = rw (h.0, operand_back names a known h.1, operand_back names l known h.2, operand_back names p known h.3) refl
+simple_back names (NewRef x l a) known h = rw (h.0, operand_back names l known h.1, operand_back names a known h.2) refl
+simple_back names (NewVar x l) known h = rw (h.0, operand_back names l known h.1) refl
+simple_back names (FullVar x l a) known h = rw (h.0, operand_back names l known h.1, operand_back names a known h.2) refl
+simple_back names (Read x r) known h = rw (h.0, operand_back names r known h.1) refl
+simple_back names (Write r a) known h = rw (operand_back names r known h.0, operand_back names a known h.1) refl
+simple_back names (Take x v) known h = rw (h.0, operand_back names v known h.1) refl
+simple_back names (Put v a) known h = rw (operand_back names v known h.0, operand_back names a known h.1) refl
+simple_back names (Fork x l t c p arguments) known h =
+    rw (h.0, operand_back names l known h.1, operand_back names t known h.2, operand_back names c known h.3, h.4, operands_back names arguments known h.5) refl
+simple_back names (Spawn t c p arguments) known h = rw (operand_back names t known h.0, operand_back names c known h.1, h.2, operands_back names arguments known h.3) refl
+simple_back names (Wait x r) known h = rw (h.0, operand_back names r known h.1) refl
+simple_back names (Send c a) known h = rw (operand_back names c known h.0, operand_back names a known h.1) refl
+
+form-simple : (names : List (List ℕ)) (statement : Simple) (ws : List (List ℕ)) → form names (simple_first statement) ws ≡ option_map Do (simple names (simple_first statement) ws)
+unfolding form
+form-simple names (Let x a) ws = refl
+form-simple names statement ws = refl
+
+line_back : (names : List (List ℕ)) (line : Line) → AreNames names → IsLine names line → form names (line_first line) (line_rest names line) ≡ Some line
+unfolding form header one two_names
+line_back names (Proc p parameters) known h =
+    let few : nat_le (length parameters) 8 ≡ true = grind (arith, nat_tests) in
+    rw (h.0, names_back parameters h.1, few) refl
+line_back names (If a) known h = rw (operand_back names a known h) refl
+line_back names Else known h = refl
+line_back names (While a) known h = rw (operand_back names a known h) refl
+line_back names Try known h = refl
+line_back names (Catch x y) known h = rw (h.0, h.1) refl
+line_back names End known h = refl
+line_back names (Do statement) known h = form-simple names statement (simple_rest names statement) ∙ ap (option_map Do) (simple_back names statement known h)
+
+-- good words with blanks between them are cut as they are
+words-spaced : (word : List ℕ) (rest : List (List ℕ)) → Good word → AllByRecursion Good rest → words (word ++ flat_map spaced rest) ≡ word ∷ rest
+unfolding cut
+words-spaced word [] good all = good.solid.alone [] refl
+words-spaced word (next ∷ rest) good all =
+    good.solid.alone (spaced next ++ flat_map spaced rest) refl
+    ∙ ap (λ ws. word ∷ ws) (words-blank 32 (next ++ flat_map spaced rest) refl ∙ words-spaced next rest all.0 all.1)
+
+inline-spaced : (rest : List (List ℕ)) → AllByRecursion Good rest → list_all is_inline (flat_map spaced rest) ≡ true
+inline-spaced [] all = refl
+inline-spaced (next ∷ rest) all = both is_inline (spaced next) (flat_map spaced rest) all.0.inline (inline-spaced rest all.1)
+
+list_all-drop : (k : ℕ) (text : List ℕ) → list_all is_inline text ≡ true → list_all is_inline (drop k text) ≡ true
+list_all-drop zero text all = all
+list_all-drop (suc k) [] all = refl
+list_all-drop (suc k) (byte ∷ text) all = list_all-drop k text (and_parts (is_inline byte) (list_all is_inline text) all).1
+
+-- a line without a carriage return
+no_return : (text : List ℕ) → list_all is_inline text ≡ true → without_return text ≡ text
+no_return text all = by (bytes_eq (drop (length text - 1) text) (codes "\r")) refl
+  where
+    by : (b : Bool) → bytes_eq (drop (length text - 1) text) (codes "\r") ≡ b → without_return text ≡ text
+    by false e = rw e refl
+    by true e =
+        let is : drop (length text - 1) text ≡ codes "\r" = (bytes_eq-Decides (drop (length text - 1) text) (codes "\r")).0 e in
+        let wrong : false ≡ true = rw is at (list_all-drop (length text - 1) text all) in
+        absurd (true≢false (sym wrong))
+
+pub line_inline : (names : List (List ℕ)) (line : Line) → AreNames names → IsLine names line → list_all is_inline (line_text names line) ≡ true
+line_inline names line known h =
+    rw (line_spelled names line) (both is_inline (word_of (line_first line)) (flat_map spaced (line_rest names line)) (keyword_inline (line_first line)) (inline-spaced (line_rest names line) (good_line names line known h)))
+
+-- the text of a line is read as the line
+pub line_is_read : (names : List (List ℕ)) (line : Line) → AreNames names → IsLine names line → line_of names (line_text names line) ≡ Says line
+unfolding line_of_words
+line_is_read names line known h =
+    let cut_as : words (line_text names line) ≡ word_of (line_first line) ∷ line_rest names line =
+    ap words (line_spelled names line) ∙ words-spaced (word_of (line_first line)) (line_rest names line) (good_keyword (line_first line)) (good_line names line known h) in
+    ap (λ text. line_of_words names (words text)) (no_return (line_text names line) (line_inline names line known h))
+    ∙ ap (line_of_words names) cut_as
+    ∙ (rw (keyword_no_comment (line_first line), keyword_back (line_first line), line_back names line known h) refl)
