@@ -7,3 +7,5 @@ pub mod ReadLemmas
 pub mod PrintedScripts
 pub mod LawLemmas
 pub mod ClosingLemmas
+pub mod BeginningLemmas
+pub mod PlaceLemmas

@@ -12,3 +12,5 @@ pub mod Kept
 pub mod ScriptText
 pub mod Laws
 pub mod Closing
+pub mod Beginnings
+pub mod Procedures

@@ -60,6 +60,12 @@ behind-script_lines (procedure ∷ others) =
     ap (before_proc procedure.name procedure.parameters)
     (behind-block_lines procedure.body (line.End ∷ script_lines others) ∙ all-block procedure.body (behind (script_lines others)) ∙ ap (Block procedure.body) (behind-script_lines others))
 
+-- behind the first line of a procedure stands its body, and outside of it stand those that follow
+pub behind-body : (body : Statements) (others : List Procedure) → behind (block_lines body (line.End ∷ script_lines others)) ≡ Block body (Outside others)
+unfolding behind
+behind-body body others =
+    behind-block_lines body (line.End ∷ script_lines others) ∙ all-block body (behind (script_lines others)) ∙ ap (Block body) (behind-script_lines others)
+
 -- the script of the lines of a script
 pub script_of_lines-script_lines : (script : List Procedure) → script_of_lines (script_lines script) ≡ script
 script_of_lines-script_lines script = ap procedures (behind-script_lines script)

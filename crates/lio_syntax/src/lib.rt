@@ -7,6 +7,7 @@ mod headers;
 pub mod laws;
 mod open_block;
 mod print;
+mod procedures;
 mod progress;
 mod read;
 mod rules;

@@ -1,7 +1,8 @@
 //! Scripts.
-ghost use Rattle.std.specs.Prelude.{◌≡◌, ◌<◌, ◌+◌, length, IfOk};
+ghost use Rattle.std.specs.Prelude.{◌≡◌, ◌<◌, ◌+◌, ◌^◌, length, IfOk, IfSome};
 
 use crate::ends::ends_of;
+use crate::procedures::Procedures;
 use lio_clauses::NoMemory;
 use lio_lines::Line;
 use std::alloc::Global;
@@ -13,6 +14,7 @@ pub struct Script {
     lines: Vec<Line>,
     /// For each line the place at which the innermost block ends that is open behind it.
     ends: Vec<usize>,
+    procedures: Procedures,
 }
 
 impl Model for Script {
@@ -22,6 +24,7 @@ impl Model for Script {
     ghost use Rattle.lio_syntax.specs.ScriptCode.{script_code};
     ghost use Rattle.lio_syntax.specs.Closing.{ends_behind};
     ghost use Rattle.lio_syntax.specs.Kept.{KeepsRules, SaysLiterals};
+    ghost use Rattle.lio_syntax.specs.Procedures.{Lists};
     ghost use Rattle.std.specs.Prelude.{◌≡◌};
 
     ghost Value = { List Procedure };
@@ -30,11 +33,12 @@ impl Model for Script {
 
     ghost view = { λ script. script_of_lines script.lines.items };
 
-    ghost invariant = { λ script. KeepsRules script.lines.items × (script.ends.items ≡ ends_behind 0 script.lines.items) × SaysLiterals script.lines.items };
+    ghost invariant = { λ script. KeepsRules script.lines.items × (script.ends.items ≡ ends_behind 0 script.lines.items) × SaysLiterals script.lines.items × Lists script.procedures script.lines.items };
 }
 
 impl Script {
     ghost use Rattle.lio_syntax.specs.Behind.{script_of_lines};
+    ghost use Rattle.lio_syntax.specs.Beginnings.{BeginsAt, number_of};
     ghost use Rattle.lio_syntax.specs.Closing.{end_of};
     ghost use Rattle.lio_syntax.specs.Kept.{KeepsRules, SaysLiterals};
     ghost use Rattle.lio_syntax.specs.Lines.{script_lines};
@@ -46,7 +50,12 @@ impl Script {
         ensures { IfOk result (λ script. script ≡ script_of_lines lines.items) }
     {
         let ends = ends_of(alloc, lines.as_slice())?;
-        Ok(Script { lines, ends })
+        let procedures = Procedures::of(alloc, lines.as_slice())?;
+        Ok(Script {
+            lines,
+            ends,
+            procedures,
+        })
     }
 
     /// Its lines in order, without those that say nothing. They break no rule, and their literals are neither privileges nor handles.
@@ -64,7 +73,12 @@ impl Script {
     {
         let lines = copy_lines(alloc, self.lines.as_slice())?;
         let ends = Vec::from_slice(alloc, self.ends.as_slice())?;
-        Ok(Script { lines, ends })
+        let procedures = Procedures::of(alloc, lines.as_slice())?;
+        Ok(Script {
+            lines,
+            ends,
+            procedures,
+        })
     }
 
     /// The place of the line at which the innermost block ends that is open behind the line at a place. It takes the same time at any depth.
@@ -73,6 +87,23 @@ impl Script {
         ensures { result ≡ end_of (script_lines self.now) (at + 1) }
     {
         self.ends[at]
+    }
+
+    /// The number of the procedure with this name, from 0 in the order of the script.
+    pub fn procedure_number(&self, name: &[u8]) -> Option<usize>
+        ensures number { result ≡ number_of self.now name.now }
+        ensures within { IfSome result (λ number. number < length self.now) }
+        ensures few { length self.now < 2 ^ 32 }
+    {
+        self.procedures.number(name)
+    }
+
+    /// The place of the line that begins the procedure with a number. Its body begins behind that line.
+    pub fn procedure_line(&self, number: usize) -> usize
+        requires { number < length self.now }
+        ensures { BeginsAt self.now number result }
+    {
+        self.procedures.line(number)
     }
 }
 

@@ -7,6 +7,6 @@ mod operators;
 mod words;
 
 pub use keyword::Keyword;
-pub use literals::{is_name, read_literal};
+pub use literals::{is_name, read_literal, read_whole};
 pub use operators::{One, Two};
 pub use words::{split_word, without_return};

@@ -115,7 +115,7 @@ fn negative(number: u64) -> Option<i64>
 }
 
 /// The whole that a word is.
-fn read_whole(word: &[u8]) -> Option<i64>
+pub fn read_whole(word: &[u8]) -> Option<i64>
     ensures { result ≡ whole_of word.now }
 {
     match word {

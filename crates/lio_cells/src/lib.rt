@@ -1,0 +1,14 @@
+//! Nodes: references, blocking variables, channels and the results of tasks, with what acts make of them.
+//! Source: the concurrent calculus of LIO, ICFP 2012.
+#![tactic(auto)]
+
+mod node;
+mod ready;
+mod reply;
+mod reserve;
+mod room;
+mod served;
+mod state;
+
+pub use node::Node;
+pub use state::State;

@@ -1,0 +1,3 @@
+pub mod WidthLemmas
+pub mod FaultLemmas
+pub mod GuardLemmas

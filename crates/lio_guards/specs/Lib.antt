@@ -1,0 +1,4 @@
+pub mod Class
+pub mod Width
+pub mod Guard
+pub mod Laws

@@ -1,0 +1,62 @@
+-- The laws of operators: they don't see what is hidden, and what they give is a bare flag, whole, text or label, and no text that is too long.
+use Rattle.std.specs.Prelude.{◌≡◌, ◌≤◌, ℕ, length, Result, Ok, Err}
+use Rattle.lio_labels.specs.declared.label.Label.{Label}
+use Rattle.lio_values.specs.declared.value.Plain.{Plain}
+use Rattle.lio_values.specs.declared.value.Plain.TheVariants.{Flag, Whole, Bytes, Lab}
+use Rattle.lio_values.specs.declared.value.Value.{Value}
+use Rattle.lio_values.specs.declared.value.Value.TheVariants.{Bare, Sealed}
+use Rattle.lio_values.specs.declared.fault.FaultKind.{FaultKind}
+use Rattle.lio_values.specs.Erasure.{erase_value}
+use Rattle.lio_words.specs.declared.operators.One.{One}
+use Rattle.lio_words.specs.declared.operators.Two.{Two}
+use Rattle.lio_operators.specs.Operators.{operate1, operate2}
+
+-- what an operator gives, as an observer sees it
+abbrev pub hide_result : Label → Result Value FaultKind → Result Value FaultKind
+hide_result observer (Ok value) = Ok (erase_value observer value)
+hide_result observer (Err kind) = Err kind
+
+-- an operator gives on values as an observer sees them what it gives on the values themselves, as the observer sees that
+abbrev pub HiddenFromOne : Type 0
+HiddenFromOne = (observer : Label) (longest : ℕ) (op : One) (a : Value) → operate1 longest op (erase_value observer a) ≡ hide_result observer (operate1 longest op a)
+
+abbrev pub HiddenFromTwo : Type 0
+HiddenFromTwo = (observer : Label) (longest : ℕ) (op : Two) (a b : Value)
+    → operate2 longest op (erase_value observer a) (erase_value observer b) ≡ hide_result observer (operate2 longest op a b)
+
+-- a bare flag, whole, text or label
+abbrev pub IsSimple : Plain → Type 0
+IsSimple (Flag flag) = Unit {0}
+IsSimple (Whole number) = Unit {0}
+IsSimple (Bytes text) = Unit {0}
+IsSimple (Lab label) = Unit {0}
+IsSimple plain = ⊥
+
+abbrev pub IsPublic : Result Value FaultKind → Type 0
+IsPublic (Ok (Bare plain)) = IsSimple plain
+IsPublic (Ok (Sealed label content)) = ⊥
+IsPublic (Err kind) = Unit {0}
+
+-- what an operator gives is a bare flag, whole, text or label
+abbrev pub OneGivesSimple : Type 0
+OneGivesSimple = (longest : ℕ) (op : One) (a : Value) → IsPublic (operate1 longest op a)
+
+abbrev pub TwoGiveSimple : Type 0
+TwoGiveSimple = (longest : ℕ) (op : Two) (a b : Value) → IsPublic (operate2 longest op a b)
+
+-- a value whose text, if it is one, has at most so many bytes
+abbrev pub IsShort : ℕ → Value → Type 0
+IsShort longest (Bare (Bytes text)) = length text ≤ longest
+IsShort longest value = Unit {0}
+
+abbrev pub GivesShort : ℕ → Result Value FaultKind → Type 0
+GivesShort longest (Ok value) = IsShort longest value
+GivesShort longest (Err kind) = Unit {0}
+
+-- a text that an operator on one value gives has at most so many bytes as texts may have
+abbrev pub OneGivesShort : Type 0
+OneGivesShort = (longest : ℕ) (op : One) (a : Value) → GivesShort longest (operate1 longest op a)
+
+-- a text that an operator on two values gives is within each limit that texts and the left operand are within
+abbrev pub TwoGiveShort : Type 0
+TwoGiveShort = (limit longest : ℕ) (op : Two) (a b : Value) → longest ≤ limit → IsShort limit a → GivesShort limit (operate2 longest op a b)

@@ -1,0 +1,7 @@
+pub mod Wholes
+pub mod Texts
+pub mod Labels
+pub mod Flags
+pub mod Operators
+pub mod Answers
+pub mod Laws

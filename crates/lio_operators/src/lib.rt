@@ -1,0 +1,13 @@
+//! Operators: what they give on plain values, sealed values and handles.
+#![tactic(auto)]
+
+mod faults;
+mod flags;
+mod labels;
+pub mod laws;
+mod operate;
+mod texts;
+mod wholes;
+
+pub use faults::OpFault;
+pub use operate::{operate1, operate2};
