@@ -1,0 +1,191 @@
+-- A turn of a task below the observer is the erased turn.
+use Rattle.std.proofs.Common.{◌≡◌, ◌≢◌, ◌∙◌, refl, sym, ap, subst, ℕ, Bool, true, false, ◌&&◌, not, if◌then◌else◌, List, [], ◌∷◌, ◌++◌, map, Option, Some, None, is_some, option_and_then, inl, inr, get_or-set_other}
+use Rattle.std.specs.Prelude.{IsTrue, ◌⊎◌}
+use Rattle.std.specs.Option.{option_map, option_map_or}
+use Rattle.lio_labels.specs.declared.label.Label.{Label}
+use Rattle.lio_labels.specs.declared.privilege.Priv.{Priv}
+use Rattle.lio_labels.specs.Flow.{flows}
+use Rattle.lio_labels.proofs.FlowLemmas.{flow_is_reflexive, flow_is_transitive}
+use Rattle.lio_values.specs.declared.value.Content.{Content}
+use Rattle.lio_values.specs.declared.value.Content.TheVariants.{Kept, Faulted, Hidden}
+use Rattle.lio_values.specs.declared.act.Act.{Act}
+use Rattle.lio_values.specs.declared.act.Act.TheVariants as act
+use Rattle.lio_values.specs.declared.act.Reply.{Reply}
+use Rattle.lio_values.specs.declared.act.Reply.TheVariants.{Done, Got, Told, Refused}
+use Rattle.lio_values.specs.declared.entry.Entry.{Entry}
+use Rattle.lio_values.proofs.ErasureLemmas.{value_erased_twice, entry_erased_twice}
+use Rattle.lio_values.specs.Erasure.{erase_content, erase_value, erase_act, erase_reply, erase_entry}
+use Rattle.lio_cells.specs.declared.state.State.{State}
+use Rattle.lio_cells.specs.State.{state_after}
+use Rattle.lio_calculus.specs.Task.{TaskState}
+use Rattle.lio_calculus.specs.Going.{released}
+use Rattle.lio_calculus.specs.Hiding.{hide_asked}
+use Rattle.lio_calculus.proofs.PlanLemmas.{hidden-twice}
+use Rattle.lio_calculus.proofs.CellLemmas.{state_after-hidden}
+use Rattle.lio_calculus.specs.Guarded.{IsShown, IsNoRelease}
+use Rattle.lio_calculus.specs.Erased.{hide_state, Opened, taking_front, opened_release, opened, released_to}
+
+-- an act as the erased calculus takes it: to the observer it is the act, and it does to a seen state what the act does
+pub record Appears (observer : Label) (asked seen : Act) : Type 0 where
+  pub entry : erase_act observer seen ≡ erase_act observer asked
+  pub state : (state : State) → state_after (hide_state observer state) seen ≡ hide_state observer (state_after state asked)
+
+-- a content that isn't hidden is no release to open
+not-opened : (observer : Label) (asked : Act) (target : Label) (into : Content → Act) (content : Content) (contents : List Content) → (content ≡ Hidden → ⊥) → opened_release observer asked target into content contents ≡ Some (record { act = asked; left = contents })
+not-opened observer asked target into Hidden contents real = absurd (real refl)
+not-opened observer asked target into (Kept plain) contents real = refl
+not-opened observer asked target into (Faulted fault) contents real = refl
+
+-- what a release opens
+pub record Opens (observer source target : Label) (power : Priv) (content : Content) (rest : List Content) : Type 0 where
+  pub seen : Content
+  pub opens : opened observer (act.Release source target power (erase_content observer source content)) Done (released_to observer (act.Release source target power content) Done ++ rest) ≡ Some (record { act = act.Release source target power seen; left = rest })
+  pub alike : erase_content observer target seen ≡ erase_content observer target content
+
+opens-learned : (observer source target : Label) (power : Priv) (content : Content) (rest : List Content) → (content ≡ Hidden → ⊥) → flows source observer ≡ true → Opens observer source target power content rest
+unfolding opened released_to erase_content
+opens-learned observer source target power content rest real is = record {
+  seen = content;
+  opens = rw is (not-opened observer (act.Release source target power content) target (act.Release source target power) content rest real);
+  alike = refl;
+}
+
+opens-released : (observer source target : Label) (power : Priv) (content : Content) (rest : List Content) → flows source observer ≡ false → flows target observer ≡ true → Opens observer source target power content rest
+unfolding opened released_to erase_content
+opens-released observer source target power content rest is to = record {
+  seen = content;
+  opens = rw is (rw to refl);
+  alike = refl;
+}
+
+opens-hidden : (observer source target : Label) (power : Priv) (content : Content) (rest : List Content) → flows source observer ≡ false → flows target observer ≡ false → Opens observer source target power content rest
+unfolding opened released_to erase_content
+opens-hidden observer source target power content rest is to = record {
+  seen = Hidden;
+  opens = rw is (rw to refl);
+  alike = rw to refl;
+}
+
+pub release-opens : (observer source target : Label) (power : Priv) (content : Content) (rest : List Content) → (content ≡ Hidden → ⊥) → Opens observer source target power content rest
+release-opens observer source target power content rest real = by_source (flows source observer) refl (flows target observer) refl
+  where
+    by_source : (s : Bool) → flows source observer ≡ s → (t : Bool) → flows target observer ≡ t → Opens observer source target power content rest
+    by_source true is t to = opens-learned observer source target power content rest real is
+    by_source false is true to = opens-released observer source target power content rest is to
+    by_source false is false to = opens-hidden observer source target power content rest is to
+
+-- what an act opens and how it then appears
+pub record Taken (observer : Label) (asked : Act) (reply : Reply) (rest : List Content) : Type 0 where
+  pub seen : Act
+  pub opens : opened observer (hide_asked observer asked) (erase_reply observer reply) (released_to observer asked reply ++ rest) ≡ Some (record { act = seen; left = rest })
+  pub appears : Appears observer asked seen
+  pub same : IsNoRelease asked → seen ≡ hide_asked observer asked
+
+-- erasing twice
+erase_act-twice : (observer : Label) (asked : Act) → erase_act observer (erase_act observer asked) ≡ erase_act observer asked
+erase_act-twice observer asked = ap (λ (e : Entry). e.act) (entry_erased_twice observer (record { ticket = 0; actor = 0; target = None; at = observer; act = asked; reply = Done }))
+
+pub erase_reply-twice : (observer : Label) (reply : Reply) → erase_reply observer (erase_reply observer reply) ≡ erase_reply observer reply
+erase_reply-twice observer reply = ap (λ (e : Entry). e.reply) (entry_erased_twice observer (record { ticket = 0; actor = 0; target = None; at = observer; act = act.Step; reply = reply }))
+
+asked-twice : (observer : Label) (asked : Act) → IsNoRelease asked → erase_act observer (hide_asked observer asked) ≡ erase_act observer asked
+unfolding hide_asked
+asked-twice observer (act.Release source target power content) plain = absurd plain
+asked-twice observer (act.Write value) plain = erase_act-twice observer (act.Write value)
+asked-twice observer (act.Put value) plain = erase_act-twice observer (act.Put value)
+asked-twice observer (act.NewRef label value) plain = erase_act-twice observer (act.NewRef label value)
+asked-twice observer (act.NewVar label value) plain = erase_act-twice observer (act.NewVar label value)
+asked-twice observer (act.Fork birth) plain = erase_act-twice observer (act.Fork birth)
+asked-twice observer (act.Spawn birth) plain = erase_act-twice observer (act.Spawn birth)
+asked-twice observer act.Take plain = refl
+asked-twice observer (act.Send text) plain = refl
+asked-twice observer (act.Ended content) plain = refl
+asked-twice observer act.Read plain = refl
+asked-twice observer act.Wait plain = refl
+asked-twice observer act.Step plain = refl
+asked-twice observer (act.Seal label) plain = refl
+asked-twice observer (act.Raise op label) plain = refl
+asked-twice observer (act.Lower label) plain = refl
+
+opened-plain : (observer : Label) (asked : Act) (reply : Reply) (rest : List Content) → IsNoRelease asked
+    → opened observer (hide_asked observer asked) (erase_reply observer reply) (released_to observer asked reply ++ rest) ≡ Some (record { act = hide_asked observer asked; left = rest })
+unfolding opened released_to hide_asked
+opened-plain observer (act.Release source target power content) reply rest plain = absurd plain
+opened-plain observer (act.Write value) reply rest plain = refl
+opened-plain observer (act.Put value) reply rest plain = refl
+opened-plain observer (act.NewRef label value) reply rest plain = refl
+opened-plain observer (act.NewVar label value) reply rest plain = refl
+opened-plain observer (act.Fork birth) reply rest plain = refl
+opened-plain observer (act.Spawn birth) reply rest plain = refl
+opened-plain observer act.Take reply rest plain = refl
+opened-plain observer (act.Send text) reply rest plain = refl
+opened-plain observer (act.Ended content) reply rest plain = refl
+opened-plain observer act.Read reply rest plain = refl
+opened-plain observer act.Wait reply rest plain = refl
+opened-plain observer act.Step reply rest plain = refl
+opened-plain observer (act.Seal label) reply rest plain = refl
+opened-plain observer (act.Raise op label) reply rest plain = refl
+opened-plain observer (act.Lower label) reply rest plain = refl
+
+taken-plain : (observer : Label) (asked : Act) (reply : Reply) (rest : List Content) → IsNoRelease asked → Taken observer asked reply rest
+taken-plain observer asked reply rest plain = record {
+  seen = hide_asked observer asked;
+  opens = opened-plain observer asked reply rest plain;
+  appears = record { entry = asked-twice observer asked plain; state = λ state. state_after-hidden observer state asked };
+  same = λ _. refl;
+}
+
+-- a release that is carried out
+taken-release : (observer source target : Label) (power : Priv) (content : Content) (rest : List Content) → (content ≡ Hidden → ⊥) → Taken observer (act.Release source target power content) Done rest
+unfolding hide_asked state_after
+taken-release observer source target power content rest real =
+    let o : Opens observer source target power content rest = release-opens observer source target power content rest real in record {
+      seen = act.Release source target power o.seen;
+      opens = o.opens;
+      appears = record { entry = ap (λ (c : Content). act.Release source target power c) o.alike; state = λ state. refl };
+      same = λ plain. absurd plain;
+    }
+
+-- a release that is refused
+refused-opens : (observer source target : Label) (power : Priv) (content : Content) (reply : Reply) (rest : List Content) → (reply ≡ Done → ⊥)
+    → opened observer (hide_asked observer (act.Release source target power content)) (erase_reply observer reply) (released_to observer (act.Release source target power content) reply ++ rest)
+    ≡ Some (record { act = hide_asked observer (act.Release source target power content); left = rest })
+unfolding opened released_to hide_asked
+refused-opens observer source target power content Done rest refused = absurd (refused refl)
+refused-opens observer source target power content (Got value) rest refused = refl
+refused-opens observer source target power content (Told told) rest refused = refl
+refused-opens observer source target power content (Refused fault) rest refused = refl
+
+taken-refused : (observer source target : Label) (power : Priv) (content : Content) (reply : Reply) (rest : List Content) → content ≡ Hidden → (reply ≡ Done → ⊥) → Taken observer (act.Release source target power content) reply rest
+unfolding hide_asked state_after
+taken-refused observer source target power content reply rest hidden refused = record {
+  seen = act.Release source target power (erase_content observer source content);
+  opens = refused-opens observer source target power content reply rest refused;
+  appears = record {
+    entry = ap (λ (c : Content). act.Release source target power (erase_content observer target c)) (ap (erase_content observer source) hidden ∙ hidden-twice observer source ∙ sym hidden);
+    state = λ state. refl;
+  };
+  same = λ plain. absurd plain;
+}
+
+-- what an act opens, and how it then appears
+pub taken : (observer : Label) (asked : Act) (reply : Reply) (rest : List Content) → IsShown asked reply → Taken observer asked reply rest
+taken observer (act.Release source target power content) Done rest shown = taken-release observer source target power content rest shown
+taken observer (act.Release source target power content) (Got value) rest shown = taken-refused observer source target power content (Got value) rest shown (λ e. absurd (cc))
+taken observer (act.Release source target power content) (Told told) rest shown = taken-refused observer source target power content (Told told) rest shown (λ e. absurd (cc))
+taken observer (act.Release source target power content) (Refused fault) rest shown = taken-refused observer source target power content (Refused fault) rest shown (λ e. absurd (cc))
+taken observer (act.Write value) reply rest shown = taken-plain observer (act.Write value) reply rest tt
+taken observer (act.Put value) reply rest shown = taken-plain observer (act.Put value) reply rest tt
+taken observer (act.NewRef label value) reply rest shown = taken-plain observer (act.NewRef label value) reply rest tt
+taken observer (act.NewVar label value) reply rest shown = taken-plain observer (act.NewVar label value) reply rest tt
+taken observer (act.Fork birth) reply rest shown = taken-plain observer (act.Fork birth) reply rest tt
+taken observer (act.Spawn birth) reply rest shown = taken-plain observer (act.Spawn birth) reply rest tt
+taken observer act.Take reply rest shown = taken-plain observer act.Take reply rest tt
+taken observer (act.Send text) reply rest shown = taken-plain observer (act.Send text) reply rest tt
+taken observer (act.Ended content) reply rest shown = taken-plain observer (act.Ended content) reply rest tt
+taken observer act.Read reply rest shown = taken-plain observer act.Read reply rest tt
+taken observer act.Wait reply rest shown = taken-plain observer act.Wait reply rest tt
+taken observer act.Step reply rest shown = taken-plain observer act.Step reply rest tt
+taken observer (act.Seal label) reply rest shown = taken-plain observer (act.Seal label) reply rest tt
+taken observer (act.Raise op label) reply rest shown = taken-plain observer (act.Raise op label) reply rest tt
+taken observer (act.Lower label) reply rest shown = taken-plain observer (act.Lower label) reply rest tt

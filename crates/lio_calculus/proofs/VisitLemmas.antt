@@ -1,0 +1,133 @@
+-- A visit in the erased calculus.
+use Rattle.std.proofs.Common.{◌≡◌, ◌∙◌, refl, sym, ap, subst, ℕ, Bool, true, false, ◌&&◌, not, if◌then◌else◌, List, map, Option, Some, None}
+use Rattle.std.specs.Prelude.{IsTrue}
+use Rattle.std.specs.Option.{option_map, option_map_or}
+use Rattle.lio_labels.specs.declared.label.Label.{Label}
+use Rattle.lio_labels.specs.Flow.{flows}
+use Rattle.lio_labels.proofs.FlowLemmas.{flow_is_transitive}
+use Rattle.lio_values.specs.declared.act.Act.{Act}
+use Rattle.lio_values.specs.declared.act.Act.TheVariants as act
+use Rattle.lio_values.specs.declared.act.Reply.{Reply}
+use Rattle.lio_values.specs.declared.act.Reply.TheVariants.{Done}
+use Rattle.lio_values.specs.Erasure.{erase_reply}
+use Rattle.lio_cells.specs.declared.state.State.{State}
+use Rattle.lio_cells.specs.declared.state.State.TheVariants.{Absent}
+use Rattle.lio_cells.specs.State.{ready, answer}
+use Rattle.lio_calculus.specs.Task.{TaskState}
+use Rattle.lio_calculus.specs.Going.{Onward}
+use Rattle.lio_calculus.specs.Plan.{Program, Plan, Over, Own, Visit, Target}
+use Rattle.lio_calculus.specs.Hiding.{hide_asked, hide_onward, hide_plan}
+use Rattle.lio_calculus.specs.Step.{Cell, Configuration, blank, cell_at, number_of, is_met, met, waits, visit, Move, move_of}
+use Rattle.lio_calculus.specs.Erased.{label_of_cell, sees, hide_state, hide_cell, erase_cell, erase}
+use Rattle.lio_calculus.specs.Guarded.{IsOwnGuarded, IsVisitGuarded, IsGuarded}
+use Rattle.lio_calculus.proofs.StateLemmas.{ready-hidden, answer-hidden}
+use Rattle.lio_calculus.proofs.CellLemmas.{is_met-hidden}
+use Rattle.lio_calculus.proofs.InvisibleLemmas.{erase_cell-unseen, erase_cell-seen}
+use Rattle.lio_calculus.proofs.ConfigLemmas.{cell_at-erased}
+
+-- a move, with its values hidden
+abbrev pub hide_move : Label → Move → Move
+hide_move observer move = record { act = hide_asked observer move.act; target = move.target; reply = erase_reply observer move.reply; onward = hide_onward observer move.onward }
+
+met-hidden : (observer : Label) (target : Target) (state : State) → met target (hide_state observer state) ≡ hide_state observer (met target state)
+met-hidden observer target state =
+    ap (λ (b : Bool). if b then hide_state observer state else Absent) (is_met-hidden observer target state) ∙ decided (is_met target state)
+  where
+    decided : (b : Bool) → (if b then hide_state observer state else Absent) ≡ hide_state observer (if b then state else Absent)
+    decided true = refl
+    decided false = refl
+
+waits-hidden : (observer : Label) (asked : Act) → waits (hide_asked observer asked) ≡ waits asked
+unfolding hide_asked
+waits-hidden observer (act.Release source target power content) = refl
+waits-hidden observer (act.Write value) = refl
+waits-hidden observer (act.Put value) = refl
+waits-hidden observer (act.NewRef label value) = refl
+waits-hidden observer (act.NewVar label value) = refl
+waits-hidden observer (act.Fork birth) = refl
+waits-hidden observer (act.Spawn birth) = refl
+waits-hidden observer act.Take = refl
+waits-hidden observer (act.Send text) = refl
+waits-hidden observer (act.Ended content) = refl
+waits-hidden observer act.Read = refl
+waits-hidden observer act.Wait = refl
+waits-hidden observer act.Step = refl
+waits-hidden observer (act.Seal label) = refl
+waits-hidden observer (act.Raise op label) = refl
+waits-hidden observer (act.Lower label) = refl
+
+-- what doesn't wait is answered alike by each node
+answer-done : (state : State) (asked : Act) → waits asked ≡ false → answer state asked ≡ Done
+unfolding answer
+answer-done state act.Read is = absurd (cc)
+answer-done state act.Take is = absurd (cc)
+answer-done state (act.Put value) is = absurd (cc)
+answer-done state act.Wait is = absurd (cc)
+answer-done state (act.Release source target power content) is = refl
+answer-done state (act.Write value) is = refl
+answer-done state (act.NewRef label value) is = refl
+answer-done state (act.NewVar label value) is = refl
+answer-done state (act.Fork birth) is = refl
+answer-done state (act.Spawn birth) is = refl
+answer-done state (act.Send text) is = refl
+answer-done state (act.Ended content) is = refl
+answer-done state act.Step is = refl
+answer-done state (act.Seal label) is = refl
+answer-done state (act.Raise op label) is = refl
+answer-done state (act.Lower label) is = refl
+
+chosen : (observer : Label) (b : Bool) (own move : Move) → (if b then None else Some own) ≡ Some move → (if b then None else Some (hide_move observer own)) ≡ Some (hide_move observer move)
+chosen observer true own move is = absurd (cc)
+chosen observer false own move is = let same : own ≡ move = cc in ap (λ (m : Move). Some (hide_move observer m)) same
+
+-- a visit of a node that is seen
+visit-seen : (observer : Label) (asked : Act) (target : Target) (onward : Onward) (state : State) (move : Move) → visit asked target onward (met target state) ≡ Some move
+    → visit (hide_asked observer asked) target (hide_onward observer onward) (met target (hide_state observer state)) ≡ Some (hide_move observer move)
+visit-seen observer asked target onward state move is =
+    let here : State = met target state in
+    let test : (waits (hide_asked observer asked) && not (ready (hide_state observer here) (hide_asked observer asked))) ≡ (waits asked && not (ready here asked)) =
+    ap (λ (w : Bool). w && not (ready (hide_state observer here) (hide_asked observer asked))) (waits-hidden observer asked) ∙ ap (λ (r : Bool). waits asked && not r) (ready-hidden observer here asked) in
+    ap (visit (hide_asked observer asked) target (hide_onward observer onward)) (met-hidden observer target state)
+    ∙ ap (λ (b : Bool). if b then None else Some (record { act = hide_asked observer asked; target = Some target; reply = answer (hide_state observer here) (hide_asked observer asked); onward = hide_onward observer onward })) test
+    ∙ ap (λ (r : Reply). if waits asked && not (ready here asked) then None else Some (record { act = hide_asked observer asked; target = Some target; reply = r; onward = hide_onward observer onward })) (answer-hidden observer here asked)
+    ∙ chosen observer (waits asked && not (ready here asked)) (record { act = asked; target = Some target; reply = answer here asked; onward = onward }) move is
+
+-- a visit that doesn't wait, whatever the node
+visit-blind : (observer : Label) (asked : Act) (target : Target) (onward : Onward) (state other : State) (move : Move) → waits asked ≡ false → visit asked target onward state ≡ Some move
+    → visit (hide_asked observer asked) target (hide_onward observer onward) other ≡ Some (hide_move observer move)
+visit-blind observer asked target onward state other move still is =
+    let low : waits (hide_asked observer asked) ≡ false = waits-hidden observer asked ∙ still in
+    let own : Move = record { act = asked; target = Some target; reply = Done; onward = onward } in
+    let real : visit asked target onward state ≡ Some own =
+    ap (λ (b : Bool). if b && not (ready state asked) then None else Some (record { act = asked; target = Some target; reply = answer state asked; onward = onward })) still
+    ∙ ap (λ (r : Reply). Some (record { act = asked; target = Some target; reply = r; onward = onward })) (answer-done state asked still) in
+    let same : own ≡ move = cc in
+    ap (λ (b : Bool). if b && not (ready other (hide_asked observer asked)) then None else Some (record { act = hide_asked observer asked; target = Some target; reply = answer other (hide_asked observer asked); onward = hide_onward observer onward })) low
+    ∙ ap (λ (r : Reply). Some (record { act = hide_asked observer asked; target = Some target; reply = r; onward = hide_onward observer onward })) (answer-done other (hide_asked observer asked) low)
+    ∙ ap (λ (m : Move). Some (hide_move observer m)) same
+
+-- the move of a task that the observer sees is its move with hidden values
+pub low-move : (observer : Label) (c : Configuration) (k : ℕ) (task : TaskState) (p : Plan) (move : Move) → flows task.label observer ≡ true → IsGuarded c k task p → move_of (cell_at c) p ≡ Some move
+    → move_of (cell_at (erase observer c)) (hide_plan observer p) ≡ Some (hide_move observer move)
+low-move observer c k task Over move visible guarded moves = absurd (cc)
+low-move observer c k task (Own asked reply onward) move visible guarded moves =
+    let own : Move = record { act = asked; target = None; reply = reply; onward = onward } in
+    let same : own ≡ move = cc in
+    ap (λ (m : Move). Some (hide_move observer m)) same
+low-move observer c k task (Visit asked target onward) move visible guarded moves =
+    ap (λ (cell : Cell). visit (hide_asked observer asked) target (hide_onward observer onward) (met target cell.state)) (cell_at-erased observer c (number_of target))
+    ∙ by_sight (sees observer (cell_at c (number_of target))) refl
+  where
+    by_sight : (b : Bool) → sees observer (cell_at c (number_of target)) ≡ b
+        → visit (hide_asked observer asked) target (hide_onward observer onward) (met target (erase_cell observer (cell_at c (number_of target))).state) ≡ Some (hide_move observer move)
+    by_sight true is =
+        ap (λ (cell : Cell). visit (hide_asked observer asked) target (hide_onward observer onward) (met target cell.state)) (erase_cell-seen observer (cell_at c (number_of target)) is)
+        ∙ visit-seen observer asked target onward (cell_at c (number_of target)).state move moves
+    by_sight false is = blind (waits asked) refl
+      where
+        blind : (w : Bool) → waits asked ≡ w → visit (hide_asked observer asked) target (hide_onward observer onward) (met target (erase_cell observer (cell_at c (number_of target))).state) ≡ Some (hide_move observer move)
+        blind false still = visit-blind observer asked target onward (met target (cell_at c (number_of target)).state) (met target (erase_cell observer (cell_at c (number_of target))).state) move still moves
+        blind true waiting =
+            let (label, has, below) = guarded.below waiting in
+            let seen : sees observer (cell_at c (number_of target)) ≡ true = ap (λ (l : Option Label). option_map_or (λ x. flows x observer) l false) has ∙ flow_is_transitive label task.label observer below visible in
+            absurd (cc)

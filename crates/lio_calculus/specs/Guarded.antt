@@ -1,0 +1,95 @@
+-- What the guards, and the soundness of a configuration, give of a turn: what the noninterference of one step stands on (LIO, ICFP 2012).
+use Rattle.std.specs.Prelude.{◌≡◌, ℕ, Bool, true, false, IsTrue, Option, Some, None, ◌⊎◌}
+use Rattle.lio_labels.specs.declared.label.Label.{Label}
+use Rattle.lio_labels.specs.Flow.{flows}
+use Rattle.lio_values.specs.declared.value.Content.{Content}
+use Rattle.lio_values.specs.declared.value.Content.TheVariants.{Hidden}
+use Rattle.lio_values.specs.declared.act.Act.{Act}
+use Rattle.lio_values.specs.declared.act.Act.TheVariants as act
+use Rattle.lio_calculus.specs.Task.{TaskState}
+use Rattle.lio_calculus.specs.Going.{Onward, Advance, Bind, Seal, Enter, Repeat, Try, Call, Return, Leave, Raise, RaiseTo, Unlabel, Lower, Release, HoldReference, HoldVariable, Fork, Spawn, BindReply, Throw, End}
+use Rattle.lio_values.specs.declared.act.Reply.{Reply}
+use Rattle.lio_values.specs.declared.act.Reply.TheVariants.{Done, Got, Told, Refused}
+use Rattle.lio_calculus.specs.Plan.{Program, Plan, Over, Own, Visit, Target, Node, New}
+use Rattle.lio_calculus.specs.Step.{Cell, Configuration, blank, cell_at, number_of, is_met, waits, met_after}
+use Rattle.lio_calculus.specs.Erased.{label_of_cell}
+
+-- the current label after a turn: raised by a raise, and else as it was
+abbrev pub label_after : Onward → Label → Label
+label_after (Raise label) current = label
+label_after (RaiseTo label access) current = label
+label_after (Unlabel name label source content) current = label
+label_after Advance current = current
+label_after (Bind name value) current = current
+label_after (Seal name label plain) current = current
+label_after (Enter block) current = current
+label_after (Repeat condition block) current = current
+label_after (Try block code payload handler) current = current
+label_after (Call name environment body) current = current
+label_after (Return value) current = current
+label_after (Leave caller name) current = current
+label_after (Lower clearance) current = current
+label_after (Release name label) current = current
+label_after (HoldReference name label) current = current
+label_after (HoldVariable name label) current = current
+label_after (Fork name label cells turns) current = current
+label_after (Spawn cells turns) current = current
+label_after (BindReply name) current = current
+label_after (Throw fault) current = current
+label_after End current = current
+
+-- the acts that change the node that they meet
+abbrev pub changes : Act → Bool
+changes act.Read = false
+changes act.Wait = false
+changes act = true
+
+-- a release to a label
+abbrev pub IsReleaseOf : Act → Label → Type 0
+IsReleaseOf (act.Release source target power content) label = target ≡ label
+IsReleaseOf asked label = ⊥
+
+-- a release that is carried out shows its content, and a refused one shows none
+abbrev pub IsShown : Act → Reply → Type 0
+IsShown (act.Release source target power content) Done = content ≡ Hidden → ⊥
+IsShown (act.Release source target power content) (Got value) = content ≡ Hidden
+IsShown (act.Release source target power content) (Told told) = content ≡ Hidden
+IsShown (act.Release source target power content) (Refused fault) = content ≡ Hidden
+IsShown asked reply = Unit {0}
+
+-- an act of the task's own: the label rises; what is unlabelled is below the new label; and what is released comes to the label that is bound
+
+abbrev pub IsAllowed : Act → Onward → Type 0
+IsAllowed asked (Unlabel name label source content) = IsTrue (flows source label)
+IsAllowed asked (Release name label) = IsReleaseOf asked label
+IsAllowed asked onward = Unit {0}
+
+pub record IsOwnGuarded (task : TaskState) (asked : Act) (reply : Reply) (onward : Onward) : Type 0 where
+  pub rises : IsTrue (flows task.label (label_after onward task.label))
+  pub allowed : IsAllowed asked onward
+  pub shown : IsShown asked reply
+
+-- a node keeps its label, and a new one stands where nothing was
+abbrev pub IsBefore : Target → Cell → Cell → Type 0
+IsBefore (Node kind handle) cell next = label_of_cell cell ≡ label_of_cell next
+IsBefore (New number) cell next = cell ≡ blank
+
+-- an act that is no release
+abbrev pub IsNoRelease : Act → Type 0
+IsNoRelease (act.Release source target power content) = ⊥
+IsNoRelease asked = Unit {0}
+
+-- a visit: it meets another cell; what it waits for is at a label below; a changed node is at a label above, and has it before too, unless it is new; and the label stays
+pub record IsVisitGuarded (c : Configuration) (k : ℕ) (task : TaskState) (asked : Act) (target : Target) (onward : Onward) : Type 0 where
+  pub other : k ≡ number_of target → ⊥
+  pub below : IsTrue (waits asked) → (label : Label) × (label_of_cell (cell_at c (number_of target)) ≡ Some label) × IsTrue (flows label task.label)
+  pub above : IsTrue (changes asked) → IsTrue (is_met target (cell_at c (number_of target)).state) → (label : Label) → label_of_cell (met_after c.program task.label asked (cell_at c (number_of target))) ≡ Some label → IsTrue (flows task.label label)
+  pub before : IsBefore target (cell_at c (number_of target)) (met_after c.program task.label asked (cell_at c (number_of target)))
+  pub stays : label_after onward task.label ≡ task.label
+  pub quiet : IsNoRelease asked
+  pub allowed : IsAllowed asked onward
+
+abbrev pub IsGuarded : Configuration → ℕ → TaskState → Plan → Type 0
+IsGuarded c k task Over = Unit {0}
+IsGuarded c k task (Own asked reply onward) = IsOwnGuarded task asked reply onward
+IsGuarded c k task (Visit asked target onward) = IsVisitGuarded c k task asked target onward

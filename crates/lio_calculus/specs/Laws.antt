@@ -1,0 +1,24 @@
+-- The laws of the calculus: what a turn of a well-formed configuration shows to an observer (the noninterference of the concurrent calculus of LIO, ICFP 2012).
+use Rattle.std.specs.Prelude.{◌≡◌, ℕ, IsTrue, IsFalse, List, ◌++◌, Option, Some}
+use Rattle.lio_labels.specs.declared.label.Label.{Label}
+use Rattle.lio_labels.specs.Flow.{flows}
+use Rattle.lio_values.specs.declared.value.Content.{Content}
+use Rattle.lio_values.specs.Erasure.{erase_entry}
+use Rattle.lio_calculus.specs.Task.{TaskState}
+use Rattle.lio_calculus.specs.Step.{Configuration, Turn, step}
+use Rattle.lio_calculus.specs.Erased.{erase, low, released_to}
+use Rattle.lio_calculus.specs.Sound.{IsTaskOf, IsSound}
+
+-- the turn of a task whose label doesn't flow to the observer's changes nothing that the observer sees
+abbrev pub UnseenTurnChangesNothing : Type 0
+UnseenTurnChangesNothing = (observer : Label) (ticket : ℕ) (c : Configuration) (k : ℕ) (task : TaskState) (turn : Turn)
+    → IsSound c → IsTaskOf c k task → IsFalse (flows task.label observer) → step ticket c k ≡ Some turn
+    → erase observer turn.next ≡ erase observer c
+
+-- the turn of a task whose label flows to the observer's is the turn of the erased calculus: it shows the erased entry, leads to the erased
+-- configuration, and takes the contents that it releases to the observer from the front of those that were released
+abbrev pub SeenTurnIsErasedTurn : Type 0
+SeenTurnIsErasedTurn = (observer : Label) (ticket : ℕ) (c : Configuration) (k : ℕ) (task : TaskState) (turn : Turn) (rest : List Content)
+    → IsSound c → IsTaskOf c k task → IsTrue (flows task.label observer) → step ticket c k ≡ Some turn
+    → low observer ticket (erase observer c) k (released_to observer turn.entry.act turn.entry.reply ++ rest)
+    ≡ Some (record { entry = erase_entry observer turn.entry; next = erase observer turn.next; left = rest })

@@ -1,0 +1,10 @@
+pub mod Operands
+pub mod Task
+pub mod Going
+pub mod Plan
+pub mod Step
+pub mod Hiding
+pub mod Erased
+pub mod Guarded
+pub mod Sound
+pub mod Laws

@@ -1,0 +1,21 @@
+//! The laws of the calculus. Each function does nothing: its contract is the law.
+ghost use Rattle.lio_calculus.specs.Hiding.{PlanHidden};
+ghost use Rattle.lio_calculus.specs.Laws.{SeenTurnIsErasedTurn, UnseenTurnChangesNothing};
+
+/// The plan of a task that is seen with hidden values is its plan with hidden values.
+#[tactic(auto, using(crate::proofs::LawLemmas::plan_of_hidden))]
+pub fn plan_of_hidden()
+    ensures { PlanHidden }
+{}
+
+/// A turn above an observer changes nothing that the observer sees.
+#[tactic(auto, using(crate::proofs::LawLemmas::unseen_turn_changes_nothing))]
+pub fn unseen_turn_changes_nothing()
+    ensures { UnseenTurnChangesNothing }
+{}
+
+/// A turn below an observer is the turn of the erased calculus.
+#[tactic(auto, using(crate::proofs::LawLemmas::seen_turn_is_erased_turn))]
+pub fn seen_turn_is_erased_turn()
+    ensures { SeenTurnIsErasedTurn }
+{}

@@ -1,0 +1,4 @@
+//! The calculus: definitions, and the laws of what observers see.
+#![tactic(auto)]
+
+pub mod laws;

@@ -1,0 +1,4 @@
+pub mod BlockLemmas
+pub mod PartLemmas
+pub mod EnvironmentLemmas
+pub mod ContinuationLemmas

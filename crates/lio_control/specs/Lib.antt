@@ -1,0 +1,8 @@
+pub mod Environment
+pub mod Bound
+pub mod Items
+pub mod Throwing
+pub mod Continuation
+pub mod Front
+pub mod Places
+pub mod Parts

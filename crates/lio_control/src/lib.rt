@@ -1,0 +1,17 @@
+//! Where a task stands in its script: what its names are bound to, and what it still has to do, as frames of places in the script's lines.
+#![tactic(auto)]
+
+mod binding;
+mod continuation;
+mod effects;
+mod environment;
+mod faults;
+mod frame;
+mod front;
+mod part;
+mod places;
+
+pub use binding::Binding;
+pub use continuation::Continuation;
+pub use environment::Environment;
+pub use front::Front;
