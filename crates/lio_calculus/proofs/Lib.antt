@@ -17,3 +17,15 @@ pub mod GuardedLemmas
 pub mod VisitGuarded
 pub mod StepGuarded
 pub mod LawLemmas
+pub mod Outcome
+pub mod OutcomeLemmas
+pub mod Closed
+pub mod PlanEach
+pub mod Lists
+pub mod PlanKept
+pub mod PlacesKept
+pub mod GoneKept
+pub mod NodeKept
+pub mod SoundAfter
+pub mod ActorKept
+pub mod StepKept

@@ -9,6 +9,10 @@ use Rattle.lio_calculus.specs.Step.{Configuration, Turn, step}
 use Rattle.lio_calculus.specs.Erased.{erase, low, released_to}
 use Rattle.lio_calculus.specs.Sound.{IsTaskOf, IsSound}
 
+-- each turn keeps a configuration well-formed
+abbrev pub TurnKeepsSoundness : Type 0
+TurnKeepsSoundness = (ticket : ℕ) (c : Configuration) (k : ℕ) (task : TaskState) (turn : Turn) → IsSound c → IsTaskOf c k task → step ticket c k ≡ Some turn → IsSound turn.next
+
 -- the turn of a task whose label doesn't flow to the observer's changes nothing that the observer sees
 abbrev pub UnseenTurnChangesNothing : Type 0
 UnseenTurnChangesNothing = (observer : Label) (ticket : ℕ) (c : Configuration) (k : ℕ) (task : TaskState) (turn : Turn)

@@ -1,11 +1,16 @@
 //! The laws of the calculus. Each function does nothing: its contract is the law.
 ghost use Rattle.lio_calculus.specs.Hiding.{PlanHidden};
-ghost use Rattle.lio_calculus.specs.Laws.{SeenTurnIsErasedTurn, UnseenTurnChangesNothing};
+ghost use Rattle.lio_calculus.specs.Laws.{SeenTurnIsErasedTurn, TurnKeepsSoundness, UnseenTurnChangesNothing};
 
 /// The plan of a task that is seen with hidden values is its plan with hidden values.
 #[tactic(auto, using(crate::proofs::LawLemmas::plan_of_hidden))]
 pub fn plan_of_hidden()
     ensures { PlanHidden }
+{}
+
+/// Each turn keeps a configuration well-formed.
+pub fn turn_keeps_soundness()
+    ensures { TurnKeepsSoundness }
 {}
 
 /// A turn above an observer changes nothing that the observer sees.

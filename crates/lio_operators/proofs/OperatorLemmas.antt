@@ -21,7 +21,7 @@ use Rattle.lio_operators.specs.Texts.{made, place_at, on_texts, on_text_at}
 use Rattle.lio_operators.specs.Labels.{is_wide, bounded, on_labels}
 use Rattle.lio_operators.specs.Flags.{on_flags, on_units}
 use Rattle.lio_operators.specs.Operators.{bare, not_of, neg_of, len_of, whole_read, num_of, flag_text, str_of, label_of, on_plain, on_sealed, operate1, flag_and, unit_and, whole_and, text_and, label_and, on_plains, operate2}
-use Rattle.lio_operators.specs.Laws.{hide_result, HiddenFromOne, HiddenFromTwo, IsPublic, OneGivesSimple, TwoGiveSimple, IsShort, GivesShort, OneGivesShort, TwoGiveShort}
+use Rattle.lio_operators.specs.Laws.{hide_result, HiddenFromOne, HiddenFromTwo, IsPublic, OneGivesSimple, TwoGiveSimple, IsShort, GivesShort, OneGivesShort, TwoGiveShort, IsUnthrown}
 
 -- a bare value is seen as it is
 bare_shown : (observer : Label) (given : Result Plain FaultKind) → bare given ≡ hide_result observer (bare given)
@@ -46,7 +46,7 @@ Gives limit (Ok (Whole number)) = Unit {0}
 Gives limit (Ok (Bytes text)) = length text ≤ limit
 Gives limit (Ok (Lab label)) = Unit {0}
 Gives limit (Ok plain) = ⊥
-Gives limit (Err kind) = Unit {0}
+Gives limit (Err kind) = IsUnthrown kind
 
 simple_of : (limit : ℕ) (given : Result Plain FaultKind) → Gives limit given → IsPublic (bare given)
 simple_of limit (Ok (Flag flag)) gives = tt
@@ -54,7 +54,7 @@ simple_of limit (Ok (Whole number)) gives = tt
 simple_of limit (Ok (Bytes text)) gives = tt
 simple_of limit (Ok (Lab label)) gives = tt
 simple_of limit (Ok plain) gives = gives
-simple_of limit (Err kind) gives = tt
+simple_of limit (Err kind) gives = gives
 
 short_of : (limit : ℕ) (given : Result Plain FaultKind) → Gives limit given → GivesShort limit (bare given)
 short_of limit (Ok (Bytes text)) gives = gives

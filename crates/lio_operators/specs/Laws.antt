@@ -6,6 +6,7 @@ use Rattle.lio_values.specs.declared.value.Plain.TheVariants.{Flag, Whole, Bytes
 use Rattle.lio_values.specs.declared.value.Value.{Value}
 use Rattle.lio_values.specs.declared.value.Value.TheVariants.{Bare, Sealed}
 use Rattle.lio_values.specs.declared.fault.FaultKind.{FaultKind}
+use Rattle.lio_values.specs.declared.fault.FaultKind.TheVariants.{User}
 use Rattle.lio_values.specs.Erasure.{erase_value}
 use Rattle.lio_words.specs.declared.operators.One.{One}
 use Rattle.lio_words.specs.declared.operators.Two.{Two}
@@ -32,12 +33,17 @@ IsSimple (Bytes text) = Unit {0}
 IsSimple (Lab label) = Unit {0}
 IsSimple plain = ⊥
 
+-- a fault that no script throws, and so one without a value
+abbrev pub IsUnthrown : FaultKind → Type 0
+IsUnthrown (User plain) = ⊥
+IsUnthrown kind = Unit {0}
+
 abbrev pub IsPublic : Result Value FaultKind → Type 0
 IsPublic (Ok (Bare plain)) = IsSimple plain
 IsPublic (Ok (Sealed label content)) = ⊥
-IsPublic (Err kind) = Unit {0}
+IsPublic (Err kind) = IsUnthrown kind
 
--- what an operator gives is a bare flag, whole, text or label
+-- what an operator gives is a bare flag, whole, text or label, or a fault without a value
 abbrev pub OneGivesSimple : Type 0
 OneGivesSimple = (longest : ℕ) (op : One) (a : Value) → IsPublic (operate1 longest op a)
 
