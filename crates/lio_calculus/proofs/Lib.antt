@@ -29,3 +29,4 @@ pub mod NodeKept
 pub mod SoundAfter
 pub mod ActorKept
 pub mod StepKept
+pub mod RunLemmas

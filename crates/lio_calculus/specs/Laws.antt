@@ -1,5 +1,5 @@
 -- The laws of the calculus: what a turn of a well-formed configuration shows to an observer (the noninterference of the concurrent calculus of LIO, ICFP 2012).
-use Rattle.std.specs.Prelude.{◌≡◌, ℕ, IsTrue, IsFalse, List, ◌++◌, Option, Some}
+use Rattle.std.specs.Prelude.{◌≡◌, ℕ, IsTrue, IsFalse, List, [], ◌++◌, Option, Some}
 use Rattle.lio_labels.specs.declared.label.Label.{Label}
 use Rattle.lio_labels.specs.Flow.{flows}
 use Rattle.lio_values.specs.declared.value.Content.{Content}
@@ -7,6 +7,7 @@ use Rattle.lio_values.specs.Erasure.{erase_entry}
 use Rattle.lio_calculus.specs.Task.{TaskState}
 use Rattle.lio_calculus.specs.Step.{Configuration, Turn, step}
 use Rattle.lio_calculus.specs.Erased.{erase, low, released_to}
+use Rattle.lio_calculus.specs.Run.{Ran, run, view, who, releases, low_run}
 use Rattle.lio_calculus.specs.Sound.{IsTaskOf, IsSound}
 
 -- each turn keeps a configuration well-formed
@@ -26,3 +27,13 @@ SeenTurnIsErasedTurn = (observer : Label) (ticket : ℕ) (c : Configuration) (k 
     → IsSound c → IsTaskOf c k task → IsTrue (flows task.label observer) → step ticket c k ≡ Some turn
     → low observer ticket (erase observer c) k (released_to observer turn.entry.act turn.entry.reply ++ rest)
     ≡ Some (record { entry = erase_entry observer turn.entry; next = erase observer turn.next; left = rest })
+
+-- A run from a well-formed configuration, seen by an observer, is the run of the erased calculus from what the observer sees of the configuration, over the actors that it sees
+-- and the contents that the journal releases to it: it gives the view, what the observer sees of the last configuration, and no released content is left. The last configuration is well-formed.
+pub record RunSeenAs (observer : Label) (c : Configuration) (ran : Ran) : Type 0 where
+  pub erased : low_run observer 0 (erase observer c) (who observer ran.entries) (releases observer ran.entries)
+      ≡ Some (record { entries = view observer 0 ran.entries; last = erase observer ran.last; left = [] })
+  pub sound : IsSound ran.last
+
+abbrev pub RunIsErasedRun : Type 0
+RunIsErasedRun = (observer : Label) (c : Configuration) (ks : List ℕ) (ran : Ran) → IsSound c → run 0 c ks ≡ Some ran → RunSeenAs observer c ran

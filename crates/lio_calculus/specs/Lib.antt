@@ -8,3 +8,4 @@ pub mod Erased
 pub mod Guarded
 pub mod Sound
 pub mod Laws
+pub mod Run

@@ -1,6 +1,6 @@
 //! The laws of the calculus. Each function does nothing: its contract is the law.
 ghost use Rattle.lio_calculus.specs.Hiding.{PlanHidden};
-ghost use Rattle.lio_calculus.specs.Laws.{SeenTurnIsErasedTurn, TurnKeepsSoundness, UnseenTurnChangesNothing};
+ghost use Rattle.lio_calculus.specs.Laws.{RunIsErasedRun, SeenTurnIsErasedTurn, TurnKeepsSoundness, UnseenTurnChangesNothing};
 
 /// The plan of a task that is seen with hidden values is its plan with hidden values.
 #[tactic(auto, using(crate::proofs::LawLemmas::plan_of_hidden))]
@@ -23,4 +23,9 @@ pub fn unseen_turn_changes_nothing()
 #[tactic(auto, using(crate::proofs::LawLemmas::seen_turn_is_erased_turn))]
 pub fn seen_turn_is_erased_turn()
     ensures { SeenTurnIsErasedTurn }
+{}
+
+/// A run, seen by an observer, is the run of the erased calculus from what the observer sees, and gives the view.
+pub fn run_is_erased_run()
+    ensures { RunIsErasedRun }
 {}
