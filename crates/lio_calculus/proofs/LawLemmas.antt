@@ -30,5 +30,6 @@ run_is_erased_run observer c ks ran sound runs =
     let erased = run-erased observer 0 0 c ks ran [] sound runs in
     record {
       erased = ap (λ (contents : List Content). low_run observer 0 (erase observer c) (who observer ran.entries) contents) (sym (append-nil (releases observer ran.entries))) ∙ erased.low;
+      released = erased.released;
       sound = erased.sound;
     }

@@ -1,6 +1,7 @@
 -- A run, seen by an observer, is the run of the erased calculus.
 use Rattle.std.proofs.Common.{◌≡◌, ◌∙◌, refl, sym, ap, subst, ℕ, ◌+◌, ◌==◌, Bool, true, false, ◌&&◌, not, if◌then◌else◌, IsTrue, IsFalse, List, [], ◌∷◌, ◌++◌, All, Option, Some, None, true≢false, append_assoc}
 use Rattle.std.specs.Prelude.{option_and_then, option_map}
+use Rattle.std.proofs.lemmas.List.Elements.{All-nil, All-cons, All-append}
 use Rattle.lio_labels.specs.declared.label.Label.{Label}
 use Rattle.lio_labels.specs.declared.privilege.Priv.{Priv}
 use Rattle.lio_labels.specs.Flow.{flows}
@@ -30,7 +31,8 @@ use Rattle.lio_calculus.specs.Going.{Onward, Advance, BindReply}
 use Rattle.lio_calculus.specs.Plan.{Program, Plan, Over, Own, Visit, Target, Node, New, fault_at, ending, with_seen, choosing, looping, plan_statement, plan_access, plan_items, plan}
 use Rattle.lio_calculus.specs.Step.{Configuration, cell_at, Move, move_of, number_of, met, waits, Turn, entry_of, turn_of, after, step}
 use Rattle.lio_calculus.specs.Erased.{erase, low, LowTurn, released_to}
-use Rattle.lio_calculus.specs.Guarded.{IsGuarded, IsVisitGuarded, IsNoRelease}
+use Rattle.lio_calculus.specs.Guarded.{IsShown, IsGuarded, IsVisitGuarded, IsNoRelease}
+use Rattle.lio_calculus.specs.Laws.{IsShownContent}
 use Rattle.lio_calculus.specs.Run.{Ran, ran_after, run, is_visible, view, who, releases, LowRan, low_ran_after, low_run}
 use Rattle.lio_calculus.specs.Sound.{IsTaskOf, IsSound}
 use Rattle.lio_calculus.proofs.InvisibleLemmas.{visit-move, step-unseen}
@@ -171,6 +173,28 @@ move-released observer c k task (Visit asked target onward) move above guarded u
     let equal : made ≡ move = visit-move asked target onward (waits asked && not (ready (met target (cell_at c (number_of target)).state) asked)) made move moves in
     subst (λ (m : Move). released_to observer m.act m.reply ≡ []) equal (quiet-released observer asked made.reply guarded.quiet)
 
+-- a release that is carried out shows its content, so what a turn releases isn't hidden
+own-shown : (observer : Label) (asked : Act) (reply : Reply) → IsShown asked reply → All IsShownContent (released_to observer asked reply)
+unfolding released_to
+own-shown observer (act.Release source target power content) Done shown = by (not (flows source observer) && flows target observer)
+  where
+    by : (b : Bool) → All IsShownContent (if b then content ∷ [] else [])
+    by true = All-cons IsShownContent content [] shown (All-nil IsShownContent)
+    by false = All-nil IsShownContent
+own-shown observer asked reply shown = All-nil IsShownContent
+
+move-shown : (observer : Label) (c : Configuration) (k : ℕ) (task : TaskState) (p : Plan) (move : Move) → IsGuarded c k task p → move_of (cell_at c) p ≡ Some move → All IsShownContent (released_to observer move.act move.reply)
+move-shown observer c k task Over move guarded moves = absurd (cc)
+move-shown observer c k task (Own asked reply onward) move guarded moves =
+    let made : Move = record { act = asked; target = None; reply = reply; onward = onward } in
+    let equal : made ≡ move = cc in
+    subst (λ (m : Move). All IsShownContent (released_to observer m.act m.reply)) equal (own-shown observer asked reply guarded.shown)
+move-shown observer c k task (Visit asked target onward) move guarded moves =
+    let made : Move = record { act = asked; target = Some target; reply = answer (met target (cell_at c (number_of target)).state) asked; onward = onward } in
+    let equal : made ≡ move = visit-move asked target onward (waits asked && not (ready (met target (cell_at c (number_of target)).state) asked)) made move moves in
+    subst (λ (m : Move). All IsShownContent (released_to observer m.act m.reply)) equal
+    (subst (All IsShownContent) (sym (quiet-released observer asked made.reply guarded.quiet)) (All-nil IsShownContent))
+
 -- what a turn shows, and the same turn with another ticket
 record Shows (ticket : ℕ) (c : Configuration) (k : ℕ) (task : TaskState) (turn : Turn) : Type 0 where
   move : Move
@@ -206,17 +230,22 @@ actor ticket c k turn steps = by (cell_at c k).task refl steps
     by None e f = absurd (cc)
     by (Some task) e f = record { task = task; is = e }
 
--- what a run shows to an observer, with its last configuration
+-- what a run shows to an observer, what it releases to it, and its last configuration
 pub record RunIsErased (observer : Label) (n : ℕ) (c : Configuration) (ran : Ran) (rest : List Content) : Type 0 where
   pub low : low_run observer n (erase observer c) (who observer ran.entries) (releases observer ran.entries ++ rest)
       ≡ Some (record { entries = view observer n ran.entries; last = erase observer ran.last; left = rest })
+  pub released : All IsShownContent (releases observer ran.entries)
   pub sound : IsSound ran.last
 
 -- one turn before a run
 first-turn : (observer : Label) (ticket n : ℕ) (c : Configuration) (k : ℕ) (turn : Turn) (ran : Ran) (rest : List Content) → IsSound c → step ticket c k ≡ Some turn
     → ((m : ℕ) → RunIsErased observer m turn.next ran rest) → RunIsErased observer n c (ran_after turn.entry ran) rest
 unfolding low_run view who releases
-first-turn observer ticket n c k turn ran rest sound steps more = record { low = by (is_visible observer turn.entry) refl; sound = (more n).sound }
+first-turn observer ticket n c k turn ran rest sound steps more = record {
+  low = by (is_visible observer turn.entry) refl;
+  released = All-append IsShownContent released (releases observer ran.entries) shown (more n).released;
+  sound = (more n).sound;
+}
   where
     a : Actor c k
     a = actor ticket c k turn steps
@@ -236,6 +265,12 @@ first-turn observer ticket n c k turn ran rest sound steps more = record { low =
     released : List Content
     released = released_to observer turn.entry.act turn.entry.reply
 
+    guarded : IsGuarded c k a.task (plan c.program a.task)
+    guarded = turn-guarded ticket c k a.task turn sound a.is steps
+
+    shown : All IsShownContent released
+    shown = subst (λ (t : Turn). All IsShownContent (released_to observer t.entry.act t.entry.reply)) (sym s.is) (move-shown observer c k a.task (plan c.program a.task) s.move guarded s.moves)
+
     by : (b : Bool) → is_visible observer turn.entry ≡ b
         → low_run observer n (erase observer c) (if b then turn.entry.actor ∷ who observer ran.entries else who observer ran.entries) ((released ++ releases observer ran.entries) ++ rest)
         ≡ Some (record { entries = if b then erase_entry observer entry ∷ view observer (n + 1) ran.entries else view observer n ran.entries; last = erase observer ran.last; left = rest })
@@ -249,7 +284,6 @@ first-turn observer ticket n c k turn ran rest sound steps more = record { low =
         ∙ ap (option_map (low_ran_after (erase_entry observer entry))) (more (n + 1)).low
     by false unseen =
         let above : flows a.task.label observer ≡ false = ap (λ (l : Label). flows l observer) (sym at_is) ∙ unseen in
-        let guarded = turn-guarded ticket c k a.task turn sound a.is steps in
         let none : released ≡ [] = ap (λ (t : Turn). released_to observer t.entry.act t.entry.reply) s.is ∙ move-released observer c k a.task (plan c.program a.task) s.move above guarded (plan-up c.program a.task) s.moves in
         let still : erase observer turn.next ≡ erase observer c = step-unseen observer ticket c k a.task turn a.is above guarded steps in
         ap (λ (contents : List Content). low_run observer n (erase observer c) (who observer ran.entries) ((contents ++ releases observer ran.entries) ++ rest)) none
@@ -262,7 +296,7 @@ unfolding run low_run view who releases
 run-erased observer ticket n c [] ran rest sound runs =
     let made : Ran = record { entries = []; last = c } in
     let equal : made ≡ ran = cc in
-    subst (λ (r : Ran). RunIsErased observer n c r rest) equal (record { low = refl; sound = sound })
+    subst (λ (r : Ran). RunIsErased observer n c r rest) equal (record { low = refl; released = All-nil IsShownContent; sound = sound })
 run-erased observer ticket n c (k ∷ ks) ran rest sound runs =
     by (step ticket c k) refl (λ m d r fine goes. run-erased observer (ticket + 1) m d ks r rest fine goes) runs
   where

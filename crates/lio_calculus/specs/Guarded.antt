@@ -58,7 +58,6 @@ IsShown (act.Release source target power content) (Refused fault) = content ≡ 
 IsShown asked reply = Unit {0}
 
 -- an act of the task's own: the label rises; what is unlabelled is below the new label; and what is released comes to the label that is bound
-
 abbrev pub IsAllowed : Act → Onward → Type 0
 IsAllowed asked (Unlabel name label source content) = IsTrue (flows source label)
 IsAllowed asked (Release name label) = IsReleaseOf asked label

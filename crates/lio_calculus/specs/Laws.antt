@@ -1,8 +1,9 @@
 -- The laws of the calculus: what a turn of a well-formed configuration shows to an observer (the noninterference of the concurrent calculus of LIO, ICFP 2012).
-use Rattle.std.specs.Prelude.{◌≡◌, ℕ, IsTrue, IsFalse, List, [], ◌++◌, Option, Some}
+use Rattle.std.specs.Prelude.{◌≡◌, ℕ, IsTrue, IsFalse, List, [], ◌++◌, All, Option, Some}
 use Rattle.lio_labels.specs.declared.label.Label.{Label}
 use Rattle.lio_labels.specs.Flow.{flows}
 use Rattle.lio_values.specs.declared.value.Content.{Content}
+use Rattle.lio_values.specs.declared.value.Content.TheVariants.{Hidden}
 use Rattle.lio_values.specs.Erasure.{erase_entry}
 use Rattle.lio_calculus.specs.Task.{TaskState}
 use Rattle.lio_calculus.specs.Step.{Configuration, Turn, step}
@@ -28,11 +29,16 @@ SeenTurnIsErasedTurn = (observer : Label) (ticket : ℕ) (c : Configuration) (k 
     → low observer ticket (erase observer c) k (released_to observer turn.entry.act turn.entry.reply ++ rest)
     ≡ Some (record { entry = erase_entry observer turn.entry; next = erase observer turn.next; left = rest })
 
+-- a content that isn't hidden
+abbrev pub IsShownContent : Content → Type 0
+IsShownContent content = content ≡ Hidden → ⊥
+
 -- A run from a well-formed configuration, seen by an observer, is the run of the erased calculus from what the observer sees of the configuration, over the actors that it sees
--- and the contents that the journal releases to it: it gives the view, what the observer sees of the last configuration, and no released content is left. The last configuration is well-formed.
+-- and the contents that the journal releases to it: it gives the view, what the observer sees of the last configuration, and no released content is left. None of these contents is hidden, and the last configuration is well-formed.
 pub record RunSeenAs (observer : Label) (c : Configuration) (ran : Ran) : Type 0 where
   pub erased : low_run observer 0 (erase observer c) (who observer ran.entries) (releases observer ran.entries)
       ≡ Some (record { entries = view observer 0 ran.entries; last = erase observer ran.last; left = [] })
+  pub released : All IsShownContent (releases observer ran.entries)
   pub sound : IsSound ran.last
 
 abbrev pub RunIsErasedRun : Type 0
