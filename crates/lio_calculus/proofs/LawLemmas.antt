@@ -1,7 +1,9 @@
 -- The laws.
 use Rattle.lio_calculus.specs.Hiding.{PlanHidden}
+use Rattle.lio_calculus.specs.Afforded.{PlanAfforded}
 use Rattle.lio_calculus.specs.Laws.{RunIsErasedRun, SeenTurnIsErasedTurn, TurnKeepsSoundness, UnseenTurnChangesNothing}
 use Rattle.lio_calculus.proofs.PlanHidden.{plan-hidden}
+use Rattle.lio_calculus.proofs.AffordedLemmas.{plan_affords}
 use Rattle.lio_calculus.proofs.InvisibleLemmas.{step-unseen}
 use Rattle.lio_calculus.proofs.VisibleStep.{step-visible}
 use Rattle.lio_calculus.proofs.StepGuarded.{turn-guarded}
@@ -15,6 +17,9 @@ use Rattle.std.proofs.lemmas.List.{append-nil}
 
 pub plan_of_hidden : PlanHidden
 plan_of_hidden = plan-hidden
+
+pub plan_can_be_carried_out : PlanAfforded
+plan_can_be_carried_out = plan_affords
 
 pub unseen_turn_changes_nothing : UnseenTurnChangesNothing
 unseen_turn_changes_nothing observer ticket c k task turn sound is above steps = step-unseen observer ticket c k task turn is above (turn-guarded ticket c k task turn sound is steps) steps

@@ -30,3 +30,4 @@ pub mod SoundAfter
 pub mod ActorKept
 pub mod StepKept
 pub mod RunLemmas
+pub mod AffordedLemmas

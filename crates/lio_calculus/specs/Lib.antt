@@ -9,3 +9,4 @@ pub mod Guarded
 pub mod Sound
 pub mod Laws
 pub mod Run
+pub mod Afforded

@@ -1,4 +1,5 @@
 //! The laws of the calculus. Each function does nothing: its contract is the law.
+ghost use Rattle.lio_calculus.specs.Afforded.{PlanAfforded};
 ghost use Rattle.lio_calculus.specs.Hiding.{PlanHidden};
 ghost use Rattle.lio_calculus.specs.Laws.{RunIsErasedRun, SeenTurnIsErasedTurn, TurnKeepsSoundness, UnseenTurnChangesNothing};
 
@@ -6,6 +7,12 @@ ghost use Rattle.lio_calculus.specs.Laws.{RunIsErasedRun, SeenTurnIsErasedTurn, 
 #[tactic(auto, using(crate::proofs::LawLemmas::plan_of_hidden))]
 pub fn plan_of_hidden()
     ensures { PlanHidden }
+{}
+
+/// A task whose label flows to its clearance has what the plan of its next turn needs.
+#[tactic(auto, using(crate::proofs::LawLemmas::plan_can_be_carried_out))]
+pub fn plan_can_be_carried_out()
+    ensures { PlanAfforded }
 {}
 
 /// Each turn keeps a configuration well-formed.
