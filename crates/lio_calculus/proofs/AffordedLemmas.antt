@@ -73,8 +73,8 @@ outcome-affords program task s p below front (out.MakesChild t x label turns cel
     (taken-within cells task.cells g, forks-can program task s x label turns cells birth current f e (nat_le-tells (cells + 1) task.cells g), (refl, refl))
 outcome-affords program task s p below front (out.MakesOrphan t turns cells birth f e g) =
     (taken-within cells task.cells e, spawns-can program task s turns cells birth below f (nat_le-tells (cells + 1) task.cells e), (refl, refl))
-outcome-affords program task s p below front (out.Writes r a handle value current e) = (tt, tt, refl)
-outcome-affords program task s p below front (out.Sends c a handle text current) = (tt, tt, refl)
+outcome-affords program task s p below front (out.Writes r a handle value current h e) = (tt, tt, refl)
+outcome-affords program task s p below front (out.Sends c a handle text current h) = (tt, tt, refl)
 outcome-affords program task s p below front (out.Mistyped t) = tt
 outcome-affords program task s p below front (out.Refused t asked o target kind tests e) = tt
 outcome-affords program task s p below front (out.Binds x a value e) = tt

@@ -31,3 +31,4 @@ pub mod ActorKept
 pub mod StepKept
 pub mod RunLemmas
 pub mod AffordedLemmas
+pub mod MeetingLemmas

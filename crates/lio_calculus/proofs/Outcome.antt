@@ -98,9 +98,9 @@ pub data Outcome (program : Program) (task : TaskState) : Simple → Plan → Ty
   LacksVariable : (s : Simple) (x : List ℕ) (label : Label) (value : Option Value) → Fills task s x label value → Outcome program task s (refused task (act.NewVar label value) (NoCells 1 task.cells))
   RefusesVariable : (s : Simple) (x : List ℕ) (label : Label) (value : Option Value) (kind : FaultKind) → Fills task s x label value → verdict_on task op.NewVar label ≡ No kind → Outcome program task s (refused task (act.NewVar label value) kind)
   IsRaised : (s : Simple) (o : Op) (handle : Handle) (current : Label) → Raises task s o handle → verdict_on task o handle.label ≡ Go current → Outcome program task s (Own (act.Raise o handle.label) Done (RaiseTo current s))
-  Writes : (r a : Operand) (handle : Handle) (value : Value) (current : Label) → bound task.environment a ≡ Some value → Outcome program task (line.Write r a) (Visit (act.Write value) (Node Reference handle) Advance)
+  Writes : (r a : Operand) (handle : Handle) (value : Value) (current : Label) → seen_as reference_of task.environment r ≡ Some handle → bound task.environment a ≡ Some value → Outcome program task (line.Write r a) (Visit (act.Write value) (Node Reference handle) Advance)
   RefusesWrite : (r a : Operand) (handle : Handle) (value : Value) (kind : FaultKind) → bound task.environment a ≡ Some value → verdict_on task op.Write handle.label ≡ No kind → Outcome program task (line.Write r a) (refused task (act.Write value) kind)
-  Sends : (c a : Operand) (handle : Handle) (text : List ℕ) (current : Label) → Outcome program task (line.Send c a) (Visit (act.Send text) (Node Channel handle) Advance)
+  Sends : (c a : Operand) (handle : Handle) (text : List ℕ) (current : Label) → seen_as channel_of task.environment c ≡ Some handle → Outcome program task (line.Send c a) (Visit (act.Send text) (Node Channel handle) Advance)
   MakesChild : (s : Simple) (x : List ℕ) (label : Label) (turns cells : ℕ) (birth : Birth) (current : Label) → Forks program task s x label turns cells birth → verdict_on task op.Fork label ≡ Go current
       → nat_le (cells + 1) task.cells ≡ true → nat_le turns (task.turns - 1) ≡ true → Outcome program task s (Visit (act.Fork birth) (New task.first) (Fork x label cells turns))
   RefusesChild : (s : Simple) (x : List ℕ) (label : Label) (turns cells : ℕ) (birth : Birth) (kind : FaultKind) → Forks program task s x label turns cells birth → verdict_on task op.Fork label ≡ No kind → Outcome program task s (refused task (act.Fork birth) kind)

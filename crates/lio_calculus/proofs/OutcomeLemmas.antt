@@ -168,7 +168,7 @@ outcome program task (line.Write r a) =
     seen-out program task (line.Write r a) (seen_as reference_of task.environment r) (λ handle. with_seen task (bound task.environment a) (next handle))
     (λ handle e. seen-out program task (line.Write r a) (bound task.environment a) (next handle)
     (λ value f. verdict-out program task (line.Write r a) (act.Write value) (verdict_on task op.Write handle.label) (last handle value)
-    (λ kind g. out.RefusesWrite r a handle value kind f g) (λ current g. out.Writes r a handle value current f)))
+    (λ kind g. out.RefusesWrite r a handle value kind f g) (λ current g. out.Writes r a handle value current e f)))
 outcome program task (line.Take x v) =
     seen-out program task (line.Take x v) (seen_as variable_of task.environment v) (raising task op.Take (line.Take x v)) (λ handle e. raising-out program task (line.Take x v) op.Take handle (Takes x v handle e))
 outcome program task (line.Put v a) =
@@ -205,4 +205,4 @@ outcome program task (line.Send ch a) =
     seen-out program task (line.Send ch a) (seen_as channel_of task.environment ch) (λ handle. with_seen task (seen_as text_of task.environment a) (next handle))
     (λ handle e. seen-out program task (line.Send ch a) (seen_as text_of task.environment a) (next handle)
     (λ text f. verdict-out program task (line.Send ch a) (act.Send text) (verdict_on task op.Send handle.label) (last handle text)
-    (λ kind g. out.Refused (line.Send ch a) (act.Send text) op.Send handle.label kind (OfSend text handle.label) g) (λ current g. out.Sends ch a handle text current)))
+    (λ kind g. out.Refused (line.Send ch a) (act.Send text) op.Send handle.label kind (OfSend text handle.label) g) (λ current g. out.Sends ch a handle text current e)))

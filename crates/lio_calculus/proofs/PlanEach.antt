@@ -207,10 +207,10 @@ outcome-each P closed program task s p each said (out.MakesVariable t x label va
 outcome-each P closed program task s p each said (out.LacksVariable t x label value f) = (fills-each P closed task s x label value each said f, closed.unthrown task.label _ tt)
 outcome-each P closed program task s p each said (out.RefusesVariable t x label value kind f e) = (fills-each P closed task s x label value each said f, closed.unthrown task.label (fault_at task kind) (guard-unthrown task op.NewVar label kind e))
 outcome-each P closed program task s p each said (out.IsRaised t o handle current r e) = (tt, tt)
-outcome-each P closed program task s p each said (out.Writes r a handle value current e) = (bound-each P task.environment a value closed.said each (first-said a [] (rest-said r (a ∷ []) said)) e, tt)
+outcome-each P closed program task s p each said (out.Writes r a handle value current h e) = (bound-each P task.environment a value closed.said each (first-said a [] (rest-said r (a ∷ []) said)) e, tt)
 outcome-each P closed program task s p each said (out.RefusesWrite r a handle value kind e f) =
     (bound-each P task.environment a value closed.said each (first-said a [] (rest-said r (a ∷ []) said)) e, closed.unthrown task.label (fault_at task kind) (guard-unthrown task op.Write handle.label kind f))
-outcome-each P closed program task s p each said (out.Sends c a handle text current) = (tt, tt)
+outcome-each P closed program task s p each said (out.Sends c a handle text current h) = (tt, tt)
 outcome-each P closed program task s p each said (out.MakesChild t x label turns cells birth current f e g h) = (forks-each P closed program task s x label turns cells birth each said f, tt)
 outcome-each P closed program task s p each said (out.RefusesChild t x label turns cells birth kind f e) = (forks-each P closed program task s x label turns cells birth each said f, closed.unthrown task.label (fault_at task kind) (guard-unthrown task op.Fork label kind e))
 outcome-each P closed program task s p each said (out.LacksCells t x label turns cells birth f) = (forks-each P closed program task s x label turns cells birth each said f, closed.unthrown task.label _ tt)

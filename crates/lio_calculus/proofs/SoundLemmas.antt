@@ -1,9 +1,10 @@
 -- What the parts of a well-formed configuration give: of looked-up values, and of the cells that handles name.
-use Rattle.std.proofs.Common.{◌≡◌, ◌∙◌, refl, sym, ap, subst, ℕ, zero, suc, ◌+◌, ◌<◌, ◌≤◌, Bool, true, false, ◌&&◌, if◌then◌else◌, IsTrue, List, [], ◌∷◌, bytes_eq, All, Option, Some, None, is_some, true≢false, arith}
-use Rattle.std.specs.Prelude.{option_and_then, nat_eq}
+use Rattle.std.proofs.Common.{◌≡◌, ◌∙◌, refl, sym, ap, subst, ℕ, zero, suc, ◌+◌, ◌<◌, ◌≤◌, ◌⊎◌, inl, inr, Bool, true, false, ◌&&◌, if◌then◌else◌, IsTrue, List, [], ◌∷◌, length, bytes_eq, All, Option, Some, None, is_some, true≢false, arith}
+use Rattle.std.specs.Prelude.{option_and_then, nat_eq, nat_lt}
 use Rattle.std.specs.Option.{option_map_or}
 use Rattle.std.proofs.lemmas.Bool.{and_parts}
-use Rattle.std.proofs.lemmas.Bool.Decides.{Decides-eqb}
+use Rattle.std.proofs.lemmas.Bool.Decides.{Decides-eqb, nat_tests}
+use Rattle.std.proofs.lemmas.List.{get_or_past}
 use Rattle.std.proofs.lemmas.List.Elements.{All-head, All-tail}
 use Rattle.std.proofs.lemmas.Slice.Eq.{slice_eq-Decides}
 use Rattle.lio_labels.specs.declared.label.Label.{Label}
@@ -163,3 +164,31 @@ named-kind kind handle state named = (and_parts (is_of kind state) (has_label st
 -- a task's own cell is a job
 pub task-job : (c : Configuration) (k : ℕ) (task : TaskState) → IsSound c → IsTaskOf c k task → is_job (cell_at c k).state ≡ true
 task-job c k task sound is = sym (sound.jobs k) ∙ ap is_some is
+
+lt_or : (a b : ℕ) → (a < b) ⊎ (b ≤ a)
+lt_or a b = by (nat_lt a b) refl
+  where
+    by : (t : Bool) → nat_lt a b ≡ t → (a < b) ⊎ (b ≤ a)
+    by true e = inl (grind (arith, nat_tests))
+    by false e = inr (grind (arith, nat_tests))
+
+-- a cell that isn't blank lies in the list
+pub inside : (c : Configuration) (n : ℕ) → (cell_at c n ≡ blank → ⊥) → n < length c.cells
+inside c n there = by (lt_or n (length c.cells))
+  where
+    by : (n < length c.cells) ⊎ (length c.cells ≤ n) → n < length c.cells
+    by (inl p) = p
+    by (inr p) = absurd (there (get_or_past c.cells n blank p))
+
+-- a task's own cell, and one that a handle names, isn't blank
+pub task-there : (c : Configuration) (k : ℕ) (task : TaskState) → IsTaskOf c k task → cell_at c k ≡ blank → ⊥
+task-there c k task is empty = let none : Some task ≡ None = sym is ∙ ap (λ (y : Cell). y.task) empty in cc
+
+pub absent-unnamed : (kind : Kind) (handle : Handle) → IsTrue (is_named kind handle Absent) → ⊥
+absent-unnamed Reference handle e = true≢false (sym e)
+absent-unnamed Variable handle e = true≢false (sym e)
+absent-unnamed Channel handle e = true≢false (sym e)
+absent-unnamed Result handle e = true≢false (sym e)
+
+pub named-there : (c : Configuration) (kind : Kind) (handle : Handle) → Names c kind handle → cell_at c handle.number ≡ blank → ⊥
+named-there c kind handle names empty = absent-unnamed kind handle (subst (λ (x : Cell). IsTrue (is_named kind handle x.state)) empty names)

@@ -1,9 +1,9 @@
 -- Each turn keeps a configuration well-formed.
 use Rattle.std.proofs.Common.{◌≡◌, ◌≢◌, ◌∙◌, refl, sym, ap, subst, ℕ, zero, ◌+◌, ◌-◌, ◌<◌, ◌≤◌, ◌⊎◌, inl, inr, Bool, true, false, ◌&&◌, not, if◌then◌else◌, IsTrue, List, [], ◌∷◌, length, All, Option, Some, None, is_some, true≢false, arith}
-use Rattle.std.specs.Prelude.{option_and_then, option_map, slice_get, slice_set, slice_index_or, nat_lt}
+use Rattle.std.specs.Prelude.{option_and_then, option_map, slice_get, slice_set}
 use Rattle.std.specs.Option.{option_map_or}
 use Rattle.std.proofs.lemmas.Bool.{and_parts}
-use Rattle.std.proofs.lemmas.Bool.Decides.{Decides-eqb, eqb_tells, nat_tests}
+use Rattle.std.proofs.lemmas.Bool.Decides.{Decides-eqb, eqb_tells}
 use Rattle.std.proofs.lemmas.List.{get_or_past, length-set, get_or-set_same, get_or-set_other}
 use Rattle.std.proofs.lemmas.List.Elements.{All-nil}
 use Rattle.std.proofs.lemmas.Slice.Eq.{slice_eq-Decides}
@@ -40,7 +40,7 @@ use Rattle.lio_calculus.proofs.PlanKept.{Suits, Kept, KeptPlan, VisitKept, NewSu
 use Rattle.lio_calculus.proofs.PlacesKept.{enter-all, enter-says, enter-calls}
 use Rattle.lio_calculus.proofs.GoneKept.{EachInReply, EachHandle, taken, none-raised}
 use Rattle.lio_calculus.proofs.NodeKept.{Alike, named-after, reference-after, variable-after, channel-after, job-after, each-after, answer-each}
-use Rattle.lio_calculus.proofs.SoundLemmas.{task-job}
+use Rattle.lio_calculus.proofs.SoundLemmas.{task-job, inside, task-there, absent-unnamed, named-there}
 use Rattle.lio_calculus.proofs.SoundAfter.{task-map, state-map, Extends, value-extends, Fine, fine-of, fine-extends, Changes, IsChild, Suitable, sound-after}
 use Rattle.lio_calculus.proofs.ActorKept.{onward-map, reply-map, silent-each, taken-fits, job-stays, job-holds, range-inside, actor-fine}
 use Rattle.lio_calculus.proofs.StepGuarded.{turn-guarded}
@@ -65,33 +65,6 @@ act-map P Q implies act.Read p = tt
 act-map P Q implies act.Take p = tt
 act-map P Q implies act.Wait p = tt
 act-map P Q implies (act.Send text) p = tt
-
-lt_or : (a b : ℕ) → (a < b) ⊎ (b ≤ a)
-lt_or a b = by (nat_lt a b) refl
-  where
-    by : (t : Bool) → nat_lt a b ≡ t → (a < b) ⊎ (b ≤ a)
-    by true e = inl (grind (arith, nat_tests))
-    by false e = inr (grind (arith, nat_tests))
-
--- a cell that isn't blank lies in the list
-inside : (c : Configuration) (n : ℕ) → (cell_at c n ≡ blank → ⊥) → n < length c.cells
-inside c n there = by (lt_or n (length c.cells))
-  where
-    by : (n < length c.cells) ⊎ (length c.cells ≤ n) → n < length c.cells
-    by (inl p) = p
-    by (inr p) = absurd (there (get_or_past c.cells n blank p))
-
-task-there : (c : Configuration) (k : ℕ) (task : TaskState) → IsTaskOf c k task → cell_at c k ≡ blank → ⊥
-task-there c k task is empty = let none : Some task ≡ None = sym is ∙ ap (λ (y : Cell). y.task) empty in cc
-
-absent-unnamed : (kind : Kind) (handle : Handle) → IsTrue (is_named kind handle Absent) → ⊥
-absent-unnamed Reference handle e = true≢false (sym e)
-absent-unnamed Variable handle e = true≢false (sym e)
-absent-unnamed Channel handle e = true≢false (sym e)
-absent-unnamed Result handle e = true≢false (sym e)
-
-named-there : (c : Configuration) (kind : Kind) (handle : Handle) → Names c kind handle → cell_at c handle.number ≡ blank → ⊥
-named-there c kind handle names empty = absent-unnamed kind handle (subst (λ (x : Cell). IsTrue (is_named kind handle x.state)) empty names)
 
 -- no handle for a task that takes nothing
 silent-handle : (P : Value → Type 0) (task : TaskState) (onward : Onward) → is_taking onward ≡ false → EachHandle P task onward

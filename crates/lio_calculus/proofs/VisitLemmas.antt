@@ -61,7 +61,7 @@ answer-done : (state : State) (asked : Act) → waits asked ≡ false → answer
 unfolding answer
 answer-done state act.Read is = absurd (cc)
 answer-done state act.Take is = absurd (cc)
-answer-done state (act.Put value) is = absurd (cc)
+answer-done state (act.Put value) is = refl
 answer-done state act.Wait is = absurd (cc)
 answer-done state (act.Release source target power content) is = refl
 answer-done state (act.Write value) is = refl

@@ -10,3 +10,4 @@ pub mod Sound
 pub mod Laws
 pub mod Run
 pub mod Afforded
+pub mod Meeting

@@ -2,6 +2,7 @@
 ghost use Rattle.lio_calculus.specs.Afforded.{PlanAfforded};
 ghost use Rattle.lio_calculus.specs.Hiding.{PlanHidden};
 ghost use Rattle.lio_calculus.specs.Laws.{RunIsErasedRun, SeenTurnIsErasedTurn, TurnKeepsSoundness, UnseenTurnChangesNothing};
+ghost use Rattle.lio_calculus.specs.Meeting.{VisitMeetsNode};
 
 /// The plan of a task that is seen with hidden values is its plan with hidden values.
 #[tactic(auto, using(crate::proofs::LawLemmas::plan_of_hidden))]
@@ -13,6 +14,11 @@ pub fn plan_of_hidden()
 #[tactic(auto, using(crate::proofs::LawLemmas::plan_can_be_carried_out))]
 pub fn plan_can_be_carried_out()
     ensures { PlanAfforded }
+{}
+
+/// In a well-formed configuration each visit meets a node that is there.
+pub fn visit_meets_node()
+    ensures { VisitMeetsNode }
 {}
 
 /// Each turn keeps a configuration well-formed.
