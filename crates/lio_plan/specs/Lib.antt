@@ -1,0 +1,3 @@
+pub mod StateOf
+pub mod Planned
+pub mod Leads

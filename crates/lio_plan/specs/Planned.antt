@@ -1,0 +1,190 @@
+-- What the code's plan of a turn says: the plan of the definitions. Where there a block stands for itself, the code has the place at which it begins.
+use Rattle.std.specs.Prelude.{◌≡◌, ℕ, ◌+◌, List, [], ◌∷◌, Option, Some, Result, slice_get}
+use Rattle.lio_labels.specs.declared.label.Label.{Label}
+use Rattle.lio_values.specs.declared.fault.Fault.{Fault}
+use Rattle.lio_values.specs.declared.fault.FaultKind.{FaultKind}
+use Rattle.lio_values.specs.declared.value.Handle.{Handle}
+use Rattle.lio_values.specs.declared.value.Value.{Value}
+use Rattle.lio_values.specs.declared.act.Act.{Act}
+use Rattle.lio_values.specs.declared.act.Act.TheVariants as act
+use Rattle.lio_values.specs.declared.act.Op.{Op}
+use Rattle.lio_values.specs.declared.act.Op.TheVariants as op
+use Rattle.lio_values.specs.declared.act.Reply.TheVariants as reply
+use Rattle.lio_lines.specs.declared.line.Line.{Line}
+use Rattle.lio_lines.specs.declared.line.Line.TheVariants as says
+use Rattle.lio_lines.specs.declared.line.Operand.{Operand}
+use Rattle.lio_lines.specs.declared.line.Operand.TheVariants.{Name}
+use Rattle.lio_lines.specs.declared.line.Simple.{Simple}
+use Rattle.lio_lines.specs.declared.line.Simple.TheVariants as line
+use Rattle.lio_syntax.specs.Statements.{Statements, Nothing, Procedure}
+use Rattle.lio_syntax.specs.Lines.{script_lines}
+use Rattle.lio_syntax.specs.Statements as statement
+use Rattle.lio_cells.specs.State as kind
+use Rattle.lio_control.specs.Items.{Item, Do, Access, Back}
+use Rattle.lio_control.specs.Continuation.{block_at}
+use Rattle.lio_calculus.specs.Task.{TaskState}
+use Rattle.lio_calculus.specs.Going as going
+use Rattle.lio_calculus.specs.Plan as plan
+use Rattle.lio_calculus.specs.Plan.{Program, plan_simple}
+use Rattle.lio_plan.specs.declared.planned.Planned.{Planned}
+use Rattle.lio_plan.specs.declared.planned.Planned.TheVariants as planned
+use Rattle.lio_plan.specs.declared.planned.Control.{Control}
+use Rattle.lio_plan.specs.declared.planned.Control.TheVariants as control
+use Rattle.lio_plan.specs.declared.planned.Turn.{Turn}
+use Rattle.lio_plan.specs.declared.planned.Turn.TheVariants as turn
+use Rattle.lio_plan.specs.declared.planned.Target.{Target}
+use Rattle.lio_plan.specs.declared.planned.Target.TheVariants as target
+use Rattle.lio_plan.specs.declared.planned.Onward.{Onward}
+use Rattle.lio_plan.specs.declared.planned.Onward.TheVariants as onward
+use Rattle.lio_plan.specs.declared.standing.Standing.{Standing}
+use Rattle.lio_plan.specs.StateOf.{state_of}
+
+-- the node that a turn meets
+abbrev pub target_of : Target → plan.Target
+target_of (target.Reference handle) = plan.Node kind.Reference handle
+target_of (target.Variable handle) = plan.Node kind.Variable handle
+target_of (target.Channel handle) = plan.Node kind.Channel handle
+target_of (target.Result handle) = plan.Node kind.Result handle
+target_of (target.New number) = plan.New number
+
+-- how a task goes on, where this is the statement in front, or the access in front is of this statement
+abbrev pub onward_of : List Line → Simple → Onward → going.Onward
+onward_of lines simple onward.Advance = going.Advance
+onward_of lines simple (onward.Bind name value) = going.Bind name value
+onward_of lines simple (onward.Seal name label plain) = going.Seal name label plain
+onward_of lines simple (onward.Call name environment body) = going.Call name environment (block_at lines body)
+onward_of lines simple (onward.Return value) = going.Return value
+onward_of lines simple (onward.Raise label) = going.Raise label
+onward_of lines simple (onward.RaiseTo label) = going.RaiseTo label simple
+onward_of lines simple (onward.Unlabel name label source content) = going.Unlabel name label source content
+onward_of lines simple (onward.Lower clearance) = going.Lower clearance
+onward_of lines simple (onward.Release name label) = going.Release name label
+onward_of lines simple (onward.HoldReference name label) = going.HoldReference name label
+onward_of lines simple (onward.HoldVariable name label) = going.HoldVariable name label
+onward_of lines simple (onward.Fork name label cells turns) = going.Fork name label cells turns
+onward_of lines simple (onward.Spawn cells turns) = going.Spawn cells turns
+onward_of lines simple (onward.BindReply name) = going.BindReply name
+onward_of lines simple (onward.Throw fault) = going.Throw fault
+onward_of lines simple onward.End = going.End
+
+-- how a task goes on after a turn
+abbrev pub onward_in : Turn → Onward
+onward_in (turn.Own act reply onward) = onward
+onward_in (turn.Visit act target onward) = onward
+
+-- the plan of a statement that opens no block, or of its access
+abbrev pub turn_of : List Line → Simple → Turn → plan.Plan
+turn_of lines simple (turn.Own act reply onward) = plan.Own act reply (onward_of lines simple onward)
+turn_of lines simple (turn.Visit act target onward) = plan.Visit act (target_of target) (onward_of lines simple onward)
+
+-- the operand of the loop in front
+abbrev pub condition_of : List Item → Operand
+condition_of (Do (statement.While condition block) ∷ items) = condition
+condition_of items = Name []
+
+-- the statement in front that opens no block, or whose access is in front
+abbrev pub simple_of : List Item → Simple
+simple_of (Do (statement.Do simple) ∷ items) = simple
+simple_of (Access simple ∷ items) = simple
+simple_of items = line.Stop
+
+-- the return to the caller in front
+abbrev pub leave_of : List Item → going.Onward
+leave_of (Back caller name ∷ items) = going.Leave caller name
+leave_of items = going.Advance
+
+-- a block, with the handler of the `catch` that a line says, behind which the handler stands
+abbrev pub try_of : Statements → Statements → Option Line → going.Onward
+try_of block handler (Some (says.Catch code payload)) = going.Try block code payload handler
+try_of block handler line = going.Advance
+
+-- how a task goes on by a step of control, with these items
+abbrev pub control_of : List Line → List Item → Control → going.Onward
+control_of lines items control.Pass = going.Advance
+control_of lines items control.Skip = going.Enter Nothing
+control_of lines items (control.Enter block) = going.Enter (block_at lines block)
+control_of lines items (control.Repeat block) = going.Repeat (condition_of items) (block_at lines block)
+control_of lines items (control.Guard block catch) = try_of (block_at lines block) (block_at lines (catch + 1)) (slice_get lines catch)
+control_of lines items control.Leave = leave_of items
+
+-- the plan of a task with these items
+abbrev pub plan_of : List Line → List Item → Planned → plan.Plan
+plan_of lines items planned.Over = plan.Over
+plan_of lines items (planned.Control control) = plan.stepping (control_of lines items control)
+plan_of lines items (planned.Ends content) = plan.ending content
+plan_of lines items (planned.Turn turn) = turn_of lines (simple_of items) turn
+
+-- a task's turn is planned by a program as the definitions plan it
+abbrev pub IsPlanned : Program → Standing → Planned → Type 0
+IsPlanned program task planned =
+    let lines : List Line = script_lines program.procedures
+    in plan_of lines (state_of lines task).items planned ≡ plan.plan program (state_of lines task)
+
+-- what comes first is planned as the definitions plan it
+abbrev pub PlansFront : Program → Standing → List Item → Planned → Type 0
+PlansFront program task items planned =
+    plan_of (script_lines program.procedures) items planned ≡ plan.plan_items program (state_of (script_lines program.procedures) task) items
+
+-- a turn is a plan of a task's state, for a statement
+abbrev pub IsFor : Standing → Simple → Turn → (List Line → plan.Plan) → Type 0
+IsFor task simple turn p = (lines : List Line) → turn_of lines simple turn ≡ p lines
+
+-- and for each statement
+abbrev pub Is : Standing → Turn → (List Line → plan.Plan) → Type 0
+Is task turn p = (simple : Simple) → IsFor task simple turn p
+
+-- a turn is the plan of a statement by each program
+abbrev pub Plans : Standing → Simple → Turn → Type 0
+Plans task simple turn = (program : Program) → IsFor task simple turn (λ lines. plan_simple program (state_of lines task) simple)
+
+-- a turn is a plan of a task's state in the lines of a script, for a statement
+abbrev pub IsIn : List Procedure → Standing → Simple → Turn → (TaskState → plan.Plan) → Type 0
+IsIn script task simple turn p = turn_of (script_lines script) simple turn ≡ p (state_of (script_lines script) task)
+
+-- a turn is the plan of a statement by a program
+abbrev pub PlansBy : Program → Standing → Simple → Turn → Type 0
+PlansBy program task simple turn = IsIn program.procedures task simple turn (λ state. plan_simple program state simple)
+
+-- a turn is the plan of the access of a statement
+abbrev pub PlansAccess : Standing → Simple → Turn → Type 0
+PlansAccess task simple turn = IsFor task simple turn (λ lines. plan.plan_access (state_of lines task) simple)
+
+-- a refused act throws the fault that its reply shows
+abbrev pub fault_of : Standing → FaultKind → Fault
+fault_of task kind = record { kind = kind; at = task.label.now }
+
+abbrev pub refusal : Standing → Act → FaultKind → Turn
+refusal task act kind = turn.Own act (reply.Refused (fault_of task kind)) (onward.Throw (fault_of task kind))
+
+-- what an operator made is bound, or is the refusal
+abbrev pub Computes : Standing → List ℕ → Result Value FaultKind → Turn → Type 0
+Computes task name answer turn = Is task turn (λ lines. plan.computed (state_of lines task) name answer)
+
+-- the raise of a statement that has an access
+abbrev pub Raises : Standing → Op → Handle → Turn → Type 0
+Raises task op handle turn = (access : Simple) → IsFor task access turn (λ lines. plan.raising (state_of lines task) op access handle)
+
+-- a new variable
+abbrev pub MakesVariable : Standing → List ℕ → Label → Option Value → Turn → Type 0
+MakesVariable task name label value turn = Is task turn (λ lines. plan.new_variable (state_of lines task) name label value)
+
+-- an act that makes a node, where there is a number for it
+abbrev pub MakesNode : Standing → Act → Onward → Turn → Type 0
+MakesNode task act onward turn =
+    (simple : Simple) → IsFor task simple turn (λ lines. plan.with_cells (state_of lines task) act 1 (plan.Visit act (plan.New task.first) (onward_of lines simple onward)))
+
+-- an act that makes a child, where there are enough turns for it
+abbrev pub GivesTurns : Standing → Act → ℕ → Onward → Turn → Type 0
+GivesTurns task act turns onward turn =
+    (simple : Simple) → IsFor task simple turn (λ lines. plan.with_turns (state_of lines task) act turns (plan.Visit act (plan.New task.first) (onward_of lines simple onward)))
+
+-- the write of a value to a reference
+abbrev pub Writes : Standing → Handle → Value → Turn → Type 0
+Writes task handle value turn =
+    Is task turn (λ lines. plan.with_verdict (state_of lines task) (act.Write value) (plan.verdict_on (state_of lines task) op.Write handle.label)
+    (λ current. plan.Visit (act.Write value) (plan.Node kind.Reference handle) going.Advance))
+
+-- an act that makes a child, where there are enough numbers and turns for it
+abbrev pub MakesChild : Standing → Act → ℕ → ℕ → Onward → Turn → Type 0
+MakesChild task act cells turns onward turn =
+    (simple : Simple) → IsFor task simple turn (λ lines. plan.with_room (state_of lines task) act cells turns (plan.Visit act (plan.New task.first) (onward_of lines simple onward)))

@@ -1,0 +1,106 @@
+//! The plan of a task's next turn.
+mod access;
+mod binding;
+mod births;
+mod front;
+mod labels;
+mod nodes;
+mod simple;
+
+ghost use Rattle.std.specs.Prelude.{◌≡◌, IfOk};
+ghost use Rattle.lio_values.specs.declared.act.Act.TheVariants as act;
+ghost use Rattle.lio_values.specs.declared.act.Reply.TheVariants as reply;
+ghost use Rattle.lio_plan.specs.declared.planned.Turn.TheVariants as turn;
+ghost use Rattle.lio_plan.specs.declared.planned.Onward.TheVariants as onward;
+
+use crate::planned::{Onward, Turn};
+use crate::standing::Standing;
+use lio_clauses::NoMemory;
+use lio_guards::{Verdict, guard};
+use lio_labels::Label;
+use lio_values::{Act, Content, Fault, FaultKind, Held, Op, Reply};
+use std::alloc::Global;
+
+impl Standing<'_> {
+    ghost use Rattle.std.specs.Prelude.{◌≡◌, IfOk, List};
+    ghost use Rattle.lio_values.specs.declared.act.Act.TheVariants as act;
+    ghost use Rattle.lio_values.specs.declared.fault.FaultKind.TheVariants as kind;
+    ghost use Rattle.lio_guards.specs.Guard.{guarded};
+    ghost use Rattle.lio_plan.specs.Planned.{refusal};
+
+    /// The fault of a kind, at the task's label.
+    fn fault(&self, alloc: Global, kind: FaultKind) -> Result<Fault, NoMemory>
+        ensures { IfOk result (λ fault. fault ≡ record { kind = kind; at = self.now.label.now }) }
+    {
+        match self.label.copy(alloc) {
+            Ok(at) => Ok(Fault { kind, at }),
+            Err(error) => {
+                drop(kind);
+                Err(error)
+            }
+        }
+    }
+
+    /// A refused act, which throws the fault that its reply shows.
+    fn refused(&self, alloc: Global, act: Act, kind: FaultKind) -> Result<Turn, NoMemory>
+        ensures { IfOk result (λ planned. planned ≡ refusal self.now act kind) }
+    {
+        match self.fault(alloc, kind) {
+            Ok(fault) => throwing(alloc, act, fault),
+            Err(error) => {
+                drop(act);
+                Err(error)
+            }
+        }
+    }
+
+    /// The refusal where an operand isn't bound or isn't of the needed kind.
+    fn bad_type(&self, alloc: Global) -> Result<Turn, NoMemory>
+        ensures { IfOk result (λ planned. planned ≡ refusal self.now act.Step kind.BadType) }
+    {
+        self.refused(alloc, Act::Step, FaultKind::BadType)
+    }
+
+    /// What a guard says of an operation on a thing with this label.
+    fn verdict(&self, alloc: Global, op: Op, target: &Label) -> Result<Verdict, NoMemory>
+        ensures { IfOk result (λ verdict. verdict ≡ guarded op self.now.label.now self.now.clearance.now target.now) }
+    {
+        guard(alloc, op, self.label, self.clearance, target)
+    }
+}
+
+/// A fault, as a reply shows it.
+fn shown(alloc: Global, fault: &Fault) -> Result<Held<Fault>, NoMemory>
+    ensures { IfOk result (λ shown. shown ≡ fault.now) }
+{
+    Held::new(alloc, fault.copy(alloc)?)
+}
+
+/// An act that is refused with a fault.
+fn throwing(alloc: Global, act: Act, fault: Fault) -> Result<Turn, NoMemory>
+    ensures { IfOk result (λ planned. planned ≡ turn.Own act (reply.Refused fault) (onward.Throw fault)) }
+{
+    match shown(alloc, &fault) {
+        Ok(shown) => Ok(Turn::Own(act, Reply::Refused(shown), Onward::Throw(fault))),
+        Err(error) => {
+            drop(act);
+            drop(fault);
+            Err(error)
+        }
+    }
+}
+
+/// A turn that concerns the task alone.
+fn stepping(onward: Onward) -> Turn
+    ensures { result ≡ turn.Own act.Step reply.Done onward }
+{
+    Turn::Own(Act::Step, Reply::Done, onward)
+}
+
+/// The turn in which a task ends with a content.
+fn ending(alloc: Global, content: Content) -> Result<Turn, NoMemory>
+    ensures { IfOk result (λ planned. planned ≡ turn.Own (act.Ended content) reply.Done onward.End) }
+{
+    let content = Held::new(alloc, content)?;
+    Ok(Turn::Own(Act::Ended(content), Reply::Done, Onward::End))
+}

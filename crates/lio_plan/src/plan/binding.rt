@@ -1,0 +1,201 @@
+//! Binding, calling, returning and throwing.
+use lio_lookup::operands;
+use crate::plan::{ending, stepping};
+use crate::planned::{Onward, Turn};
+use lio_lookup::Procedure;
+use crate::standing::Standing;
+use lio_clauses::NoMemory;
+use lio_lines::{Operand, Operands};
+use lio_operators::{OpFault, operate1, operate2};
+use lio_syntax::Script;
+use lio_values::{Act, Content, FaultKind, Plain, Text, Value, Values};
+use lio_words::{One, Two};
+use std::alloc::Global;
+
+/// The most calls that a task has open.
+const MOST_CALLS: usize = 64;
+
+impl Standing<'_> {
+    ghost use Rattle.std.specs.Prelude.{◌≡◌, IfOk, List, Result, slice_get};
+    ghost use Rattle.lio_lines.specs.declared.line.Line.{Line};
+    ghost use Rattle.lio_lines.specs.declared.line.Simple.TheVariants as line;
+    ghost use Rattle.lio_values.specs.declared.fault.FaultKind.{FaultKind};
+    ghost use Rattle.lio_values.specs.declared.value.Value.{Value};
+    ghost use Rattle.lio_operators.specs.Answers.{Answers};
+    ghost use Rattle.lio_lines.specs.declared.line.Simple.{Simple};
+    ghost use Rattle.lio_calculus.specs.Task.{TaskState};
+    ghost use Rattle.lio_calculus.specs.Plan as plan;
+    ghost use Rattle.lio_plan.specs.Planned.{Computes, Is, IsIn, Plans, PlansBy};
+    ghost use Rattle.lio_lookup.specs.Procedure.{IsNumbered};
+    ghost use Rattle.lio_plan.specs.StateOf.{program_of, state_of};
+
+    /// `let X = A`
+    #[tactic(auto, unfolding(lio_calculus::specs::Plan::plan_simple))]
+    pub(crate) fn plan_let(
+        &self,
+        alloc: Global,
+        name: &Text,
+        value: &Operand,
+    ) -> Result<Turn, NoMemory>
+        ensures { IfOk result (Plans self.now (line.Let name.now value.now)) }
+    {
+        let name = name.copy(alloc)?;
+        match operands::value(alloc, self.environment(), value)? {
+            Some(value) => Ok(stepping(Onward::Bind(name, value))),
+            None => self.bad_type(alloc),
+        }
+    }
+
+    /// `let X = OP A`
+    #[tactic(auto, unfolding(lio_calculus::specs::Plan::plan_simple))]
+    pub(crate) fn plan_let_one(
+        &self,
+        alloc: Global,
+        script: &Script,
+        longest: u32,
+        name: &Text,
+        op: One,
+        value: &Operand,
+    ) -> Result<Turn, NoMemory>
+        ensures { IfOk result (PlansBy (program_of script.now longest) self.now (line.LetOne name.now op value.now)) }
+    {
+        let name = name.copy(alloc)?;
+        let literal = operands::literal(alloc, value)?;
+        match operands::bound(self.environment(), value, &literal) {
+            Some(value) => self.computed(alloc, name, operate1(alloc, op, value, longest)),
+            None => self.bad_type(alloc),
+        }
+    }
+
+    /// `let X = A OP B`
+    #[tactic(auto, unfolding(lio_calculus::specs::Plan::plan_simple))]
+    pub(crate) fn plan_let_two(
+        &self,
+        alloc: Global,
+        script: &Script,
+        longest: u32,
+        name: &Text,
+        left: &Operand,
+        op: Two,
+        right: &Operand,
+    ) -> Result<Turn, NoMemory>
+        ensures { IfOk result (PlansBy (program_of script.now longest) self.now (line.LetTwo name.now left.now op right.now)) }
+    {
+        let environment = self.environment();
+        let name = name.copy(alloc)?;
+        let left_literal = operands::literal(alloc, left)?;
+        let Some(left) = operands::bound(environment, left, &left_literal) else {
+            return self.bad_type(alloc);
+        };
+        let right_literal = operands::literal(alloc, right)?;
+        match operands::bound(environment, right, &right_literal) {
+            Some(right) => self.computed(alloc, name, operate2(alloc, op, left, right, longest)),
+            None => self.bad_type(alloc),
+        }
+    }
+
+    /// What an operator made is bound, or the refusal.
+    fn computed(
+        &self,
+        alloc: Global,
+        name: Text,
+        made: Result<Value, OpFault>,
+    ) -> Result<Turn, NoMemory>
+        ensures { IfOk result (λ planned. (answer : Result Value FaultKind) → Answers answer made → Computes self.now name answer planned) }
+    {
+        match made {
+            Ok(value) => Ok(stepping(Onward::Bind(name, value))),
+            Err(OpFault::Kind(kind)) => self.refused(alloc, Act::Step, kind),
+            Err(OpFault::NoMemory) => Err(NoMemory),
+        }
+    }
+
+    /// `call X P A ..`
+    #[tactic(auto, unfolding(lio_calculus::specs::Plan::plan_simple))]
+    pub(crate) fn plan_call(
+        &self,
+        alloc: Global,
+        script: &Script,
+        longest: u32,
+        name: &Text,
+        procedure: &Text,
+        arguments: &Operands,
+    ) -> Result<Turn, NoMemory>
+        ensures { IfOk result (PlansBy (program_of script.now longest) self.now (line.Call name.now procedure.now arguments.now)) }
+    {
+        let name = name.copy(alloc)?;
+        let Some(values) = operands::values(alloc, self.environment(), arguments)? else {
+            return self.bad_type(alloc);
+        };
+        match Procedure::find(script, procedure) {
+            Some(procedure) => self.calling(alloc, script, name, values, procedure),
+            None => self.bad_type(alloc),
+        }
+    }
+
+    /// The call of a procedure that is there.
+    fn calling(
+        &self,
+        alloc: Global,
+        script: &Script,
+        name: Text,
+        values: Values,
+        procedure: Procedure,
+    ) -> Result<Turn, NoMemory>
+        requires { IsNumbered script.now procedure.number procedure.parameters.now procedure.body }
+        ensures { IfOk result (λ planned. (simple : Simple) → IsIn script.now self.now simple planned (λ (state : TaskState). plan.calling state name values (slice_get script.now procedure.entry.number))) }
+    {
+        if self.open_calls() >= MOST_CALLS {
+            return self.refused(alloc, Act::Step, FaultKind::Depth);
+        }
+        let environment = procedure.environment(alloc, &values)?;
+        Ok(stepping(Onward::Call(name, environment, procedure.body)))
+    }
+
+    /// `return A`
+    #[tactic(auto, unfolding(lio_calculus::specs::Plan::plan_simple))]
+    pub(crate) fn plan_return(&self, alloc: Global, value: &Operand) -> Result<Turn, NoMemory>
+        ensures { IfOk result (Plans self.now (line.Return value.now)) }
+    {
+        match operands::value(alloc, self.environment(), value)? {
+            Some(value) => self.returning(alloc, value),
+            None => self.bad_type(alloc),
+        }
+    }
+
+    /// The return of a value to the caller, or the end of the task with it where no call is open.
+    fn returning(&self, alloc: Global, value: Value) -> Result<Turn, NoMemory>
+        ensures { IfOk result (λ planned. Is self.now planned (λ (lines : List Line). plan.returning (state_of lines self.now) value)) }
+    {
+        if self.open_calls() > 0 {
+            return Ok(stepping(Onward::Return(value)));
+        }
+        match value {
+            Value::Bare(plain) => ending(alloc, Content::Kept(plain)),
+            Value::Sealed(label, content) => {
+                drop(label);
+                drop(content);
+                self.bad_type(alloc)
+            }
+        }
+    }
+
+    /// `stop`
+    #[tactic(auto, unfolding(lio_calculus::specs::Plan::plan_simple))]
+    pub(crate) fn plan_stop(&self, alloc: Global) -> Result<Turn, NoMemory>
+        ensures { IfOk result (Plans self.now line.Stop) }
+    {
+        ending(alloc, Content::Kept(Plain::Unit))
+    }
+
+    /// `throw A`
+    #[tactic(auto, unfolding(lio_calculus::specs::Plan::plan_simple))]
+    pub(crate) fn plan_throw(&self, alloc: Global, value: &Operand) -> Result<Turn, NoMemory>
+        ensures { IfOk result (Plans self.now (line.Throw value.now)) }
+    {
+        match operands::bare(self.environment(), value) {
+            Some(plain) => self.refused(alloc, Act::Step, FaultKind::User(plain.copy(alloc)?)),
+            None => self.bad_type(alloc),
+        }
+    }
+}
