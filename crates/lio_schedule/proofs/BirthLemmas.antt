@@ -26,9 +26,12 @@ pub among-right : (k : ℕ) (xs ys : List ℕ) → Among k ys → Among k (xs ++
 among-right k [] ys is = is
 among-right k (x ∷ xs) ys is = inr (among-right k xs ys is)
 
--- each task of a configuration is one of some numbers
-abbrev pub Covers : (ℕ → Type 0) → Configuration → Type 0
+-- each task of a configuration is one of some numbers, or stands in an order
+abbrev Covers : (ℕ → Type 0) → Configuration → Type 0
 Covers P c = (k : ℕ) (task : TaskState) → IsTaskOf c k task → P k
+
+abbrev pub HasAll : List ℕ → Configuration → Type 0
+HasAll order c = (k : ℕ) (task : TaskState) → IsTaskOf c k task → Among k order
 
 -- a child stands at the target
 born-target : (program : Program) (label : Label) (asked : Act) (n : ℕ) (child : TaskState) → born program label asked ≡ Some child → Among n (born_at asked (Some n))
@@ -63,7 +66,7 @@ met-covers P c label asked (Some target) covers k task is = by (is_met target (c
     by false i = inl (covers k task i)
 
 -- a task after a turn was there, or is born in it
-pub turn-covers : (P : ℕ → Type 0) (ticket : ℕ) (c : Configuration) (k : ℕ) (turn : Turn) → step ticket c k ≡ Some turn → Covers P c → Covers (λ n. P n ⊎ Among n (born_in turn.entry)) turn.next
+turn-covers : (P : ℕ → Type 0) (ticket : ℕ) (c : Configuration) (k : ℕ) (turn : Turn) → step ticket c k ≡ Some turn → Covers P c → Covers (λ n. P n ⊎ Among n (born_in turn.entry)) turn.next
 turn-covers P ticket c k turn steps covers =
     let p = parts ticket c k turn steps in
     subst (λ (t : Turn). Covers (λ n. P n ⊎ Among n (born_in t.entry)) t.next) p.is_turn (λ n x is. by p n x is (changed (target_after c p.task.label p.move.act p.move.target) k (actor_after p.task p.move (cell_at (target_after c p.task.label p.move.act p.move.target) k)) n))
@@ -73,3 +76,10 @@ turn-covers P ticket c k turn steps covers =
         → P n ⊎ Among n (born_at p.move.act (option_map number_of p.move.target))
     by p n x is (Here e h) = inl (subst P (sym e) (covers k p.task p.is_task))
     by p n x is (Elsewhere h) = met-covers P c p.task.label p.move.act p.move.target covers n x (sym (ap (λ (y : Cell). y.task) h) ∙ is)
+
+pub turn-has_all : (order : List ℕ) (ticket : ℕ) (c : Configuration) (k : ℕ) (turn : Turn) → step ticket c k ≡ Some turn → HasAll order c → HasAll (order ++ born_in turn.entry) turn.next
+turn-has_all order ticket c k turn steps all n x is = either (turn-covers (λ m. Among m order) ticket c k turn steps all n x is)
+  where
+    either : Among n order ⊎ Among n (born_in turn.entry) → Among n (order ++ born_in turn.entry)
+    either (inl a) = among-left n order (born_in turn.entry) a
+    either (inr b) = among-right n order (born_in turn.entry) b

@@ -4,5 +4,6 @@ pub mod AfterLemmas
 pub mod MeasureLemmas
 pub mod BirthLemmas
 pub mod RoundLemmas
+pub mod EndLemmas
 pub mod NewLemmas
 pub mod OrderLemmas

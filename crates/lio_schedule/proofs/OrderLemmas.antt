@@ -8,14 +8,13 @@ use Rattle.lio_values.specs.declared.act.Act.{Act}
 use Rattle.lio_values.specs.declared.act.Act.TheVariants as act
 use Rattle.lio_calculus.specs.Step.{Cell, Configuration, blank, cell_at, Turn, step}
 use Rattle.lio_calculus.specs.Sound.{IsSound}
-use Rattle.lio_calculus.proofs.StepKept.{turn-kept}
-use Rattle.lio_schedule.specs.Round.{born_at, born_in, Round, round, order_after}
+use Rattle.lio_schedule.specs.Round.{born_at, born_in, round, order_after}
 use Rattle.lio_schedule.specs.Rounds.{tasks_from, tasks, stepped}
 use Rattle.lio_schedule.specs.Laws.{IsOrderOf, TasksAreAnOrder, RoundKeepsTheOrder}
-use Rattle.lio_schedule.proofs.TurnLemmas.{parts}
-use Rattle.lio_schedule.proofs.BirthLemmas.{Among, among-left, among-right, Covers, turn-covers}
+use Rattle.lio_schedule.proofs.BirthLemmas.{Among, HasAll, turn-has_all}
 use Rattle.lio_schedule.proofs.NewLemmas.{IsNew, turn-born, turn-stays}
-use Rattle.lio_schedule.proofs.RoundLemmas.{round-moves, round-skips, round-nobody, tasks-cover}
+use Rattle.lio_schedule.proofs.RoundLemmas.{round-each}
+use Rattle.lio_schedule.proofs.EndLemmas.{turned, stepped-step, stepped-sound, tasks-all}
 
 -- no number twice
 abbrev Apart : List ℕ → Type 0
@@ -24,7 +23,7 @@ Apart (k ∷ ks) = (Among k ks → ⊥) × Apart ks
 
 -- an order, by recursion
 record Listing (c : Configuration) (order : List ℕ) : Type 0 where
-  all : Covers (λ k. Among k order) c
+  all : HasAll order c
   only : (k : ℕ) → Among k order → is_some (cell_at c k).task ≡ true
   once : Apart order
 
@@ -61,33 +60,23 @@ turn-listing c k turn order sound steps listing =
     let born : List ℕ = born_in turn.entry in
     let new : (n : ℕ) → Among n born → IsNew c turn.next n = turn-born 0 c k turn sound steps in
     record {
-      all = λ n x is. either n (turn-covers (λ m. Among m order) 0 c k turn steps listing.all n x is);
+      all = turn-has_all order 0 c k turn steps listing.all;
       only = λ n a. has new n (among-either n order born a);
       once = apart-append order born listing.once (born-apart turn.entry.act turn.entry.target) (λ n a b. let i = new n b in true≢false (sym (listing.only n a) ∙ ap is_some i.absent));
     }
   where
-    either : (n : ℕ) → Among n order ⊎ Among n (born_in turn.entry) → Among n (order ++ born_in turn.entry)
-    either n (inl a) = among-left n order (born_in turn.entry) a
-    either n (inr b) = among-right n order (born_in turn.entry) b
-
     has : ((n : ℕ) → Among n (born_in turn.entry) → IsNew c turn.next n) → (n : ℕ) → Among n order ⊎ Among n (born_in turn.entry) → is_some (cell_at turn.next n).task ≡ true
     has new n (inl a) = turn-stays 0 c k turn steps n (listing.only n a)
     has new n (inr b) = (new n b).there
 
 -- one round
 round-listing : (walked : List ℕ) (c : Configuration) (order : List ℕ) → IsSound c → Listing c order → Listing (round stepped walked c).after (order ++ (round stepped walked c).born)
-round-listing [] c order sound listing =
-    subst (λ (done : Round Configuration). Listing done.after (order ++ done.born)) (sym (round-nobody c)) (subst (Listing c) (sym (append-nil order)) listing)
-round-listing (k ∷ walked) c order sound listing = by (step 0 c k) refl (round-listing walked)
-  where
-    by : (t : Option Turn) → step 0 c k ≡ t → ((d : Configuration) (other : List ℕ) → IsSound d → Listing d other → Listing (round stepped walked d).after (other ++ (round stepped walked d).born))
-        → Listing (round stepped (k ∷ walked) c).after (order ++ (round stepped (k ∷ walked) c).born)
-    by None e later = subst (λ (done : Round Configuration). Listing done.after (order ++ done.born)) (sym (round-skips k walked c e)) (later c order sound listing)
-    by (Some turn) e later =
-        let p = parts 0 c k turn e in
-        let next = later turn.next (order ++ born_in turn.entry) (turn-kept 0 c k p.task turn sound p.is_task e) (turn-listing c k turn order sound e listing) in
-        subst (λ (done : Round Configuration). Listing done.after (order ++ done.born)) (sym (round-moves k walked c turn e))
-        (subst (Listing (round stepped walked turn.next).after) (append_assoc order (born_in turn.entry) (round stepped walked turn.next).born) next)
+round-listing =
+    round-each stepped (λ walked c done. (order : List ℕ) → IsSound c → Listing c order → Listing done.after (order ++ done.born))
+    (λ c order sound listing. subst (Listing c) (sym (append-nil order)) listing)
+    (λ k walked c t done is goes order sound listing. subst (Listing done.after) (append_assoc order (born_in t.entry) done.born)
+    (goes (order ++ born_in t.entry) (stepped-sound c k t is sound) (turn-listing c k (turned t) order sound (stepped-step c k t is) listing)))
+    (λ k walked c done stays goes order sound listing. goes order sound listing)
 
 -- the tasks by number
 tasks_from-only : (first : ℕ) (cells : List Cell) (n : ℕ) → Among n (tasks_from first cells) → (k : ℕ) × (n ≡ first + k) × (is_some (slice_index_or cells k blank).task ≡ true)
@@ -118,7 +107,7 @@ tasks_from-apart first (cell ∷ cells) = by (is_some cell.task) (tasks_from-apa
     by false later = later
 
 tasks-listing : (c : Configuration) → Listing c (tasks c)
-tasks-listing c = record { all = tasks-cover c; only = only; once = tasks_from-apart 0 c.cells }
+tasks-listing c = record { all = tasks-all c; only = only; once = tasks_from-apart 0 c.cells }
   where
     only : (k : ℕ) → Among k (tasks c) → is_some (cell_at c k).task ≡ true
     only k a =

@@ -5,6 +5,7 @@ use Rattle.lio_calculus.specs.Task.{TaskState}
 use Rattle.lio_calculus.specs.Plan.{plan}
 use Rattle.lio_calculus.specs.Step.{Configuration, cell_at, Move, move_of, entry_of, after, Turn, turn_of, step}
 use Rattle.lio_calculus.specs.Sound.{IsTaskOf}
+use Rattle.lio_schedule.specs.Laws.{TicketStandsInTheEntry}
 
 abbrev made : ℕ → Configuration → ℕ → TaskState → Move → Turn
 made ticket c k task move = record { entry = entry_of ticket k task move; next = after c k task move }
@@ -48,6 +49,9 @@ pub step-ticket : (one two : ℕ) (c : Configuration) (k : ℕ) (turn : Turn) �
 step-ticket one two c k turn steps =
     let p = parts one c k turn steps in
     subst (λ (t : Turn). step two c k ≡ Some (with_ticket two t)) p.is_turn (step-made two c k p.task p.move p.is_task p.moves)
+
+pub ticket_stands_in_the_entry : TicketStandsInTheEntry
+ticket_stands_in_the_entry = step-ticket
 
 -- so whether a task can take a turn doesn't depend on the ticket
 pub step-none : (one two : ℕ) (c : Configuration) (k : ℕ) → step one c k ≡ None → step two c k ≡ None

@@ -1,16 +1,24 @@
 -- The laws of schedules: each turn lowers the measure, and rounds run to the end.
-use Rattle.std.specs.Prelude.{◌≡◌, ℕ, ◌<◌, ◌==◌, true, List, All, Some, is_some}
+use Rattle.std.specs.Prelude.{◌≡◌, ℕ, ◌+◌, ◌<◌, ◌≤◌, ◌==◌, true, List, ◌++◌, length, All, Some, is_some}
 use Rattle.std.specs.List.{Contains, IsDistinct}
 use Rattle.lio_calculus.specs.Task.{TaskState}
 use Rattle.lio_calculus.specs.Step.{Configuration, Turn, cell_at, step}
 use Rattle.lio_calculus.specs.Run.{Ran, run}
 use Rattle.lio_calculus.specs.Sound.{IsTaskOf, IsSound}
-use Rattle.lio_schedule.specs.Round.{round, order_after}
-use Rattle.lio_schedule.specs.Rounds.{IsComplete, measure, tasks, stepped, rounds}
+use Rattle.lio_schedule.specs.Round.{round, joined, IsFrom, order_after, followed}
+use Rattle.lio_schedule.specs.Rounds.{IsComplete, measure, tasks, stepped, rounds_from, rounds}
+
+-- a turn with one ticket is a turn with every other: the ticket stands in its entry alone, so who can move doesn't depend on it
+abbrev pub TicketStandsInTheEntry : Type 0
+TicketStandsInTheEntry = (one two : ℕ) (c : Configuration) (k : ℕ) (turn : Turn) → step one c k ≡ Some turn → step two c k ≡ Some (record { entry = record turn.entry { ticket = two }; next = turn.next })
 
 -- each turn lowers the measure, in every configuration; so every run is finite
 abbrev pub TurnLowersMeasure : Type 0
 TurnLowersMeasure = (ticket : ℕ) (c : Configuration) (k : ℕ) (turn : Turn) → step ticket c k ≡ Some turn → measure turn.next < measure c
+
+-- so a run has no more turns than the measure falls
+abbrev pub RunIsBounded : Type 0
+RunIsBounded = (ticket : ℕ) (c : Configuration) (actors : List ℕ) (ran : Ran) → run ticket c actors ≡ Some ran → measure ran.last + length actors ≤ measure c
 
 -- these actors take their turns to the end: each can take its turn at its place, then no task can take one, and the last configuration is well-formed where the first one was
 pub record RunsToTheEnd (c : Configuration) (actors : List ℕ) : Type 0 where
@@ -22,6 +30,18 @@ pub record RunsToTheEnd (c : Configuration) (actors : List ℕ) : Type 0 where
 -- rounds run to the end
 abbrev pub RoundsRunToTheEnd : Type 0
 RoundsRunToTheEnd = (c : Configuration) → RunsToTheEnd c (rounds c)
+
+-- a round over an order in two parts is a round over the first and then one over the second
+abbrev pub RoundOfTwoParts : Type 0
+RoundOfTwoParts = (c : Configuration) (one two : List ℕ) → round stepped (one ++ two) c ≡ joined (round stepped one c) (round stepped two (round stepped one c).after)
+
+-- who moves in a round is some of its order, in its order
+abbrev pub RoundMovesInOrder : Type 0
+RoundMovesInOrder = (c : Configuration) (order : List ℕ) → IsFrom order (round stepped order c).moved
+
+-- rounds are a round and, if it moved a task, rounds from the order and the configuration after it; no bound is seen
+abbrev pub RoundsGoOn : Type 0
+RoundsGoOn = (order : List ℕ) (c : Configuration) → rounds_from order c ≡ followed (round stepped order c).moved (rounds_from (order_after order (round stepped order c)) (round stepped order c).after)
 
 -- an order lists the tasks of a configuration, each once, and nothing else
 pub record IsOrderOf (c : Configuration) (order : List ℕ) : Type 0 where

@@ -1,5 +1,5 @@
 -- Rounds over any calculus in which tasks take turns: the round-robin scheduler (LIO, ICFP 2012). An order is data: a list of numbers of tasks.
-use Rattle.std.specs.Prelude.{ℕ, zero, suc, List, [], ◌∷◌, ◌++◌, Option, Some}
+use Rattle.std.specs.Prelude.{◌≡◌, ◌⊎◌, ℕ, zero, suc, List, [], ◌∷◌, ◌++◌, Option, Some}
 use Rattle.std.specs.Option.{option_map_or}
 use Rattle.lio_values.specs.declared.act.Act.{Act}
 use Rattle.lio_values.specs.declared.act.Act.TheVariants as act
@@ -34,6 +34,16 @@ moved_first k entry later = record { moved = k ∷ later.moved; born = born_in e
 unfoldable pub round : {S : Type 0} → (S → ℕ → Option (Taken S)) → List ℕ → S → Round S
 round stepped [] s = record { moved = []; born = []; after = s }
 round stepped (k ∷ order) s = option_map_or (λ taken. moved_first k taken.entry (round stepped order taken.next)) (stepped s k) (round stepped order s)
+
+-- two rounds, one after the other, as one
+abbrev pub joined : {S : Type 0} → Round S → Round S → Round S
+joined one two = record { moved = one.moved ++ two.moved; born = one.born ++ two.born; after = two.after }
+
+-- some of the numbers of an order, in its order, each no more often than there
+abbrev pub IsFrom : List ℕ → List ℕ → Type 0
+IsFrom order [] = Unit {0}
+IsFrom [] (k ∷ some) = ⊥
+IsFrom (j ∷ order) (k ∷ some) = ((k ≡ j) × IsFrom order some) ⊎ IsFrom order (k ∷ some)
 
 -- the order of the next round: who was born comes last
 abbrev pub order_after : {S : Type 0} → List ℕ → Round S → List ℕ

@@ -34,6 +34,10 @@ taken turn = record { entry = turn.entry; next = turn.next }
 abbrev pub stepped : Configuration → ℕ → Option (Taken Configuration)
 stepped c k = option_map taken (step 0 c k)
 
--- who takes the turns, in order: rounds over the tasks by number and who is born later, until one moves nothing; the measure bounds their number
+-- who takes the turns, in order, in rounds from an order until one moves nothing; the measure bounds their number
+abbrev pub rounds_from : List ℕ → Configuration → List ℕ
+rounds_from order c = rounds_within stepped (measure c) order c
+
+-- the rounds of a configuration: over its tasks by number, and who is born later
 abbrev pub rounds : Configuration → List ℕ
-rounds c = rounds_within stepped (measure c) (tasks c) c
+rounds c = rounds_from (tasks c) c

@@ -1,14 +1,39 @@
 //! The laws of schedules. Each function does nothing: its contract is the law.
-ghost use Rattle.lio_schedule.specs.Laws.{RoundKeepsTheOrder, RoundsRunToTheEnd, TasksAreAnOrder, TurnLowersMeasure};
+ghost use Rattle.lio_schedule.specs.Laws.{RoundKeepsTheOrder, RoundMovesInOrder, RoundOfTwoParts, RoundsGoOn, RoundsRunToTheEnd, RunIsBounded, TasksAreAnOrder, TicketStandsInTheEntry, TurnLowersMeasure};
+
+/// The ticket of a turn stands in its entry alone.
+pub fn ticket_stands_in_the_entry()
+    ensures { TicketStandsInTheEntry }
+{}
 
 /// Each turn lowers the measure.
 pub fn turn_lowers_measure()
     ensures { TurnLowersMeasure }
 {}
 
+/// A run has no more turns than the measure falls.
+pub fn run_is_bounded()
+    ensures { RunIsBounded }
+{}
+
 /// Rounds run to the end.
 pub fn rounds_run_to_the_end()
     ensures { RoundsRunToTheEnd }
+{}
+
+/// Rounds are a round and, if it moved a task, rounds again.
+pub fn rounds_go_on()
+    ensures { RoundsGoOn }
+{}
+
+/// A round over two orders, one behind the other, is a round over each.
+pub fn round_of_two_parts()
+    ensures { RoundOfTwoParts }
+{}
+
+/// Who moves in a round is some of its order, in its order.
+pub fn round_moves_in_order()
+    ensures { RoundMovesInOrder }
 {}
 
 /// The tasks of a configuration by number are an order of it.
