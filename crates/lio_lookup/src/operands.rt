@@ -162,10 +162,7 @@ pub fn count(environment: &Environment, operand: &Operand) -> Option<u32>
 }
 
 /// A reference.
-pub fn reference<'a>(
-    environment: &'a Environment,
-    operand: &'a Operand,
-) -> Option<&'a Handle>
+pub fn reference<'a>(environment: &'a Environment, operand: &'a Operand) -> Option<&'a Handle>
     ensures { option_copied result ≡ seen_as reference_of environment.now operand.now }
 {
     match bare(environment, operand)? {
@@ -185,10 +182,7 @@ pub fn variable<'a>(environment: &'a Environment, operand: &'a Operand) -> Optio
 }
 
 /// A task's result.
-pub fn task_result<'a>(
-    environment: &'a Environment,
-    operand: &'a Operand,
-) -> Option<&'a Handle>
+pub fn task_result<'a>(environment: &'a Environment, operand: &'a Operand) -> Option<&'a Handle>
     ensures { option_copied result ≡ seen_as result_of environment.now operand.now }
 {
     match bare(environment, operand)? {

@@ -48,11 +48,7 @@ impl<'s> Procedure<'s> {
     }
 
     /// The environment in which its body begins: its parameters bound to the values.
-    pub fn environment(
-        &self,
-        alloc: Global,
-        values: &Values,
-    ) -> Result<Environment, NoMemory>
+    pub fn environment(&self, alloc: Global, values: &Values) -> Result<Environment, NoMemory>
         ensures { IfOk result (λ environment. environment ≡ bind_all [] self.now.parameters.now values.now) }
     {
         Environment::of(alloc, self.parameters.as_slice(), values.as_slice())

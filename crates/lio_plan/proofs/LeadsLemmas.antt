@@ -1,10 +1,9 @@
 -- From what comes first the code's plan leads on.
 use Rattle.std.proofs.Common.{◌≡◌, sym, ap, subst, ℕ, List, [], ◌∷◌}
-use Rattle.lio_values.specs.declared.fault.Fault.{Fault}
 use Rattle.lio_lines.specs.declared.line.Line.{Line}
 use Rattle.lio_lines.specs.declared.line.Operand.{Operand}
 use Rattle.lio_lines.specs.declared.line.Simple.{Simple}
-use Rattle.lio_syntax.specs.Statements.{Statement, While, Try}
+use Rattle.lio_syntax.specs.Statements.{Statement, While}
 use Rattle.lio_control.specs.Items.{Item, Do, Access, Mark, Back, Fail, rest_of}
 use Rattle.lio_control.specs.Front.{AtStatement, Begins, IsGuarded, IsMark, IsOwn}
 use Rattle.lio_control.specs.Continuation.{block_at}

@@ -1,5 +1,5 @@
 -- From what comes first the code's plan leads on.
-use Rattle.std.specs.Prelude.{ℕ, List}
+use Rattle.std.specs.Prelude.{List}
 use Rattle.lio_lines.specs.declared.line.Line.{Line}
 use Rattle.lio_syntax.specs.Statements.{While}
 use Rattle.lio_control.specs.Items.{Item}

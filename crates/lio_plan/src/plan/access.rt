@@ -5,11 +5,11 @@ ghost use Rattle.lio_plan.specs.declared.planned.Turn.TheVariants as turn;
 ghost use Rattle.lio_plan.specs.declared.planned.Target.TheVariants as target;
 ghost use Rattle.lio_plan.specs.declared.planned.Onward.TheVariants as onward;
 
-use lio_lookup::operands;
 use crate::planned::{Onward, Target, Turn};
 use crate::standing::Standing;
 use lio_clauses::NoMemory;
 use lio_lines::{Operand, Simple};
+use lio_lookup::operands;
 use lio_values::{Act, Handle, Held, Text, Value};
 use std::alloc::Global;
 

@@ -1,11 +1,10 @@
 //! Binding, calling, returning and throwing.
-use lio_lookup::operands;
 use crate::plan::{ending, stepping};
 use crate::planned::{Onward, Turn};
-use lio_lookup::Procedure;
 use crate::standing::Standing;
 use lio_clauses::NoMemory;
 use lio_lines::{Operand, Operands};
+use lio_lookup::{Procedure, operands};
 use lio_operators::{OpFault, operate1, operate2};
 use lio_syntax::Script;
 use lio_values::{Act, Content, FaultKind, Plain, Text, Value, Values};

@@ -1,11 +1,11 @@
 //! Children.
-use lio_lookup::operands;
 use crate::planned::{Onward, Target, Turn};
 use crate::standing::Standing;
 use lio_clauses::NoMemory;
 use lio_guards::Verdict;
 use lio_labels::Label;
 use lio_lines::{Operand, Operands};
+use lio_lookup::operands;
 use lio_syntax::Script;
 use lio_values::{Act, Birth, FaultKind, Held, Op, Text, Values};
 use std::alloc::Global;

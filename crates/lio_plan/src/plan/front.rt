@@ -3,12 +3,12 @@ ghost use Rattle.std.specs.Prelude.{◌≡◌, IfOk};
 ghost use Rattle.lio_values.specs.declared.value.Content.TheVariants as content;
 ghost use Rattle.lio_plan.specs.declared.planned.Planned.TheVariants as planned;
 
-use lio_lookup::operands;
 use crate::planned::{Control, Planned};
 use crate::standing::Standing;
 use lio_clauses::NoMemory;
 use lio_control::Front;
 use lio_lines::Operand;
+use lio_lookup::operands;
 use lio_syntax::Script;
 use lio_values::{Content, Fault, FaultKind, Held, Plain};
 use std::alloc::Global;
@@ -32,12 +32,7 @@ impl Standing<'_> {
 
     /// What the next turn does.
     #[tactic(auto, unfolding(lio_calculus::specs::Plan::plan))]
-    pub fn plan(
-        &self,
-        alloc: Global,
-        script: &Script,
-        longest: u32,
-    ) -> Result<Planned, NoMemory>
+    pub fn plan(&self, alloc: Global, script: &Script, longest: u32) -> Result<Planned, NoMemory>
         ensures plan { IfOk result (IsPlanned (program_of script.now longest) self.now) }
         ensures leads { IfOk result (LeadsOn (script_lines script.now) (state_of (script_lines script.now) self.now).items) }
     {

@@ -1,11 +1,11 @@
 //! Sealing, unlabelling, raising, lowering and releasing.
-use lio_lookup::operands;
 use crate::planned::{Onward, Turn};
 use crate::standing::Standing;
 use lio_clauses::NoMemory;
 use lio_guards::{Verdict, guard_relabel};
 use lio_labels::{Label, Priv};
 use lio_lines::Operand;
+use lio_lookup::operands;
 use lio_values::{Act, Content, FaultKind, Held, Op, Reply, Text};
 use std::alloc::Global;
 

@@ -1,11 +1,11 @@
 //! References, variables, results and channels.
-use lio_lookup::operands;
 use crate::planned::{Onward, Target, Turn};
 use crate::standing::Standing;
 use lio_clauses::NoMemory;
 use lio_guards::Verdict;
 use lio_labels::Label;
 use lio_lines::Operand;
+use lio_lookup::operands;
 use lio_values::{Act, FaultKind, Handle, Held, Op, Reply, Text, Value};
 use std::alloc::Global;
 

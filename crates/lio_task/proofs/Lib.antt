@@ -1,0 +1,6 @@
+pub mod StepLemmas
+pub mod BirthLemmas
+pub mod StepAfter
+pub mod PlannedLemmas
+pub mod HolderLemmas
+pub mod MoveLemmas

@@ -1,0 +1,6 @@
+pub mod StateOf
+pub mod Births
+pub mod Goes
+pub mod Next
+pub mod Configuration
+pub mod Takes

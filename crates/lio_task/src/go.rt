@@ -1,0 +1,48 @@
+//! How a task goes on after its turn.
+use crate::task::Task;
+use lio_clauses::NoMemory;
+use lio_plan::{Control, Onward};
+use lio_syntax::Script;
+use lio_values::{Act, Reply};
+use std::alloc::Global;
+
+/// How a task goes on after its turn.
+#[derive(Drop)]
+pub(crate) enum Way {
+    /// By a step of control.
+    Step(Control),
+    /// Not at all.
+    End,
+    /// After the turn of a statement or of its access.
+    On(Onward),
+}
+
+impl Task {
+    ghost use Rattle.std.specs.Prelude.{◌≡◌, OnOk, OnErr};
+    ghost use Rattle.lio_task.specs.Goes.{CanGo, Goes};
+    ghost use Rattle.lio_task.specs.StateOf.{state_in};
+
+    /// Goes on after its turn, with the turn's act and reply.
+    #[tactic(auto, unfolding(lio_calculus::specs::Going::gone_on))]
+    pub(crate) fn go(
+        &mut self,
+        alloc: Global,
+        script: &Script,
+        way: Way,
+        act: &Act,
+        reply: &Reply,
+    ) -> Result<(), NoMemory>
+        requires { CanGo script.now self.old way }
+        ensures ok { OnOk result (Goes script.now self.old self.new way act.now reply.now) }
+        ensures err { OnErr result (state_in script.now self.new ≡ state_in script.now self.old) }
+    {
+        match way {
+            Way::Step(control) => self.go_step(alloc, script, control),
+            Way::End => {
+                self.go_to_end(script);
+                Ok(())
+            }
+            Way::On(onward) => self.go_on(alloc, script, onward, act, reply),
+        }
+    }
+}
