@@ -1,0 +1,20 @@
+-- The laws.
+use Rattle.lio_start.specs.Laws.{EachTaskFits, FaultIsOfFirst, LiteralsAreSaid, StartIsSound, TextsAreShort}
+use Rattle.lio_start.proofs.FitsLemmas as of_fits
+use Rattle.lio_start.proofs.LiteralLemmas as of_literals
+use Rattle.lio_start.proofs.SoundLemmas as of_start
+
+pub each_task_fits : EachTaskFits
+each_task_fits = of_fits.each_task_fits
+
+pub fault_is_of_first : FaultIsOfFirst
+fault_is_of_first = of_fits.fault_is_of_first
+
+pub literals_are_said : LiteralsAreSaid
+literals_are_said = of_literals.literals_are_said
+
+pub start_is_sound : StartIsSound
+start_is_sound = of_start.start_is_sound
+
+pub texts_are_short : TextsAreShort
+texts_are_short = of_start.texts_are_short

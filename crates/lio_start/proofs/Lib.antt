@@ -1,0 +1,5 @@
+pub mod FitsLemmas
+pub mod PlaceLemmas
+pub mod LiteralLemmas
+pub mod SoundLemmas
+pub mod LawLemmas

@@ -1,0 +1,279 @@
+-- Each first configuration is well-formed, part by part.
+use Rattle.std.proofs.Common.{◌≡◌, ◌∙◌, refl, sym, ap, subst, ℕ, zero, suc, ◌+◌, ◌<◌, ◌⊎◌, inl, inr, Bool, true, false, ◌&&◌, if◌then◌else◌, IsTrue, List, [], ◌∷◌, length, map, All, Option, Some, None, is_some, arith}
+use Rattle.std.specs.Prelude.{option_and_then, option_map, nat_le, slice_get, slice_index_or}
+use Rattle.std.proofs.lemmas.Bool.{leb-true, cases_order}
+use Rattle.std.proofs.lemmas.Bool.Decides.{Decides-eqb}
+use Rattle.std.proofs.lemmas.List.Elements.{All-nil, All-head, All-tail, All-cons}
+use Rattle.std.proofs.lemmas.Slice.Eq.{slice_eq-Decides}
+use Rattle.lio_labels.specs.declared.label.Label.{Label}
+use Rattle.lio_labels.specs.Equality.{same_formula, same_label}
+use Rattle.lio_labels.specs.Flow.{flows}
+use Rattle.lio_labels.proofs.FlowLemmas.{flow_is_reflexive}
+use Rattle.lio_values.specs.declared.fault.FaultKind.TheVariants.{TooLong}
+use Rattle.lio_values.specs.declared.value.Handle.{Handle}
+use Rattle.lio_values.specs.declared.value.Plain.{Plain}
+use Rattle.lio_values.specs.declared.value.Plain.TheVariants.{Unit as unit, Flag, Whole, Bytes, Lab, Power, RefOf, VarOf, ResultOf, ChanOf}
+use Rattle.lio_values.specs.declared.value.Content.TheVariants.{Kept, Faulted, Hidden}
+use Rattle.lio_values.specs.declared.value.Value.{Value}
+use Rattle.lio_values.specs.declared.value.Value.TheVariants.{Bare, Sealed}
+use Rattle.lio_syntax.specs.Statements.{Procedure}
+use Rattle.lio_syntax.specs.Beginnings.{number_of}
+use Rattle.lio_cells.specs.declared.state.State.TheVariants.{Job}
+use Rattle.lio_cells.specs.State.{Channel, is_job, label_of, result_of}
+use Rattle.lio_control.specs.Items.{open_calls}
+use Rattle.lio_calculus.specs.Task.{TaskState}
+use Rattle.lio_calculus.specs.Step.{Cell, Configuration, blank, cell_at, is_named, body_of, parameters_of}
+use Rattle.lio_calculus.specs.Sound.{Names, ContentNames, ValueNames, IsOpen, EachBound, EachInItem, EachInState, IsNoAccess, block_says, IsTaskOf, IsInRange}
+use Rattle.lio_calculus.proofs.Lists.{All-slice_get}
+use Rattle.lio_calculus.proofs.PlanEach.{bind_all-each}
+use Rattle.lio_calculus.proofs.PlacesKept.{enter-all, enter-says, enter-calls}
+use Rattle.lio_calculus.proofs.GoneKept.{none-raised}
+use Rattle.lio_calculus.proofs.SoundAfter.{Fine}
+use Rattle.lio_policy.specs.Policy.{PolicyParts, IsFixed, IsArgument, IsPolicy}
+use Rattle.lio_policy.specs.declared.policy.FileEntry.{FileEntry}
+use Rattle.lio_policy.specs.declared.policy.TaskEntry.{TaskEntry}
+use Rattle.lio_policy.specs.declared.policy.Arg.{Arg}
+use Rattle.lio_policy.specs.declared.policy.Arg.TheVariants.{Input, Fixed}
+use Rattle.lio_start.specs.Fits.{procedure_of}
+use Rattle.lio_start.specs.Laws.{SaysLiterals, StartIsSound, IsShort, TextsAreShort}
+use Rattle.lio_start.specs.Start.{input_content, sealed_inputs, argument_of, task_of, channel_cell, start_of}
+use Rattle.lio_start.proofs.PlaceLemmas.{cells_before, before-later, before-all, ranges_from, inputs_of, channel-at, nothing-behind, length-start, Stands, Channel as channel, Task as job, Nothing as nothing, stands, IsBegun, begun}
+
+-- a property of each argument: the inputs have it, and the values that stand in the policy
+inputs-each : (P : Value → Type 0) (longest : ℕ) → ((label : Label) (text : List ℕ) → P (Sealed label (input_content longest label text)))
+    → (inputs : List FileEntry) (texts : List (List ℕ)) → All P (sealed_inputs longest inputs texts)
+inputs-each P longest each [] texts = All-nil P
+inputs-each P longest each (input ∷ inputs) [] = All-nil P
+inputs-each P longest each (input ∷ inputs) (text ∷ texts) =
+    All-cons P (Sealed input.label (input_content longest input.label text)) (sealed_inputs longest inputs texts) (each input.label text) (inputs-each P longest each inputs texts)
+
+input-each : (P : Value → Type 0) → P (Bare unit) → (inputs : List Value) (place : ℕ) → All P inputs → P (slice_index_or inputs place (Bare unit))
+input-each P p [] place all = p
+input-each P p (value ∷ inputs) zero all = All-head P value inputs all
+input-each P p (value ∷ inputs) (suc place) all = input-each P p inputs place (All-tail P value inputs all)
+
+argument-each : (P : Value → Type 0) (policy : PolicyParts) → P (Bare unit) → ((plain : Plain) → IsFixed policy plain → P (Bare plain)) → (inputs : List Value) → All P inputs
+    → (argument : Arg) → IsArgument policy argument → P (argument_of inputs argument)
+argument-each P policy p fixed inputs all (Input place) is = input-each P p inputs place all
+argument-each P policy p fixed inputs all (Fixed plain) is = fixed plain is
+
+arguments-each : (P : Value → Type 0) (policy : PolicyParts) → P (Bare unit) → ((plain : Plain) → IsFixed policy plain → P (Bare plain)) → (inputs : List Value) → All P inputs
+    → (arguments : List Arg) → All (IsArgument policy) arguments → All P (map (argument_of inputs) arguments)
+arguments-each P policy p fixed inputs all [] are = All-nil P
+arguments-each P policy p fixed inputs all (argument ∷ arguments) are =
+    All-cons P (argument_of inputs argument) (map (argument_of inputs) arguments) (argument-each P policy p fixed inputs all argument (All-head (IsArgument policy) argument arguments are))
+    (arguments-each P policy p fixed inputs all arguments (All-tail (IsArgument policy) argument arguments are))
+
+-- an input's content holds no handle, and isn't hidden
+content-names : (c : Configuration) (longest : ℕ) (label : Label) (text : List ℕ) → ContentNames c (input_content longest label text)
+content-names c longest label text = by (nat_le (length text) longest)
+  where
+    by : (b : Bool) → ContentNames c (if b then Kept (Bytes text) else Faulted (record { kind = TooLong; at = label }))
+    by true = tt
+    by false = tt
+
+content-open : (longest : ℕ) (label : Label) (text : List ℕ) → input_content longest label text ≡ Hidden → ⊥
+content-open longest label text = by (nat_le (length text) longest)
+  where
+    by : (b : Bool) → (if b then Kept (Bytes text) else Faulted (record { kind = TooLong; at = label })) ≡ Hidden → ⊥
+    by true e = absurd (cc)
+    by false e = absurd (cc)
+
+-- labels are the same as themselves
+same_label-refl : (label : Label) → same_label label label ≡ true
+same_label-refl label = both_true (same_formula label.secrecy label.secrecy) (same_formula label.integrity label.integrity) (formulas label.secrecy) (formulas label.integrity)
+  where
+    formulas : (x : List (List ℕ)) → same_formula x x ≡ true
+    formulas x = (slice_eq-Decides (λ (p q : List ℕ). slice_eq-Decides Decides-eqb p q _ refl) x x (same_formula x x) refl).1 refl
+
+    both_true : (a b : Bool) → a ≡ true → b ≡ true → (a && b) ≡ true
+    both_true a b e f = cc
+
+-- a value of the policy names a cell, if it is a channel
+channel-named : (policy : PolicyParts) (script : List Procedure) (inputs : List (List ℕ)) (handle : Handle) → option_map (λ (f : FileEntry). f.label) (slice_get policy.channels handle.number) ≡ Some handle.label
+    → Names (start_of policy script inputs) Channel handle
+channel-named policy script inputs handle e = by (slice_get policy.channels handle.number) refl e
+  where
+    by : (o : Option FileEntry) → slice_get policy.channels handle.number ≡ o → option_map (λ (f : FileEntry). f.label) o ≡ Some handle.label → Names (start_of policy script inputs) Channel handle
+    by None is found = absurd (cc)
+    by (Some f) is found =
+        let same : f.label ≡ handle.label = cc in
+        ap (λ (cell : Cell). is_named Channel handle cell.state) (channel-at policy script inputs handle.number f is)
+        ∙ ap (λ (label : Label). same_label label handle.label) same ∙ same_label-refl handle.label
+
+fixed-names : (policy : PolicyParts) (script : List Procedure) (inputs : List (List ℕ)) (plain : Plain) → IsFixed policy plain → ValueNames (start_of policy script inputs) (Bare plain)
+fixed-names policy script inputs unit is = tt
+fixed-names policy script inputs (Flag flag) is = tt
+fixed-names policy script inputs (Whole number) is = tt
+fixed-names policy script inputs (Bytes text) is = tt
+fixed-names policy script inputs (Lab label) is = tt
+fixed-names policy script inputs (Power power) is = tt
+fixed-names policy script inputs (RefOf handle) is = absurd is
+fixed-names policy script inputs (VarOf handle) is = absurd is
+fixed-names policy script inputs (ResultOf handle) is = absurd is
+fixed-names policy script inputs (ChanOf handle) is = channel-named policy script inputs handle is
+
+-- the body of a procedure that is there
+body-says : (script : List Procedure) (name : List ℕ) → SaysLiterals script → IsTrue (block_says (body_of (procedure_of script name)))
+unfolding block_says
+body-says script name said = by_number (number_of script name)
+  where
+    by_procedure : (n : ℕ) (p : Option Procedure) → slice_get script n ≡ p → IsTrue (block_says (body_of p))
+    by_procedure n None e = refl
+    by_procedure n (Some procedure) e = All-slice_get (λ (x : Procedure). IsTrue (block_says x.body)) script n procedure said e
+
+    by_number : (n : Option ℕ) → IsTrue (block_says (body_of (option_and_then (slice_get script) n)))
+    by_number None = refl
+    by_number (Some n) = by_procedure n (slice_get script n) refl
+
+-- each task is as a well-formed configuration has it
+task-fine : (policy : PolicyParts) (script : List Procedure) (inputs : List (List ℕ)) (place : ℕ) (entry : TaskEntry) → IsPolicy policy → SaysLiterals script → slice_get policy.tasks place ≡ Some entry
+    → Fine (start_of policy script inputs) (Job entry.clearance None) (task_of script (inputs_of policy inputs) (ranges_from policy + cells_before policy.tasks place) entry)
+unfolding task_of open_calls
+task-fine policy script inputs place entry is said e =
+    let c : Configuration = start_of policy script inputs in
+    let procedure : Option Procedure = procedure_of script entry.proc_name in
+    let values : List Value = inputs_of policy inputs in
+    let arguments : All (IsArgument policy) entry.args = All-slice_get (λ (t : TaskEntry). All (IsArgument policy) t.args) policy.tasks place entry is.arguments e in
+    record {
+      range = omega (arith, before-all policy.tasks place entry e, length-start policy script inputs);
+      names = record {
+        environment = bind_all-each (ValueNames c) [] (parameters_of procedure) (map (argument_of values) entry.args) (All-nil _)
+            (arguments-each (ValueNames c) policy tt (fixed-names policy script inputs) values (inputs-each (ValueNames c) policy.longest (content-names c policy.longest) policy.inputs inputs) entry.args arguments);
+        items = enter-all (EachInItem (ValueNames c)) (λ s. tt) (body_of procedure) [] (All-nil _);
+      };
+      clearance = All-slice_get (λ (t : TaskEntry). IsTrue (flows t.label t.clearance)) policy.tasks place entry is.flow e;
+      result = λ label f. let same : entry.clearance ≡ label = cc in subst (λ (x : Label). IsTrue (flows entry.clearance x)) same (flow_is_reflexive entry.clearance);
+      ended = refl;
+      accesses = none-raised (task_of script values (ranges_from policy + cells_before policy.tasks place) entry) (enter-all IsNoAccess (λ s. tt) (body_of procedure) [] (All-nil _));
+      literals = enter-says (body_of procedure) [] (body-says script entry.proc_name said) (All-nil _);
+      calls = omega (arith, enter-calls (body_of procedure) []);
+      shown = record {
+        environment = bind_all-each IsOpen [] (parameters_of procedure) (map (argument_of values) entry.args) (All-nil _)
+            (arguments-each IsOpen policy tt (λ plain fixed. tt) values (inputs-each IsOpen policy.longest (content-open policy.longest) policy.inputs inputs) entry.args arguments);
+        items = enter-all (EachInItem IsOpen) (λ s. tt) (body_of procedure) [] (All-nil _);
+      };
+    }
+
+-- a task that stands at a number, with its range
+begun-fine : (policy : PolicyParts) (script : List Procedure) (inputs : List (List ℕ)) (k : ℕ) (task : TaskState) → IsPolicy policy → SaysLiterals script → (b : IsBegun policy script inputs k task)
+    → Fine (start_of policy script inputs) (Job b.job.entry.clearance None) task
+begun-fine policy script inputs k task is said b =
+    subst (Fine (start_of policy script inputs) (Job b.job.entry.clearance None)) b.is (task-fine policy script inputs b.job.place b.job.entry is said b.job.is)
+
+begun-first : (policy : PolicyParts) (script : List Procedure) (inputs : List (List ℕ)) (k : ℕ) (task : TaskState) (b : IsBegun policy script inputs k task)
+    → task.first ≡ ranges_from policy + cells_before policy.tasks b.job.place
+unfolding task_of
+begun-first policy script inputs k task b = sym (ap (λ (t : TaskState). t.first) b.is)
+
+begun-cells : (policy : PolicyParts) (script : List Procedure) (inputs : List (List ℕ)) (k : ℕ) (task : TaskState) (b : IsBegun policy script inputs k task) → task.cells ≡ b.job.entry.cells
+unfolding task_of
+begun-cells policy script inputs k task b = sym (ap (λ (t : TaskState). t.cells) b.is)
+
+-- no two tasks share a number
+ranges-apart : (policy : PolicyParts) (script : List Procedure) (inputs : List (List ℕ)) (j k n : ℕ) (one other : TaskState) → IsBegun policy script inputs j one → IsBegun policy script inputs k other
+    → IsInRange one n → IsInRange other n → j ≡ k
+ranges-apart policy script inputs j k n one other b d r q = by (cases_order b.job.place d.job.place)
+  where
+    by : (b.job.place ≡ d.job.place) ⊎ ((b.job.place < d.job.place) ⊎ (d.job.place < b.job.place)) → j ≡ k
+    by (inl same) = omega (arith, b.job.number, d.job.number)
+    by (inr (inl less)) = absurd (omega (
+      arith,
+      before-later policy.tasks b.job.place d.job.place b.job.entry b.job.is less,
+      begun-first policy script inputs j one b,
+      begun-cells policy script inputs j one b,
+      begun-first policy script inputs k other d,
+      r.below,
+      q.from,
+    ))
+    by (inr (inr more)) = absurd (omega (
+      arith,
+      before-later policy.tasks d.job.place b.job.place d.job.entry d.job.is more,
+      begun-first policy script inputs k other d,
+      begun-cells policy script inputs k other d,
+      begun-first policy script inputs j one b,
+      q.below,
+      r.from,
+    ))
+
+-- a property of the values in each node
+node-each : (P : Value → Type 0) (policy : PolicyParts) (script : List Procedure) (inputs : List (List ℕ)) (n : ℕ) → EachInState P (cell_at (start_of policy script inputs) n).state
+node-each P policy script inputs n = by (stands policy script inputs n)
+  where
+    by : Stands policy script inputs (start_of policy script inputs) n → EachInState P (cell_at (start_of policy script inputs) n).state
+    by (channel is) = subst (λ (cell : Cell). EachInState P cell.state) (sym is.cell) tt
+    by (job is) = subst (λ (cell : Cell). EachInState P cell.state) (sym is.cell) tt
+    by (nothing is) = subst (λ (cell : Cell). EachInState P cell.state) (sym is) tt
+
+-- a job has a task, and nothing else has one
+jobs-tasks : (policy : PolicyParts) (script : List Procedure) (inputs : List (List ℕ)) (k : ℕ) → is_some (cell_at (start_of policy script inputs) k).task ≡ is_job (cell_at (start_of policy script inputs) k).state
+jobs-tasks policy script inputs k = by (stands policy script inputs k)
+  where
+    same : (cell : Cell) → cell_at (start_of policy script inputs) k ≡ cell → is_some cell.task ≡ is_job cell.state → is_some (cell_at (start_of policy script inputs) k).task ≡ is_job (cell_at (start_of policy script inputs) k).state
+    same cell is e = ap (λ (x : Cell). is_some x.task) is ∙ e ∙ sym (ap (λ (x : Cell). is_job x.state) is)
+
+    by : Stands policy script inputs (start_of policy script inputs) k → is_some (cell_at (start_of policy script inputs) k).task ≡ is_job (cell_at (start_of policy script inputs) k).state
+    by (channel is) = same (channel_cell is.channel) is.cell refl
+    by (job is) = same _ is.cell refl
+    by (nothing is) = same blank is refl
+
+-- the procedures are those of the script
+procedures-are : (policy : PolicyParts) (script : List Procedure) (inputs : List (List ℕ)) → (start_of policy script inputs).program.procedures ≡ script
+unfolding start_of
+procedures-are policy script inputs = refl
+
+pub start_is_sound : StartIsSound
+start_is_sound policy script inputs is said =
+    let c : Configuration = start_of policy script inputs in
+    let fine = λ (k : ℕ) (task : TaskState) (i : IsTaskOf c k task). begun-fine policy script inputs k task is said (begun policy script inputs k task i) in
+    record {
+      jobs = jobs-tasks policy script inputs;
+      ranges = λ k task i. (fine k task i).range;
+      free = λ k n task i r. let b = begun policy script inputs k task i in nothing-behind policy script inputs n (omega (arith, begun-first policy script inputs k task b, r.from));
+      apart = λ j k n one other i q r s. ranges-apart policy script inputs j k n one other (begun policy script inputs j one i) (begun policy script inputs k other q) r s;
+      names = λ k task i. (fine k task i).names;
+      node_names = node-each (ValueNames c) policy script inputs;
+      clearance = λ k task i. (fine k task i).clearance;
+      result = λ k task label i e. let b = begun policy script inputs k task i in (fine k task i).result label (sym (ap (λ (cell : Cell). label_of cell.state) b.job.cell) ∙ e);
+      ended = λ k task i. let b = begun policy script inputs k task i in ap (λ (cell : Cell). is_some (result_of cell.state)) b.job.cell ∙ (fine k task i).ended;
+      accesses = λ k task i. (fine k task i).accesses;
+      literals = λ k task i. (fine k task i).literals;
+      calls = λ k task i. (fine k task i).calls;
+      program = subst SaysLiterals (sym (procedures-are policy script inputs)) said;
+      shown = λ k task i. (fine k task i).shown;
+      node_shown = node-each IsOpen policy script inputs;
+      few = omega (arith, length-start policy script inputs, is.limits.channels, is.limits.tasks, is.limits.cells);
+    }
+
+-- no task begins with a text that is too long
+input-short : (longest : ℕ) (label : Label) (text : List ℕ) → IsShort longest (Sealed label (input_content longest label text))
+input-short longest label text = by (nat_le (length text) longest) refl
+  where
+    by : (b : Bool) → nat_le (length text) longest ≡ b → IsShort longest (Sealed label (if b then Kept (Bytes text) else Faulted (record { kind = TooLong; at = label })))
+    by true e = leb-true (length text) longest e
+    by false e = tt
+
+fixed-short : (policy : PolicyParts) (plain : Plain) → IsFixed policy plain → IsShort policy.longest (Bare plain)
+fixed-short policy (Bytes text) is = is
+fixed-short policy unit is = tt
+fixed-short policy (Flag flag) is = tt
+fixed-short policy (Whole number) is = tt
+fixed-short policy (Lab label) is = tt
+fixed-short policy (Power power) is = tt
+fixed-short policy (RefOf handle) is = tt
+fixed-short policy (VarOf handle) is = tt
+fixed-short policy (ResultOf handle) is = tt
+fixed-short policy (ChanOf handle) is = tt
+
+task-short : (policy : PolicyParts) (script : List Procedure) (inputs : List (List ℕ)) (first place : ℕ) (entry : TaskEntry) → IsPolicy policy → slice_get policy.tasks place ≡ Some entry
+    → EachBound (IsShort policy.longest) (task_of script (inputs_of policy inputs) first entry).environment
+unfolding task_of
+task-short policy script inputs first place entry is e =
+    bind_all-each (IsShort policy.longest) [] (parameters_of (procedure_of script entry.proc_name)) (map (argument_of (inputs_of policy inputs)) entry.args) (All-nil _)
+    (arguments-each (IsShort policy.longest) policy tt (fixed-short policy) (inputs_of policy inputs) (inputs-each (IsShort policy.longest) policy.longest (input-short policy.longest) policy.inputs inputs) entry.args
+    (All-slice_get (λ (t : TaskEntry). All (IsArgument policy) t.args) policy.tasks place entry is.arguments e))
+
+pub texts_are_short : TextsAreShort
+texts_are_short policy script inputs k task is i =
+    let b = begun policy script inputs k task i in
+    subst (λ (t : TaskState). EachBound (IsShort policy.longest) t.environment) b.is (task-short policy script inputs _ b.job.place b.job.entry is b.job.is)

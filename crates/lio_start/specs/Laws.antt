@@ -1,0 +1,60 @@
+-- The laws of the start.
+use Rattle.std.specs.Prelude.{◌≡◌, ◌↔◌, ◌≤◌, ℕ, List, All, IsTrue, Some, None, take, slice_get, length}
+use Rattle.lio_values.specs.declared.value.Plain.TheVariants.{Bytes}
+use Rattle.lio_values.specs.declared.value.Plain.{Plain}
+use Rattle.lio_values.specs.declared.value.Content.TheVariants.{Kept, Faulted, Hidden}
+use Rattle.lio_values.specs.declared.value.Value.{Value}
+use Rattle.lio_values.specs.declared.value.Value.TheVariants.{Bare, Sealed}
+use Rattle.lio_syntax.specs.Statements.{Procedure}
+use Rattle.lio_syntax.specs.Lines.{script_lines}
+use Rattle.lio_syntax.specs.Kept as kept
+use Rattle.lio_calculus.specs.Task.{TaskState}
+use Rattle.lio_calculus.specs.Sound.{block_says, EachBound, IsTaskOf, IsSound}
+use Rattle.lio_policy.specs.Policy.{PolicyParts, IsPolicy}
+use Rattle.lio_policy.specs.declared.policy.TaskEntry.{TaskEntry}
+use Rattle.lio_start.specs.declared.fault.StartFault.{StartFault}
+use Rattle.lio_start.specs.Fits.{Fits, fault_of, fits}
+use Rattle.lio_start.specs.Start.{start_of}
+
+-- nothing is wrong exactly where each task fits
+abbrev pub EachTaskFits : Type 0
+EachTaskFits = (script : List Procedure) (tasks : List TaskEntry) → (fits tasks script ≡ None) ↔ All (Fits script) tasks
+
+-- the first of a policy's tasks that doesn't fit, and its fault
+pub record IsFirstFault (script : List Procedure) (tasks : List TaskEntry) (fault : StartFault) : Type 0 where
+  pub place : ℕ
+  pub task : TaskEntry
+  pub is : slice_get tasks place ≡ Some task
+  pub fault_is : fault_of script place task ≡ Some fault
+  pub before : All (Fits script) (take place tasks)
+
+abbrev pub FaultIsOfFirst : Type 0
+FaultIsOfFirst = (script : List Procedure) (tasks : List TaskEntry) (fault : StartFault) → fits tasks script ≡ Some fault → IsFirstFault script tasks fault
+
+-- the literals in the statements of a script are values that a word can say: neither privileges nor handles
+abbrev pub SaysLiterals : List Procedure → Type 0
+SaysLiterals script = All (λ procedure. IsTrue (block_says procedure.body)) script
+
+-- what each script keeps of its lines gives that
+abbrev pub LiteralsAreSaid : Type 0
+LiteralsAreSaid = (script : List Procedure) → kept.SaysLiterals (script_lines script) → SaysLiterals script
+
+-- the first configuration of a policy and a script is well-formed, whatever the inputs are
+abbrev pub StartIsSound : Type 0
+StartIsSound = (policy : PolicyParts) (script : List Procedure) (inputs : List (List ℕ)) → IsPolicy policy → SaysLiterals script → IsSound (start_of policy script inputs)
+
+-- a value's text, bare or sealed, has at most so many bytes
+abbrev pub PlainIsShort : ℕ → Plain → Type 0
+PlainIsShort longest (Bytes text) = length text ≤ longest
+PlainIsShort longest plain = Unit {0}
+
+abbrev pub IsShort : ℕ → Value → Type 0
+IsShort longest (Bare plain) = PlainIsShort longest plain
+IsShort longest (Sealed label (Kept plain)) = PlainIsShort longest plain
+IsShort longest (Sealed label (Faulted fault)) = Unit {0}
+IsShort longest (Sealed label Hidden) = Unit {0}
+
+-- no task begins with a text that is longer than texts may be
+abbrev pub TextsAreShort : Type 0
+TextsAreShort = (policy : PolicyParts) (script : List Procedure) (inputs : List (List ℕ)) (k : ℕ) (task : TaskState)
+    → IsPolicy policy → IsTaskOf (start_of policy script inputs) k task → EachBound (IsShort policy.longest) task.environment

@@ -1,0 +1,32 @@
+//! The laws of the start. Each function does nothing: its contract is the law.
+ghost use Rattle.lio_start.specs.Laws.{EachTaskFits, FaultIsOfFirst, LiteralsAreSaid, StartIsSound, TextsAreShort};
+
+/// Nothing is wrong exactly where each task can begin.
+#[tactic(auto, using(crate::proofs::LawLemmas::each_task_fits))]
+pub fn each_task_fits()
+    ensures { EachTaskFits }
+{}
+
+/// A fault is that of the first task that can't begin.
+#[tactic(auto, using(crate::proofs::LawLemmas::fault_is_of_first))]
+pub fn fault_is_of_first()
+    ensures { FaultIsOfFirst }
+{}
+
+/// What each script keeps of its lines: the literals in its statements are values that a word can say.
+#[tactic(auto, using(crate::proofs::LawLemmas::literals_are_said))]
+pub fn literals_are_said()
+    ensures { LiteralsAreSaid }
+{}
+
+/// Each first configuration is well-formed.
+#[tactic(auto, using(crate::proofs::LawLemmas::start_is_sound))]
+pub fn start_is_sound()
+    ensures { StartIsSound }
+{}
+
+/// No task begins with a text that is longer than texts may be.
+#[tactic(auto, using(crate::proofs::LawLemmas::texts_are_short))]
+pub fn texts_are_short()
+    ensures { TextsAreShort }
+{}
