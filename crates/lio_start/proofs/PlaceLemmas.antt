@@ -13,7 +13,7 @@ use Rattle.lio_calculus.specs.Sound.{IsTaskOf}
 use Rattle.lio_policy.specs.Policy.{PolicyParts}
 use Rattle.lio_policy.specs.declared.policy.FileEntry.{FileEntry}
 use Rattle.lio_policy.specs.declared.policy.TaskEntry.{TaskEntry}
-use Rattle.lio_start.specs.Start.{sealed_inputs, task_of, channel_cell, job_cell, job_cells, cells_in_all, start_of}
+use Rattle.lio_start.specs.Start.{inputs_of, task_of, channel_cell, job_cell, job_cells, cells_in_all, ranges_from, start_of}
 
 -- how many numbers the tasks before a place own
 abbrev pub cells_before : List TaskEntry → ℕ → ℕ
@@ -40,10 +40,10 @@ before-all (first ∷ tasks) zero task e = let is : first ≡ task = cc in omega
 before-all (first ∷ tasks) (suc i) task e = omega (arith, before-all tasks i task e, sum_by-cons (λ (t : TaskEntry). t.cells) first tasks)
 
 -- the jobs
-length-job_cells : (script : List Procedure) (inputs : List Value) (first : ℕ) (tasks : List TaskEntry) → length (job_cells script inputs first tasks) ≡ length tasks
+length-job_cells : (script : List Procedure) (inputs : List Value) (tasks : List TaskEntry) (first : ℕ) → length (job_cells script inputs first tasks) ≡ length tasks
 unfolding job_cells
-length-job_cells script inputs first [] = refl
-length-job_cells script inputs first (task ∷ tasks) = ap suc (length-job_cells script inputs (first + task.cells) tasks)
+length-job_cells script inputs [] first = refl
+length-job_cells script inputs (task ∷ tasks) first = ap suc (length-job_cells script inputs tasks _)
 
 job_cells-at : (script : List Procedure) (inputs : List Value) (first : ℕ) (tasks : List TaskEntry) (i : ℕ) (task : TaskEntry) → slice_get tasks i ≡ Some task
     → slice_index_or (job_cells script inputs first tasks) i blank ≡ job_cell script inputs (first + cells_before tasks i) task
@@ -79,14 +79,6 @@ right-at xs ys zs n m i one two =
     ap (λ (k : ℕ). slice_index_or (xs ++ (ys ++ zs)) (k + (m + i)) blank) one ∙ get_or-append-add xs (ys ++ zs) (m + i) blank
     ∙ ap (λ (k : ℕ). slice_index_or (ys ++ zs) (k + i) blank) two ∙ get_or-append-add ys zs i blank
 
--- where the ranges begin
-abbrev pub ranges_from : PolicyParts → ℕ
-ranges_from policy = length policy.channels + length policy.tasks
-
--- the values of the inputs
-abbrev pub inputs_of : PolicyParts → List (List ℕ) → List Value
-inputs_of policy inputs = sealed_inputs policy.longest policy.inputs inputs
-
 -- the number of a channel is its place
 pub channel-at : (policy : PolicyParts) (script : List Procedure) (inputs : List (List ℕ)) (i : ℕ) (channel : FileEntry) → slice_get policy.channels i ≡ Some channel
     → cell_at (start_of policy script inputs) i ≡ channel_cell channel
@@ -104,7 +96,7 @@ unfolding start_of
 job-at policy script inputs i task e =
     let within : i < length policy.tasks = slice_get_within policy.tasks i task e in
     middle-at (map channel_cell policy.channels) (job_cells script (inputs_of policy inputs) (ranges_from policy) policy.tasks) (replicate (cells_in_all policy.tasks) blank) (length policy.channels) i
-    (sym (length-map policy.channels channel_cell)) (omega (arith, length-job_cells script (inputs_of policy inputs) (ranges_from policy) policy.tasks))
+    (sym (length-map policy.channels channel_cell)) (omega (arith, length-job_cells script (inputs_of policy inputs) policy.tasks (ranges_from policy)))
     ∙ job_cells-at script (inputs_of policy inputs) (ranges_from policy) policy.tasks i task e
 
 -- nothing stands behind the tasks
@@ -115,7 +107,7 @@ nothing-behind policy script inputs k behind =
     let same : k ≡ length policy.channels + (length policy.tasks + i) = omega arith in
     ap (cell_at (start_of policy script inputs)) same
     ∙ right-at (map channel_cell policy.channels) (job_cells script (inputs_of policy inputs) (ranges_from policy) policy.tasks) (replicate (cells_in_all policy.tasks) blank)
-    (length policy.channels) (length policy.tasks) i (sym (length-map policy.channels channel_cell)) (sym (length-job_cells script (inputs_of policy inputs) (ranges_from policy) policy.tasks))
+    (length policy.channels) (length policy.tasks) i (sym (length-map policy.channels channel_cell)) (sym (length-job_cells script (inputs_of policy inputs) policy.tasks (ranges_from policy)))
     ∙ nothing-at (cells_in_all policy.tasks) i
 
 -- how many cells there are
@@ -128,7 +120,7 @@ length-start policy script inputs =
       length-append (map channel_cell policy.channels) (jobs ++ replicate (cells_in_all policy.tasks) blank),
       length-append jobs (replicate (cells_in_all policy.tasks) blank),
       length-map policy.channels channel_cell,
-      length-job_cells script (inputs_of policy inputs) (ranges_from policy) policy.tasks,
+      length-job_cells script (inputs_of policy inputs) policy.tasks (ranges_from policy),
       length-replicate (cells_in_all policy.tasks) blank,
     )
 

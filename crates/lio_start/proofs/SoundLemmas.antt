@@ -1,5 +1,5 @@
 -- Each first configuration is well-formed, part by part.
-use Rattle.std.proofs.Common.{◌≡◌, ◌∙◌, refl, sym, ap, subst, ℕ, zero, suc, ◌+◌, ◌<◌, ◌⊎◌, inl, inr, Bool, true, false, ◌&&◌, if◌then◌else◌, IsTrue, List, [], ◌∷◌, length, map, All, Option, Some, None, is_some, arith}
+use Rattle.std.proofs.Common.{◌≡◌, ◌∙◌, refl, sym, ap, subst, ℕ, zero, suc, ◌+◌, ◌<◌, ◌⊎◌, inl, inr, Bool, true, false, ◌&&◌, IsTrue, List, [], ◌∷◌, length, map, All, Option, Some, None, is_some, arith}
 use Rattle.std.specs.Prelude.{option_and_then, option_map, nat_le, slice_get, slice_index_or}
 use Rattle.std.proofs.lemmas.Bool.{leb-true, cases_order}
 use Rattle.std.proofs.lemmas.Bool.Decides.{Decides-eqb}
@@ -9,16 +9,14 @@ use Rattle.lio_labels.specs.declared.label.Label.{Label}
 use Rattle.lio_labels.specs.Equality.{same_formula, same_label}
 use Rattle.lio_labels.specs.Flow.{flows}
 use Rattle.lio_labels.proofs.FlowLemmas.{flow_is_reflexive}
-use Rattle.lio_values.specs.declared.fault.FaultKind.TheVariants.{TooLong}
 use Rattle.lio_values.specs.declared.value.Handle.{Handle}
 use Rattle.lio_values.specs.declared.value.Plain.{Plain}
 use Rattle.lio_values.specs.declared.value.Plain.TheVariants.{Unit as unit, Flag, Whole, Bytes, Lab, Power, RefOf, VarOf, ResultOf, ChanOf}
-use Rattle.lio_values.specs.declared.value.Content.TheVariants.{Kept, Faulted, Hidden}
+use Rattle.lio_values.specs.declared.value.Content.TheVariants.{Hidden}
 use Rattle.lio_values.specs.declared.value.Value.{Value}
 use Rattle.lio_values.specs.declared.value.Value.TheVariants.{Bare, Sealed}
 use Rattle.lio_syntax.specs.Statements.{Procedure}
 use Rattle.lio_syntax.specs.Beginnings.{number_of}
-use Rattle.lio_cells.specs.declared.state.State.TheVariants.{Job}
 use Rattle.lio_cells.specs.State.{Channel, is_job, label_of, result_of}
 use Rattle.lio_control.specs.Items.{open_calls}
 use Rattle.lio_calculus.specs.Task.{TaskState}
@@ -36,8 +34,8 @@ use Rattle.lio_policy.specs.declared.policy.Arg.{Arg}
 use Rattle.lio_policy.specs.declared.policy.Arg.TheVariants.{Input, Fixed}
 use Rattle.lio_start.specs.Fits.{procedure_of}
 use Rattle.lio_start.specs.Laws.{SaysLiterals, StartIsSound, IsShort, TextsAreShort}
-use Rattle.lio_start.specs.Start.{input_content, sealed_inputs, argument_of, task_of, channel_cell, start_of}
-use Rattle.lio_start.proofs.PlaceLemmas.{cells_before, before-later, before-all, ranges_from, inputs_of, channel-at, nothing-behind, length-start, Stands, Channel as channel, Task as job, Nothing as nothing, stands, IsBegun, begun}
+use Rattle.lio_start.specs.Start.{content_by, input_content, sealed_inputs, inputs_of, argument_of, task_of, channel_cell, job_cell, ranges_from, start_of}
+use Rattle.lio_start.proofs.PlaceLemmas.{cells_before, before-later, before-all, channel-at, nothing-behind, length-start, Stands, Channel as channel, Task as job, Nothing as nothing, stands, IsBegun, begun}
 
 -- a property of each argument: the inputs have it, and the values that stand in the policy
 inputs-each : (P : Value → Type 0) (longest : ℕ) → ((label : Label) (text : List ℕ) → P (Sealed label (input_content longest label text)))
@@ -68,14 +66,14 @@ arguments-each P policy p fixed inputs all (argument ∷ arguments) are =
 content-names : (c : Configuration) (longest : ℕ) (label : Label) (text : List ℕ) → ContentNames c (input_content longest label text)
 content-names c longest label text = by (nat_le (length text) longest)
   where
-    by : (b : Bool) → ContentNames c (if b then Kept (Bytes text) else Faulted (record { kind = TooLong; at = label }))
+    by : (b : Bool) → ContentNames c (content_by b label text)
     by true = tt
     by false = tt
 
 content-open : (longest : ℕ) (label : Label) (text : List ℕ) → input_content longest label text ≡ Hidden → ⊥
 content-open longest label text = by (nat_le (length text) longest)
   where
-    by : (b : Bool) → (if b then Kept (Bytes text) else Faulted (record { kind = TooLong; at = label })) ≡ Hidden → ⊥
+    by : (b : Bool) → content_by b label text ≡ Hidden → ⊥
     by true e = absurd (cc)
     by false e = absurd (cc)
 
@@ -128,7 +126,8 @@ body-says script name said = by_number (number_of script name)
 
 -- each task is as a well-formed configuration has it
 task-fine : (policy : PolicyParts) (script : List Procedure) (inputs : List (List ℕ)) (place : ℕ) (entry : TaskEntry) → IsPolicy policy → SaysLiterals script → slice_get policy.tasks place ≡ Some entry
-    → Fine (start_of policy script inputs) (Job entry.clearance None) (task_of script (inputs_of policy inputs) (ranges_from policy + cells_before policy.tasks place) entry)
+    → Fine (start_of policy script inputs) (job_cell script (inputs_of policy inputs) (ranges_from policy + cells_before policy.tasks place) entry).state
+    (task_of script (inputs_of policy inputs) (ranges_from policy + cells_before policy.tasks place) entry)
 unfolding task_of open_calls
 task-fine policy script inputs place entry is said e =
     let c : Configuration = start_of policy script inputs in
@@ -157,9 +156,9 @@ task-fine policy script inputs place entry is said e =
 
 -- a task that stands at a number, with its range
 begun-fine : (policy : PolicyParts) (script : List Procedure) (inputs : List (List ℕ)) (k : ℕ) (task : TaskState) → IsPolicy policy → SaysLiterals script → (b : IsBegun policy script inputs k task)
-    → Fine (start_of policy script inputs) (Job b.job.entry.clearance None) task
+    → Fine (start_of policy script inputs) (job_cell script (inputs_of policy inputs) (ranges_from policy + cells_before policy.tasks b.job.place) b.job.entry).state task
 begun-fine policy script inputs k task is said b =
-    subst (Fine (start_of policy script inputs) (Job b.job.entry.clearance None)) b.is (task-fine policy script inputs b.job.place b.job.entry is said b.job.is)
+    subst (Fine (start_of policy script inputs) (job_cell script (inputs_of policy inputs) (ranges_from policy + cells_before policy.tasks b.job.place) b.job.entry).state) b.is (task-fine policy script inputs b.job.place b.job.entry is said b.job.is)
 
 begun-first : (policy : PolicyParts) (script : List Procedure) (inputs : List (List ℕ)) (k : ℕ) (task : TaskState) (b : IsBegun policy script inputs k task)
     → task.first ≡ ranges_from policy + cells_before policy.tasks b.job.place
@@ -249,7 +248,7 @@ start_is_sound policy script inputs is said =
 input-short : (longest : ℕ) (label : Label) (text : List ℕ) → IsShort longest (Sealed label (input_content longest label text))
 input-short longest label text = by (nat_le (length text) longest) refl
   where
-    by : (b : Bool) → nat_le (length text) longest ≡ b → IsShort longest (Sealed label (if b then Kept (Bytes text) else Faulted (record { kind = TooLong; at = label })))
+    by : (b : Bool) → nat_le (length text) longest ≡ b → IsShort longest (Sealed label (content_by b label text))
     by true e = leb-true (length text) longest e
     by false e = tt
 

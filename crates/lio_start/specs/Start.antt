@@ -1,5 +1,5 @@
 -- The first configuration of a policy and a script, over the texts of the inputs: the channels, then the tasks, then the numbers that the tasks own.
-use Rattle.std.specs.Prelude.{ℕ, ◌+◌, nat_le, false, if◌then◌else◌, List, [], ◌∷◌, ◌++◌, map, length, sum_by, replicate, Option, Some, None, slice_index_or}
+use Rattle.std.specs.Prelude.{ℕ, ◌+◌, nat_le, Bool, true, false, List, [], ◌∷◌, ◌++◌, map, length, sum_by, replicate, Option, Some, None, slice_index_or}
 use Rattle.lio_values.specs.declared.fault.FaultKind.TheVariants.{TooLong}
 use Rattle.lio_values.specs.declared.value.Plain.TheVariants.{Unit as unit, Bytes}
 use Rattle.lio_values.specs.declared.value.Content.{Content}
@@ -20,15 +20,24 @@ use Rattle.lio_policy.specs.declared.policy.Arg.{Arg}
 use Rattle.lio_policy.specs.declared.policy.Arg.TheVariants.{Input, Fixed}
 use Rattle.lio_start.specs.Fits.{procedure_of}
 
--- what is in an input: its text, or a fault at the input's label where the text is longer than texts may be
+-- what is in an input: its text where that fits, else a fault at the input's label
+abbrev pub content_by : Bool → Label → List ℕ → Content
+content_by true label text = Kept (Bytes text)
+content_by false label text = Faulted (record { kind = TooLong; at = label })
+
+-- a text fits where it isn't longer than texts may be
 abbrev pub input_content : ℕ → Label → List ℕ → Content
-input_content longest label text = if nat_le (length text) longest then Kept (Bytes text) else Faulted (record { kind = TooLong; at = label })
+input_content longest label text = content_by (nat_le (length text) longest) label text
 
 -- the inputs with their texts, each sealed under its label
 abbrev pub sealed_inputs : ℕ → List FileEntry → List (List ℕ) → List Value
 sealed_inputs longest [] texts = []
 sealed_inputs longest (input ∷ inputs) [] = []
 sealed_inputs longest (input ∷ inputs) (text ∷ texts) = Sealed input.label (input_content longest input.label text) ∷ sealed_inputs longest inputs texts
+
+-- the inputs of a policy
+abbrev pub inputs_of : PolicyParts → List (List ℕ) → List Value
+inputs_of policy texts = sealed_inputs policy.longest policy.inputs texts
 
 -- what an argument is, over the sealed inputs
 abbrev pub argument_of : List Value → Arg → Value
@@ -67,11 +76,15 @@ job_cells script inputs first (task ∷ tasks) = job_cell script inputs first ta
 abbrev pub cells_in_all : List TaskEntry → ℕ
 cells_in_all tasks = sum_by (λ task. task.cells) tasks
 
--- the first configuration
+-- the first number behind the channels and the tasks
+abbrev pub ranges_from : PolicyParts → ℕ
+ranges_from policy = length policy.channels + length policy.tasks
+
+-- the first configuration, over the texts of the inputs
 unfoldable pub start_of : PolicyParts → List Procedure → List (List ℕ) → Configuration
-start_of policy script inputs = record {
+start_of policy script texts = record {
   program = record { procedures = script; longest = policy.longest };
   cells = map channel_cell policy.channels
-      ++ (job_cells script (sealed_inputs policy.longest policy.inputs inputs) (length policy.channels + length policy.tasks) policy.tasks
+      ++ (job_cells script (inputs_of policy texts) (ranges_from policy) policy.tasks
       ++ replicate (cells_in_all policy.tasks) blank);
 }

@@ -20,7 +20,6 @@ pub fn literals_are_said()
 {}
 
 /// Each first configuration is well-formed.
-#[tactic(auto, using(crate::proofs::LawLemmas::start_is_sound))]
 pub fn start_is_sound()
     ensures { StartIsSound }
 {}
