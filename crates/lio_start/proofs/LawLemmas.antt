@@ -1,7 +1,8 @@
 -- The laws.
-use Rattle.lio_start.specs.Laws.{EachTaskFits, FaultIsOfFirst, LiteralsAreSaid, StartIsSound, TextsAreShort}
+use Rattle.lio_start.specs.Laws.{EachTaskFits, FaultIsOfFirst, LiteralsAreSaid, StartIsSound, CellsStandInOrder, EachTaskBegins, TextsAreShort}
 use Rattle.lio_start.proofs.FitsLemmas as of_fits
 use Rattle.lio_start.proofs.LiteralLemmas as of_literals
+use Rattle.lio_start.proofs.PlaceLemmas as of_cells
 use Rattle.lio_start.proofs.SoundLemmas as of_start
 
 pub each_task_fits : EachTaskFits
@@ -15,6 +16,12 @@ literals_are_said = of_literals.literals_are_said
 
 pub start_is_sound : StartIsSound
 start_is_sound = of_start.start_is_sound
+
+pub cells_stand_in_order : CellsStandInOrder
+cells_stand_in_order = of_cells.cells_stand_in_order
+
+pub each_task_begins : EachTaskBegins
+each_task_begins = of_start.each_task_begins
 
 pub texts_are_short : TextsAreShort
 texts_are_short = of_start.texts_are_short

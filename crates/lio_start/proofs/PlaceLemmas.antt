@@ -1,5 +1,5 @@
 -- Which cell of a first configuration stands at a number: a channel, the job of a task, or nothing.
-use Rattle.std.proofs.Common.{◌≡◌, ◌∙◌, refl, sym, ap, ℕ, zero, suc, ◌+◌, ◌-◌, ◌<◌, ◌≤◌, ◌⊎◌, inl, inr, List, [], ◌∷◌, ◌++◌, length, map, Option, Some, None, arith}
+use Rattle.std.proofs.Common.{◌≡◌, ◌∙◌, refl, sym, ap, ℕ, zero, suc, ◌+◌, ◌-◌, ◌<◌, ◌≤◌, ◌⊎◌, inl, inr, List, [], ◌∷◌, ◌++◌, length, take, map, Option, Some, None, arith}
 use Rattle.std.specs.Prelude.{slice_get, slice_index_or, replicate, option_map}
 use Rattle.std.proofs.lemmas.Bool.{cases_order}
 use Rattle.std.proofs.lemmas.List.{length-append, length-map, length-replicate, get_or_append_left, get_or-append-add, get_or-replicate, get_or_past}
@@ -13,6 +13,7 @@ use Rattle.lio_calculus.specs.Sound.{IsTaskOf}
 use Rattle.lio_policy.specs.Policy.{PolicyParts}
 use Rattle.lio_policy.specs.declared.policy.FileEntry.{FileEntry}
 use Rattle.lio_policy.specs.declared.policy.TaskEntry.{TaskEntry}
+use Rattle.lio_start.specs.Laws.{CellsStandInOrder}
 use Rattle.lio_start.specs.Start.{inputs_of, task_of, channel_cell, job_cell, job_cells, cells_in_all, ranges_from, start_of}
 
 -- how many numbers the tasks before a place own
@@ -38,6 +39,12 @@ pub before-all : (tasks : List TaskEntry) (i : ℕ) (task : TaskEntry) → slice
 before-all [] i task e = absurd (cc)
 before-all (first ∷ tasks) zero task e = let is : first ≡ task = cc in omega (arith, ap (λ (t : TaskEntry). t.cells) is, sum_by-cons (λ (t : TaskEntry). t.cells) first tasks)
 before-all (first ∷ tasks) (suc i) task e = omega (arith, before-all tasks i task e, sum_by-cons (λ (t : TaskEntry). t.cells) first tasks)
+
+pub before-sum : (tasks : List TaskEntry) (i : ℕ) → cells_before tasks i ≡ cells_in_all (take i tasks)
+before-sum [] zero = refl
+before-sum [] (suc i) = refl
+before-sum (first ∷ tasks) zero = refl
+before-sum (first ∷ tasks) (suc i) = ap (λ (n : ℕ). first.cells + n) (before-sum tasks i) ∙ sym (sum_by-cons (λ (t : TaskEntry). t.cells) first (take i tasks))
 
 -- the jobs
 length-job_cells : (script : List Procedure) (inputs : List Value) (tasks : List TaskEntry) (first : ℕ) → length (job_cells script inputs first tasks) ≡ length tasks
@@ -173,3 +180,11 @@ begun policy script inputs k task e = by (stands policy script inputs k)
     by (Channel channel) = let none : None ≡ Some task = sym (ap (λ (cell : Cell). cell.task) channel.cell) ∙ e in absurd (cc)
     by (Task job) = record { job = job; is = some _ task (sym (ap (λ (cell : Cell). cell.task) job.cell) ∙ e) }
     by (Nothing nothing) = let none : None ≡ Some task = sym (ap (λ (cell : Cell). cell.task) nothing) ∙ e in absurd (cc)
+
+pub cells_stand_in_order : CellsStandInOrder
+cells_stand_in_order policy script texts = record {
+  channels = channel-at policy script texts;
+  tasks = λ i task e. job-at policy script texts i task e ∙ ap (λ (n : ℕ). job_cell script (inputs_of policy texts) (ranges_from policy + n) task) (before-sum policy.tasks i);
+  free = nothing-behind policy script texts;
+  size = length-start policy script texts;
+}

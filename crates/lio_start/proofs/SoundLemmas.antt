@@ -18,7 +18,8 @@ use Rattle.lio_values.specs.declared.value.Value.TheVariants.{Bare, Sealed}
 use Rattle.lio_syntax.specs.Statements.{Procedure}
 use Rattle.lio_syntax.specs.Beginnings.{number_of}
 use Rattle.lio_cells.specs.State.{Channel, is_job, label_of, result_of}
-use Rattle.lio_control.specs.Items.{open_calls}
+use Rattle.lio_control.specs.Environment.{bind_all}
+use Rattle.lio_control.specs.Items.{enter, open_calls}
 use Rattle.lio_calculus.specs.Task.{TaskState}
 use Rattle.lio_calculus.specs.Step.{Cell, Configuration, blank, cell_at, is_named, body_of, parameters_of}
 use Rattle.lio_calculus.specs.Sound.{Names, ContentNames, ValueNames, IsOpen, EachBound, EachInItem, EachInState, IsNoAccess, block_says, IsTaskOf, IsInRange}
@@ -32,10 +33,11 @@ use Rattle.lio_policy.specs.declared.policy.FileEntry.{FileEntry}
 use Rattle.lio_policy.specs.declared.policy.TaskEntry.{TaskEntry}
 use Rattle.lio_policy.specs.declared.policy.Arg.{Arg}
 use Rattle.lio_policy.specs.declared.policy.Arg.TheVariants.{Input, Fixed}
-use Rattle.lio_start.specs.Fits.{procedure_of}
-use Rattle.lio_start.specs.Laws.{SaysLiterals, StartIsSound, IsShort, TextsAreShort}
+use Rattle.lio_start.specs.Fits.{procedure_of, Fits}
+use Rattle.lio_start.specs.Laws.{SaysLiterals, StartIsSound, IsShort, TextsAreShort, Begins, EachTaskBegins}
 use Rattle.lio_start.specs.Start.{content_by, input_content, sealed_inputs, inputs_of, argument_of, task_of, channel_cell, job_cell, ranges_from, start_of}
-use Rattle.lio_start.proofs.PlaceLemmas.{cells_before, before-later, before-all, channel-at, nothing-behind, length-start, Stands, Channel as channel, Task as job, Nothing as nothing, stands, IsBegun, begun}
+use Rattle.lio_start.proofs.FitsLemmas.{each_task_fits}
+use Rattle.lio_start.proofs.PlaceLemmas.{cells_before, before-later, before-all, channel-at, job-at, nothing-behind, length-start, Stands, Channel as channel, Task as job, Nothing as nothing, stands, IsBegun, begun}
 
 -- a property of each argument: the inputs have it, and the values that stand in the policy
 inputs-each : (P : Value → Type 0) (longest : ℕ) → ((label : Label) (text : List ℕ) → P (Sealed label (input_content longest label text)))
@@ -276,3 +278,22 @@ pub texts_are_short : TextsAreShort
 texts_are_short policy script inputs k task is i =
     let b = begun policy script inputs k task i in
     subst (λ (t : TaskState). EachBound (IsShort policy.longest) t.environment) b.is (task-short policy script inputs _ b.job.place b.job.entry is b.job.is)
+
+-- where nothing is wrong each task begins its procedure
+fit-begins : (script : List Procedure) (inputs : List Value) (first : ℕ) (entry : TaskEntry) → Fits script entry → Begins script inputs entry (task_of script inputs first entry)
+unfolding task_of
+fit-begins script inputs first entry fit = record {
+  procedure = fit.procedure;
+  is = fit.is;
+  items = ap (λ (p : Option Procedure). enter (body_of p) []) fit.is;
+  environment = ap (λ (p : Option Procedure). bind_all [] (parameters_of p) (map (argument_of inputs) entry.args)) fit.is;
+  arity = fit.arity;
+}
+
+pub each_task_begins : EachTaskBegins
+each_task_begins policy script texts i entry none is = (
+  task_of script (inputs_of policy texts) (ranges_from policy + cells_before policy.tasks i) entry,
+  ap (λ (cell : Cell). cell.task) (job-at policy script texts i entry is),
+  fit-begins script (inputs_of policy texts) (ranges_from policy + cells_before policy.tasks i) entry
+      (All-slice_get (Fits script) policy.tasks i entry ((each_task_fits script policy.tasks).0 none) is),
+)

@@ -1,5 +1,5 @@
 -- The laws of the start.
-use Rattle.std.specs.Prelude.{◌≡◌, ◌↔◌, ◌≤◌, ℕ, List, All, IsTrue, Some, None, take, slice_get, length}
+use Rattle.std.specs.Prelude.{◌≡◌, ◌↔◌, ◌≤◌, ◌+◌, ℕ, List, [], All, IsTrue, Some, None, take, map, slice_get, length}
 use Rattle.lio_values.specs.declared.value.Plain.TheVariants.{Bytes}
 use Rattle.lio_values.specs.declared.value.Plain.{Plain}
 use Rattle.lio_values.specs.declared.value.Content.TheVariants.{Kept, Faulted, Hidden}
@@ -8,13 +8,17 @@ use Rattle.lio_values.specs.declared.value.Value.TheVariants.{Bare, Sealed}
 use Rattle.lio_syntax.specs.Statements.{Procedure}
 use Rattle.lio_syntax.specs.Lines.{script_lines}
 use Rattle.lio_syntax.specs.Kept as kept
+use Rattle.lio_control.specs.Environment.{bind_all}
+use Rattle.lio_control.specs.Items.{enter}
 use Rattle.lio_calculus.specs.Task.{TaskState}
+use Rattle.lio_calculus.specs.Step.{blank, cell_at}
 use Rattle.lio_calculus.specs.Sound.{block_says, EachBound, IsTaskOf, IsSound}
 use Rattle.lio_policy.specs.Policy.{PolicyParts, IsPolicy}
+use Rattle.lio_policy.specs.declared.policy.FileEntry.{FileEntry}
 use Rattle.lio_policy.specs.declared.policy.TaskEntry.{TaskEntry}
 use Rattle.lio_start.specs.declared.fault.StartFault.{StartFault}
-use Rattle.lio_start.specs.Fits.{Fits, fault_of, fits}
-use Rattle.lio_start.specs.Start.{start_of}
+use Rattle.lio_start.specs.Fits.{Fits, fault_of, fits, procedure_of}
+use Rattle.lio_start.specs.Start.{inputs_of, argument_of, channel_cell, job_cell, cells_in_all, ranges_from, start_of}
 
 -- nothing is wrong exactly where each task fits
 abbrev pub EachTaskFits : Type 0
@@ -42,6 +46,32 @@ LiteralsAreSaid = (script : List Procedure) → kept.SaysLiterals (script_lines 
 -- the first configuration of a policy and a script is well-formed, whatever the inputs are
 abbrev pub StartIsSound : Type 0
 StartIsSound = (policy : PolicyParts) (script : List Procedure) (inputs : List (List ℕ)) → IsPolicy policy → SaysLiterals script → IsSound (start_of policy script inputs)
+
+-- Which cell stands at which number: the channels and then the jobs of the tasks, both in the policy's order, and behind them nothing. Each task's range begins behind those of the
+-- tasks before it, and the last ends where the configuration does.
+pub record StandInOrder (policy : PolicyParts) (script : List Procedure) (texts : List (List ℕ)) : Type 0 where
+  pub channels : (i : ℕ) (channel : FileEntry) → slice_get policy.channels i ≡ Some channel → cell_at (start_of policy script texts) i ≡ channel_cell channel
+  pub tasks : (i : ℕ) (task : TaskEntry) → slice_get policy.tasks i ≡ Some task
+      → cell_at (start_of policy script texts) (length policy.channels + i) ≡ job_cell script (inputs_of policy texts) (ranges_from policy + cells_in_all (take i policy.tasks)) task
+  pub free : (k : ℕ) → ranges_from policy ≤ k → cell_at (start_of policy script texts) k ≡ blank
+  pub size : length (start_of policy script texts).cells ≡ ranges_from policy + cells_in_all policy.tasks
+
+abbrev pub CellsStandInOrder : Type 0
+CellsStandInOrder = (policy : PolicyParts) (script : List Procedure) (texts : List (List ℕ)) → StandInOrder policy script texts
+
+-- a task begins the procedure that the policy names: it has the procedure's body to do, and each parameter is bound to one argument
+pub record Begins (script : List Procedure) (inputs : List Value) (entry : TaskEntry) (task : TaskState) : Type 0 where
+  pub procedure : Procedure
+  pub is : procedure_of script entry.proc_name ≡ Some procedure
+  pub items : task.items ≡ enter procedure.body []
+  pub environment : task.environment ≡ bind_all [] procedure.parameters (map (argument_of inputs) entry.args)
+  pub arity : length procedure.parameters ≡ length entry.args
+
+-- where nothing is wrong each task of the policy begins its procedure
+abbrev pub EachTaskBegins : Type 0
+EachTaskBegins = (policy : PolicyParts) (script : List Procedure) (texts : List (List ℕ)) (i : ℕ) (entry : TaskEntry)
+    → fits policy.tasks script ≡ None → slice_get policy.tasks i ≡ Some entry
+    → (task : TaskState) × IsTaskOf (start_of policy script texts) (length policy.channels + i) task × Begins script (inputs_of policy texts) entry task
 
 -- a value's text, bare or sealed, has at most so many bytes
 abbrev pub PlainIsShort : ℕ → Plain → Type 0

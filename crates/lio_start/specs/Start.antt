@@ -25,7 +25,7 @@ abbrev pub content_by : Bool → Label → List ℕ → Content
 content_by true label text = Kept (Bytes text)
 content_by false label text = Faulted (record { kind = TooLong; at = label })
 
--- a text fits where it isn't longer than texts may be
+-- it fits where it isn't longer than texts may be
 abbrev pub input_content : ℕ → Label → List ℕ → Content
 input_content longest label text = content_by (nat_le (length text) longest) label text
 
@@ -39,7 +39,7 @@ sealed_inputs longest (input ∷ inputs) (text ∷ texts) = Sealed input.label (
 abbrev pub inputs_of : PolicyParts → List (List ℕ) → List Value
 inputs_of policy texts = sealed_inputs policy.longest policy.inputs texts
 
--- what an argument is, over the sealed inputs
+-- what an argument is, over the sealed inputs; each input that a policy names is there
 abbrev pub argument_of : List Value → Arg → Value
 argument_of inputs (Input place) = slice_index_or inputs place (Bare unit)
 argument_of inputs (Fixed plain) = Bare plain

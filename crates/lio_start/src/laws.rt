@@ -1,5 +1,5 @@
 //! The laws of the start. Each function does nothing: its contract is the law.
-ghost use Rattle.lio_start.specs.Laws.{EachTaskFits, FaultIsOfFirst, LiteralsAreSaid, StartIsSound, TextsAreShort};
+ghost use Rattle.lio_start.specs.Laws.{CellsStandInOrder, EachTaskBegins, EachTaskFits, FaultIsOfFirst, LiteralsAreSaid, StartIsSound, TextsAreShort};
 
 /// Nothing is wrong exactly where each task can begin.
 #[tactic(auto, using(crate::proofs::LawLemmas::each_task_fits))]
@@ -22,6 +22,16 @@ pub fn literals_are_said()
 /// Each first configuration is well-formed.
 pub fn start_is_sound()
     ensures { StartIsSound }
+{}
+
+/// The channels, the jobs of the tasks and the tasks' ranges have their numbers in the policy's order.
+pub fn cells_stand_in_order()
+    ensures { CellsStandInOrder }
+{}
+
+/// Where all tasks fit each begins its procedure, with an argument for each parameter.
+pub fn each_task_begins()
+    ensures { EachTaskBegins }
 {}
 
 /// No task begins with a text that is longer than texts may be.
