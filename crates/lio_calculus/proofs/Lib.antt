@@ -30,5 +30,6 @@ pub mod SoundAfter
 pub mod ActorKept
 pub mod StepKept
 pub mod RunLemmas
+pub mod EnabledLemmas
 pub mod AffordedLemmas
 pub mod MeetingLemmas

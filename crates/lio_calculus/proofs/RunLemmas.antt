@@ -210,6 +210,14 @@ shows ticket c k task turn is steps =
     by None moves got = absurd (cc)
     by (Some move) moves got = let made : Turn = record { entry = entry_of ticket k task move; next = after c k task move } in let equal : made ≡ turn = cc in record { move = move; moves = moves; is = sym equal }
 
+-- so a turn above an observer shows no release to it
+pub step-released : (observer : Label) (ticket : ℕ) (c : Configuration) (k : ℕ) (task : TaskState) (turn : Turn) → IsSound c → IsTaskOf c k task → flows task.label observer ≡ false → step ticket c k ≡ Some turn
+    → released_to observer turn.entry.act turn.entry.reply ≡ []
+step-released observer ticket c k task turn sound is above steps =
+    let s = shows ticket c k task turn is steps in
+    ap (λ (t : Turn). released_to observer t.entry.act t.entry.reply) s.is
+    ∙ move-released observer c k task (plan c.program task) s.move above (turn-guarded ticket c k task turn sound is steps) (plan-up c.program task) s.moves
+
 again : (ticket n : ℕ) (c : Configuration) (k : ℕ) (task : TaskState) (turn : Turn) → IsTaskOf c k task → Shows ticket c k task turn → step n c k ≡ Some (record { entry = record turn.entry { ticket = n }; next = turn.next })
 unfolding step
 again ticket n c k task turn is s =

@@ -12,10 +12,10 @@ use Rattle.lio_values.specs.declared.act.Reply.TheVariants.{Done}
 use Rattle.lio_values.specs.Erasure.{erase_reply}
 use Rattle.lio_cells.specs.declared.state.State.{State}
 use Rattle.lio_cells.specs.declared.state.State.TheVariants.{Absent}
-use Rattle.lio_cells.specs.State.{ready, answer}
+use Rattle.lio_cells.specs.State.{Reference, Variable, Channel, Result, ready, answer}
 use Rattle.lio_calculus.specs.Task.{TaskState}
 use Rattle.lio_calculus.specs.Going.{Onward}
-use Rattle.lio_calculus.specs.Plan.{Program, Plan, Over, Own, Visit, Target}
+use Rattle.lio_calculus.specs.Plan.{Program, Plan, Over, Own, Visit, Target, Node, New}
 use Rattle.lio_calculus.specs.Hiding.{hide_asked, hide_onward, hide_plan}
 use Rattle.lio_calculus.specs.Step.{Cell, Configuration, blank, cell_at, number_of, is_met, met, waits, visit, Move, move_of}
 use Rattle.lio_calculus.specs.Erased.{label_of_cell, sees, hide_state, hide_cell, erase_cell, erase}
@@ -131,3 +131,71 @@ low-move observer c k task (Visit asked target onward) move visible guarded move
             let (label, has, below) = guarded.below waiting in
             let seen : sees observer (cell_at c (number_of target)) ≡ true = ap (λ (l : Option Label). option_map_or (λ x. flows x observer) l false) has ∙ flow_is_transitive label task.label observer below visible in
             absurd (cc)
+
+-- where nothing is no handle names a cell, and nothing is ready for what waits
+met-absent : (target : Target) → met target Absent ≡ Absent
+met-absent (Node Reference handle) = refl
+met-absent (Node Variable handle) = refl
+met-absent (Node Channel handle) = refl
+met-absent (Node Result handle) = refl
+met-absent (New number) = refl
+
+absent-unready : (asked : Act) → waits asked ≡ true → ready Absent asked ≡ false
+unfolding ready
+absent-unready act.Read is = refl
+absent-unready act.Take is = refl
+absent-unready (act.Put value) is = refl
+absent-unready act.Wait is = refl
+absent-unready (act.Release source target power content) is = absurd (cc)
+absent-unready (act.Write value) is = absurd (cc)
+absent-unready (act.NewRef label value) is = absurd (cc)
+absent-unready (act.NewVar label value) is = absurd (cc)
+absent-unready (act.Fork birth) is = absurd (cc)
+absent-unready (act.Spawn birth) is = absurd (cc)
+absent-unready (act.Send text) is = absurd (cc)
+absent-unready (act.Ended content) is = absurd (cc)
+absent-unready act.Step is = absurd (cc)
+absent-unready (act.Seal label) is = absurd (cc)
+absent-unready (act.Raise op label) is = absurd (cc)
+absent-unready (act.Lower label) is = absurd (cc)
+
+halted : (b : Bool) (own : Move) → (if b then None else Some own) ≡ None → b ≡ true
+halted true own is = refl
+halted false own is = absurd (cc)
+
+both-first : (a b : Bool) → (a && b) ≡ true → a ≡ true
+both-first true b is = refl
+both-first false b is = absurd (cc)
+
+-- a task that can't move can't move in the erased calculus either
+pub low-still : (observer : Label) (c : Configuration) (p : Plan) → move_of (cell_at c) p ≡ None → move_of (cell_at (erase observer c)) (hide_plan observer p) ≡ None
+low-still observer c Over still = refl
+low-still observer c (Own asked reply onward) still = absurd (cc)
+low-still observer c (Visit asked target onward) still =
+    ap (λ (x : Cell). low_visit (met target x.state)) (cell_at-erased observer c (number_of target)) ∙ by_sight (sees observer cell) refl
+  where
+    cell : Cell
+    cell = cell_at c (number_of target)
+
+    here : State
+    here = met target cell.state
+
+    low_visit : State → Option Move
+    low_visit state = visit (hide_asked observer asked) target (hide_onward observer onward) state
+
+    held_up : (state : State) → (waits (hide_asked observer asked) && not (ready state (hide_asked observer asked))) ≡ true → low_visit state ≡ None
+    held_up state is = ap (λ (b : Bool). if b then None else Some (record { act = hide_asked observer asked; target = Some target; reply = answer state (hide_asked observer asked); onward = hide_onward observer onward })) is
+
+    waiting : (waits asked && not (ready here asked)) ≡ true
+    waiting = halted (waits asked && not (ready here asked)) (record { act = asked; target = Some target; reply = answer here asked; onward = onward }) still
+
+    by_sight : (b : Bool) → sees observer cell ≡ b → low_visit (met target (erase_cell observer cell).state) ≡ None
+    by_sight true is =
+        ap (λ (x : Cell). low_visit (met target x.state)) (erase_cell-seen observer cell is) ∙ ap low_visit (met-hidden observer target cell.state)
+        ∙ held_up (hide_state observer here)
+        (ap (λ (w : Bool). w && not (ready (hide_state observer here) (hide_asked observer asked))) (waits-hidden observer asked) ∙ ap (λ (r : Bool). waits asked && not r) (ready-hidden observer here asked) ∙ waiting)
+    by_sight false is =
+        let low_waits : waits (hide_asked observer asked) ≡ true = waits-hidden observer asked ∙ both-first (waits asked) (not (ready here asked)) waiting in
+        ap (λ (x : Cell). low_visit (met target x.state)) (erase_cell-unseen observer cell is) ∙ ap low_visit (met-absent target)
+        ∙ held_up Absent
+        (ap (λ (w : Bool). w && not (ready Absent (hide_asked observer asked))) low_waits ∙ ap not (absent-unready (hide_asked observer asked) low_waits))

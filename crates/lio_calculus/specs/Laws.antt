@@ -21,6 +21,12 @@ UnseenTurnChangesNothing = (observer : Label) (ticket : ℕ) (c : Configuration)
     → IsSound c → IsTaskOf c k task → IsFalse (flows task.label observer) → step ticket c k ≡ Some turn
     → erase observer turn.next ≡ erase observer c
 
+-- nor does it release anything to the observer
+abbrev pub UnseenTurnReleasesNothing : Type 0
+UnseenTurnReleasesNothing = (observer : Label) (ticket : ℕ) (c : Configuration) (k : ℕ) (task : TaskState) (turn : Turn)
+    → IsSound c → IsTaskOf c k task → IsFalse (flows task.label observer) → step ticket c k ≡ Some turn
+    → released_to observer turn.entry.act turn.entry.reply ≡ []
+
 -- the turn of a task whose label flows to the observer's is the turn of the erased calculus: it shows the erased entry, leads to the erased
 -- configuration, and takes the contents that it releases to the observer from the front of those that were released
 abbrev pub SeenTurnIsErasedTurn : Type 0

@@ -9,5 +9,6 @@ pub mod Guarded
 pub mod Sound
 pub mod Laws
 pub mod Run
+pub mod Enabled
 pub mod Afforded
 pub mod Meeting

@@ -1,7 +1,8 @@
 //! The laws of the calculus. Each function does nothing: its contract is the law.
 ghost use Rattle.lio_calculus.specs.Afforded.{PlanAfforded};
+ghost use Rattle.lio_calculus.specs.Enabled.{LowTurnsWhereEnabled, SeenTaskIsEnabledBelow};
 ghost use Rattle.lio_calculus.specs.Hiding.{PlanHidden};
-ghost use Rattle.lio_calculus.specs.Laws.{RunIsErasedRun, SeenTurnIsErasedTurn, TurnKeepsSoundness, UnseenTurnChangesNothing};
+ghost use Rattle.lio_calculus.specs.Laws.{RunIsErasedRun, SeenTurnIsErasedTurn, TurnKeepsSoundness, UnseenTurnChangesNothing, UnseenTurnReleasesNothing};
 ghost use Rattle.lio_calculus.specs.Meeting.{VisitMeetsNode};
 
 /// The plan of a task that is seen with hidden values is its plan with hidden values.
@@ -32,6 +33,11 @@ pub fn unseen_turn_changes_nothing()
     ensures { UnseenTurnChangesNothing }
 {}
 
+/// A turn above an observer releases nothing to it.
+pub fn unseen_turn_releases_nothing()
+    ensures { UnseenTurnReleasesNothing }
+{}
+
 /// A turn below an observer is the turn of the erased calculus.
 #[tactic(auto, using(crate::proofs::LawLemmas::seen_turn_is_erased_turn))]
 pub fn seen_turn_is_erased_turn()
@@ -41,4 +47,14 @@ pub fn seen_turn_is_erased_turn()
 /// A run, seen by an observer, is the run of the erased calculus from what the observer sees, and gives the view.
 pub fn run_is_erased_run()
     ensures { RunIsErasedRun }
+{}
+
+/// A task below an observer can take a turn of the erased calculus exactly where it can take one of the calculus.
+pub fn seen_task_is_enabled_below()
+    ensures { SeenTaskIsEnabledBelow }
+{}
+
+/// The erased step is undefined only for a task that can't take a turn, or for want of a released content.
+pub fn low_turns_where_enabled()
+    ensures { LowTurnsWhereEnabled }
 {}
