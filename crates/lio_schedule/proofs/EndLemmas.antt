@@ -70,7 +70,7 @@ round-runs actors last =
     (λ k order c done stays goes later. goes later)
 
 -- a round keeps a configuration well-formed
-round-sound : (order : List ℕ) (c : Configuration) → IsSound c → IsSound (round stepped order c).after
+pub round-sound : (order : List ℕ) (c : Configuration) → IsSound c → IsSound (round stepped order c).after
 round-sound =
     round-each stepped (λ order c done. IsSound c → IsSound done.after)
     (λ c sound. sound)

@@ -7,3 +7,8 @@ pub mod RoundLemmas
 pub mod EndLemmas
 pub mod NewLemmas
 pub mod OrderLemmas
+pub mod LowMeasure
+pub mod FloatLemmas
+pub mod LowRoundLemmas
+pub mod LowTasks
+pub mod LowEndLemmas

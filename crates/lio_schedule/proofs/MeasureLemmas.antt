@@ -29,7 +29,7 @@ measure-with_cell : (c : Configuration) (n : ℕ) (cell : Cell) → n < length c
 measure-with_cell c n cell within = sum_by-set (λ (x : Cell). weight x.task) c.cells n cell blank within
 
 -- what an act's target weighs more after it
-abbrev newborn : Program → Label → Act → Option Target → ℕ
+abbrev pub newborn : Program → Label → Act → Option Target → ℕ
 newborn program label asked None = 0
 newborn program label asked (Some target) = weight (born program label asked)
 
@@ -55,7 +55,7 @@ measure-met c label asked (Some target) = by (is_met target (cell_at c (number_o
     by false = omega arith
 
 -- a turn, by what the actor weighs after it
-measure-after : (c : Configuration) (k : ℕ) (task : TaskState) (move : Move) → IsTaskOf c k task
+pub measure-after : (c : Configuration) (k : ℕ) (task : TaskState) (move : Move) → IsTaskOf c k task
     → measure (after c k task move) + weight (Some task) ≤ measure c + newborn c.program task.label move.act move.target + weight (Some (gone_on task move.onward move.act move.reply))
 measure-after c k task move is =
     let between : Configuration = target_after c task.label move.act move.target in
@@ -88,7 +88,7 @@ weight-gone_on : (task : TaskState) (onward : Onward) (asked : Act) (reply : Rep
 weight-gone_on task onward asked reply = omega (arith, weight-turns (gone_on task onward asked reply), gone_on-turns task onward asked reply)
 
 -- what a move adds and what it takes
-abbrev Lowers : Configuration → TaskState → Move → Type 0
+abbrev pub Lowers : Configuration → TaskState → Move → Type 0
 Lowers c task move = newborn c.program task.label move.act move.target + weight (Some (gone_on task move.onward move.act move.reply)) < weight (Some task)
 
 -- a task that goes on and has turns
@@ -115,7 +115,7 @@ ending-lowers c task move going moves =
     let weighs : weight (Some task) ≡ 2 * task.turns + 1 = ap (λ (b : Bool). 2 * task.turns + (if b then 0 else 1)) going in
     subst (Lowers c task) same (omega (arith, weighs))
 
-move-lowers : (c : Configuration) (task : TaskState) (move : Move) → move_of (cell_at c) (plan c.program task) ≡ Some move → Lowers c task move
+pub move-lowers : (c : Configuration) (task : TaskState) (move : Move) → move_of (cell_at c) (plan c.program task) ≡ Some move → Lowers c task move
 unfolding plan
 move-lowers c task move moves = by task.ended (task.turns == 0) refl refl moves
   where

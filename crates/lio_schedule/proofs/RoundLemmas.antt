@@ -107,3 +107,16 @@ rounds_within-go_on {S} stepped weight lowers order s =
     let first : rounds_within stepped (suc (weight s)) order s ≡ followed done.moved (rounds_within stepped (weight s) (order_after order done) done.after) = unfold rounds_within in refl in
     rounds_within-enough stepped weight lowers (weight s) (suc (weight s)) order s (omega arith) (omega arith) ∙ first
     ∙ ap (followed done.moved) (rounds_within-enough stepped weight lowers (weight s) (weight done.after) (order_after order done) done.after (omega (arith, lower)) (omega arith))
+
+-- a round that moves nothing changes nothing, and so does each number of rounds after it
+pub round-idle : {S : Type 0} (stepped : S → ℕ → Option (Taken S)) (order : List ℕ) (s : S) → (round stepped order s).moved ≡ [] → round stepped order s ≡ record { moved = []; born = []; after = s }
+round-idle {S} stepped =
+    round-each stepped (λ order s done. done.moved ≡ [] → done ≡ record { moved = []; born = []; after = s }) (λ s nothing. refl)
+    (λ k order s t done steps idle nothing. absurd (cc))
+    (λ k order s done stays idle nothing. idle nothing)
+
+pub rounds-idle : {S : Type 0} (stepped : S → ℕ → Option (Taken S)) (count : ℕ) (order : List ℕ) (s : S) → (round stepped order s).moved ≡ [] → rounds_within stepped count order s ≡ []
+unfolding rounds_within
+rounds-idle stepped zero order s nothing = refl
+rounds-idle {S} stepped (suc count) order s nothing =
+    let done : Round S = round stepped order s in ap (λ (ks : List ℕ). followed ks (rounds_within stepped count (order_after order done) done.after)) nothing

@@ -1,5 +1,6 @@
 //! The laws of schedules. Each function does nothing: its contract is the law.
 ghost use Rattle.lio_schedule.specs.Laws.{RoundKeepsTheOrder, RoundMovesInOrder, RoundOfTwoParts, RoundsGoOn, RoundsRunToTheEnd, RunIsBounded, TasksAreAnOrder, TicketStandsInTheEntry, TurnLowersMeasure};
+ghost use Rattle.lio_schedule.specs.LowLaws.{CompleteIsCompleteBelow, LowRoundsGoOn, LowTurnLowersMeasure, RoundsAreErasedRounds, RoundsLookAlike};
 
 /// The ticket of a turn stands in its entry alone.
 pub fn ticket_stands_in_the_entry()
@@ -44,4 +45,29 @@ pub fn tasks_are_an_order()
 /// A round over an order gives the order of the next round.
 pub fn round_keeps_the_order()
     ensures { RoundKeepsTheOrder }
+{}
+
+/// Each turn of the erased calculus lowers the measure.
+pub fn low_turn_lowers_measure()
+    ensures { LowTurnLowersMeasure }
+{}
+
+/// Where no task can take a turn, none can in the erased calculus.
+pub fn complete_is_complete_below()
+    ensures { CompleteIsCompleteBelow }
+{}
+
+/// Rounds of the erased calculus are a round and, if it moved a task, rounds again.
+pub fn low_rounds_go_on()
+    ensures { LowRoundsGoOn }
+{}
+
+/// Rounds, as an observer sees them, are the rounds of the erased calculus, in their order.
+pub fn rounds_are_erased_rounds()
+    ensures { RoundsAreErasedRounds }
+{}
+
+/// Runs by rounds that begin alike for an observer, with the same contents released, look alike to it.
+pub fn rounds_look_alike()
+    ensures { RoundsLookAlike }
 {}
