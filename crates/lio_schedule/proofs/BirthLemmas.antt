@@ -6,10 +6,10 @@ use Rattle.lio_values.specs.declared.act.Act.{Act}
 use Rattle.lio_values.specs.declared.act.Act.TheVariants as act
 use Rattle.lio_calculus.specs.Task.{TaskState}
 use Rattle.lio_calculus.specs.Plan.{Program, Target}
-use Rattle.lio_calculus.specs.Step.{Cell, Configuration, cell_at, with_cell, number_of, is_met, born, task_after, met_after, actor_after, target_after, after, Turn, step}
+use Rattle.lio_calculus.specs.Step.{Cell, Configuration, cell_at, with_cell, number_of, is_met, born, task_after, met_after, actor_after, target_after, Move, after, Turn, step}
 use Rattle.lio_calculus.specs.Sound.{IsTaskOf}
 use Rattle.lio_schedule.specs.Round.{born_at, born_in}
-use Rattle.lio_schedule.proofs.TurnLemmas.{Parts, parts}
+use Rattle.lio_schedule.proofs.TurnLemmas.{parts}
 use Rattle.lio_schedule.proofs.AfterLemmas.{Changed, Here, Elsewhere, changed}
 
 -- a number in a list
@@ -27,7 +27,7 @@ among-right k [] ys is = is
 among-right k (x ∷ xs) ys is = inr (among-right k xs ys is)
 
 -- each task of a configuration is one of some numbers, or stands in an order
-abbrev Covers : (ℕ → Type 0) → Configuration → Type 0
+abbrev pub Covers : (ℕ → Type 0) → Configuration → Type 0
 Covers P c = (k : ℕ) (task : TaskState) → IsTaskOf c k task → P k
 
 abbrev pub HasAll : List ℕ → Configuration → Type 0
@@ -65,17 +65,23 @@ met-covers P c label asked (Some target) covers k task is = by (is_met target (c
     by true i = here (changed c n cell k) i
     by false i = inl (covers k task i)
 
+-- a task after a move was there, or is born in it
+pub after-covers : (P : ℕ → Type 0) (c : Configuration) (k : ℕ) (task : TaskState) (move : Move) → IsTaskOf c k task → Covers P c
+    → Covers (λ n. P n ⊎ Among n (born_at move.act (option_map number_of move.target))) (after c k task move)
+after-covers P c k task move is_task covers n x is = by (changed between k (actor_after task move (cell_at between k)) n)
+  where
+    between : Configuration
+    between = target_after c task.label move.act move.target
+
+    by : Changed between k (actor_after task move (cell_at between k)) n → P n ⊎ Among n (born_at move.act (option_map number_of move.target))
+    by (Here e h) = inl (subst P (sym e) (covers k task is_task))
+    by (Elsewhere h) = met-covers P c task.label move.act move.target covers n x (sym (ap (λ (y : Cell). y.task) h) ∙ is)
+
 -- a task after a turn was there, or is born in it
 turn-covers : (P : ℕ → Type 0) (ticket : ℕ) (c : Configuration) (k : ℕ) (turn : Turn) → step ticket c k ≡ Some turn → Covers P c → Covers (λ n. P n ⊎ Among n (born_in turn.entry)) turn.next
 turn-covers P ticket c k turn steps covers =
     let p = parts ticket c k turn steps in
-    subst (λ (t : Turn). Covers (λ n. P n ⊎ Among n (born_in t.entry)) t.next) p.is_turn (λ n x is. by p n x is (changed (target_after c p.task.label p.move.act p.move.target) k (actor_after p.task p.move (cell_at (target_after c p.task.label p.move.act p.move.target) k)) n))
-  where
-    by : (p : Parts ticket c k turn) (n : ℕ) (x : TaskState) → IsTaskOf (after c k p.task p.move) n x
-        → Changed (target_after c p.task.label p.move.act p.move.target) k (actor_after p.task p.move (cell_at (target_after c p.task.label p.move.act p.move.target) k)) n
-        → P n ⊎ Among n (born_at p.move.act (option_map number_of p.move.target))
-    by p n x is (Here e h) = inl (subst P (sym e) (covers k p.task p.is_task))
-    by p n x is (Elsewhere h) = met-covers P c p.task.label p.move.act p.move.target covers n x (sym (ap (λ (y : Cell). y.task) h) ∙ is)
+    subst (λ (t : Turn). Covers (λ n. P n ⊎ Among n (born_in t.entry)) t.next) p.is_turn (after-covers P c k p.task p.move p.is_task covers)
 
 pub turn-has_all : (order : List ℕ) (ticket : ℕ) (c : Configuration) (k : ℕ) (turn : Turn) → step ticket c k ≡ Some turn → HasAll order c → HasAll (order ++ born_in turn.entry) turn.next
 turn-has_all order ticket c k turn steps all n x is = either (turn-covers (λ m. Among m order) ticket c k turn steps all n x is)

@@ -7,8 +7,10 @@ pub mod RoundLemmas
 pub mod EndLemmas
 pub mod NewLemmas
 pub mod OrderLemmas
+pub mod LowTurnLemmas
 pub mod LowMeasure
 pub mod FloatLemmas
 pub mod LowRoundLemmas
 pub mod LowTasks
+pub mod LowRunLemmas
 pub mod LowEndLemmas

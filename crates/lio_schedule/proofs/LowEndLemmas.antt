@@ -1,19 +1,19 @@
 -- Rounds, as an observer sees them, are the rounds of the erased calculus.
-use Rattle.std.proofs.Common.{◌≡◌, ◌∙◌, refl, sym, ap, subst, ℕ, zero, suc, ◌<◌, List, [], ◌∷◌, ◌++◌, Option, Some, None, append-nil, arith}
-use Rattle.std.specs.Prelude.{option_map}
+use Rattle.std.proofs.Common.{◌≡◌, ◌∙◌, refl, sym, ap, subst, ℕ, zero, suc, List, [], ◌∷◌, ◌++◌, Some, append-nil, arith}
 use Rattle.lio_labels.specs.declared.label.Label.{Label}
 use Rattle.lio_calculus.specs.Step.{Configuration}
-use Rattle.lio_calculus.specs.Erased.{erase, LowTurn, low}
+use Rattle.lio_calculus.specs.Erased.{erase, low}
 use Rattle.lio_calculus.specs.Run.{Ran, run, who, view, releases, LowRan, low_run}
 use Rattle.lio_calculus.specs.Laws.{RunSeenAs}
 use Rattle.lio_calculus.specs.Sound.{IsSound}
 use Rattle.lio_calculus.proofs.LawLemmas.{run_is_erased_run}
-use Rattle.lio_schedule.specs.Round.{Taken, Round, round, order_after, followed, rounds_within}
+use Rattle.lio_schedule.specs.Round.{Round, round, order_after, followed, rounds_within}
 use Rattle.lio_schedule.specs.Rounds.{IsComplete, measure, tasks, stepped, rounds}
-use Rattle.lio_schedule.specs.LowRounds.{LowState, low_taken, low_stepped, low_rounds, low_run_by_rounds}
-use Rattle.lio_schedule.specs.LowLaws.{LowRoundsGoOn, RoundsAreErasedRounds, RoundsLookAlike}
-use Rattle.lio_schedule.proofs.LowMeasure.{erased-measure, low_turn_lowers_measure}
-use Rattle.lio_schedule.proofs.RoundLemmas.{round-idle, rounds-idle, rounds_within-enough, rounds_within-go_on}
+use Rattle.lio_schedule.specs.LowRounds.{LowState, low_stepped, low_rounds, low_run_by_rounds}
+use Rattle.lio_schedule.specs.LowLaws.{RoundsAreErasedRounds, RoundsLookAlike}
+use Rattle.lio_schedule.proofs.LowMeasure.{erased-measure}
+use Rattle.lio_schedule.proofs.LowRunLemmas.{low_stepped-lowers}
+use Rattle.lio_schedule.proofs.RoundLemmas.{round-idle, rounds-idle, rounds_within-enough}
 use Rattle.lio_schedule.proofs.EndLemmas.{round-sound, rounds_run_to_the_end}
 use Rattle.lio_schedule.proofs.LowRoundLemmas.{Below, state, OneRound, round-below, complete_is_complete_below}
 use Rattle.lio_schedule.proofs.LowTasks.{tasks-below}
@@ -95,18 +95,6 @@ rounds-below observer (suc count) low_order order c ticket ran sound below runs 
         let here : run ticket c (done.moved ++ later) ≡ Some ran = ap (run ticket c) (sym (followed-some k ks done.moved later e)) ∙ runs in
         let one : OneRound observer low_order c done low_order order later ran = round-below observer later order c low_order low_order order ticket ran sound below below here in
         low-follow observer count low_order order later c done ran one (more (low_order ++ one.low.born) (order ++ done.born) done.after one.ticket one.rest (round-sound order c sound) one.orders one.goes)
-
-low_stepped-lowers : (observer : Label) (s : LowState) (k : ℕ) (t : Taken LowState) → low_stepped observer s k ≡ Some t → measure t.next.configuration < measure s.configuration
-low_stepped-lowers observer s k t is = by (low observer 0 s.configuration k s.contents) refl is
-  where
-    by : (o : Option LowTurn) → low observer 0 s.configuration k s.contents ≡ o → option_map low_taken o ≡ Some t → measure t.next.configuration < measure s.configuration
-    by None e i = absurd (cc)
-    by (Some turn) e i =
-        let same : low_taken turn ≡ t = cc in
-        subst (λ (x : Taken LowState). measure x.next.configuration < measure s.configuration) same (low_turn_lowers_measure observer 0 s.configuration k s.contents turn e)
-
-pub low_rounds_go_on : LowRoundsGoOn
-low_rounds_go_on observer order s = rounds_within-go_on (low_stepped observer) (λ x. measure x.configuration) (low_stepped-lowers observer) order s
 
 -- who is seen to move in rounds
 order-below : (observer : Label) (c : Configuration) (ran : Ran) → IsSound c → run 0 c (rounds c) ≡ Some ran → low_rounds observer (erase observer c) (releases observer ran.entries) ≡ who observer ran.entries

@@ -1,6 +1,6 @@
 -- Each turn of the erased calculus lowers the measure.
 use Rattle.std.proofs.Common.{◌≡◌, ◌∙◌, refl, sym, ap, subst, ℕ, ◌+◌, ◌-◌, ◌<◌, ◌≤◌, Bool, true, false, if◌then◌else◌, List, [], ◌∷◌, map, Option, Some, None, arith}
-use Rattle.std.specs.Prelude.{option_and_then, option_map, sum_by}
+use Rattle.std.specs.Prelude.{sum_by}
 use Rattle.std.proofs.lemmas.List.Sums.{sum_by-cons}
 use Rattle.lio_labels.specs.declared.label.Label.{Label}
 use Rattle.lio_labels.specs.declared.privilege.Priv.{Priv}
@@ -16,11 +16,12 @@ use Rattle.lio_calculus.specs.Task.{TaskState}
 use Rattle.lio_calculus.specs.Going.{Onward, Advance, Bind, Seal, Enter, Repeat, Try, Call, Return, Leave, Raise, RaiseTo, Unlabel, Lower, Release, HoldReference, HoldVariable, Fork, Spawn, BindReply, Throw, End, gone, gone_on}
 use Rattle.lio_calculus.specs.Plan.{Program, Target, plan}
 use Rattle.lio_calculus.specs.Step.{Cell, Configuration, cell_at, born, Move, move_of, after}
-use Rattle.lio_calculus.specs.Erased.{sees, hide_cell, erase_cell, erase, LowTurn, Opened, taking_front, opened_release, opened, low_with, low_turn, low}
+use Rattle.lio_calculus.specs.Erased.{sees, hide_cell, erase_cell, erase, LowTurn, Opened, taking_front, opened_release, opened}
 use Rattle.lio_calculus.specs.Sound.{IsTaskOf}
 use Rattle.lio_calculus.proofs.InvisibleLemmas.{erase_cell-unseen, erase_cell-seen}
 use Rattle.lio_schedule.specs.Rounds.{weight, measure}
 use Rattle.lio_schedule.specs.LowLaws.{LowTurnLowersMeasure}
+use Rattle.lio_schedule.proofs.LowTurnLemmas.{low-parts}
 use Rattle.lio_schedule.proofs.MeasureLemmas.{newborn, measure-after, move-lowers}
 
 -- what a task that goes on weighs doesn't depend on the act
@@ -117,21 +118,6 @@ opened-lowers observer c k task move contents o is moves opens =
     omega (arith, erased-measure observer (after c k task seen), measure-after c k task seen is, births, goes, lowers)
 
 pub low_turn_lowers_measure : LowTurnLowersMeasure
-unfolding low
-low_turn_lowers_measure observer ticket c k contents turn takes = by (cell_at c k).task refl takes
-  where
-    opening : (task : TaskState) (move : Move) (m : Option Opened) → IsTaskOf c k task → move_of (cell_at c) (plan c.program task) ≡ Some move → opened observer move.act move.reply contents ≡ m
-        → option_map (low_with observer ticket c k task move) m ≡ Some turn → measure turn.next < measure c
-    opening task move None is moves opens takes = absurd (cc)
-    opening task move (Some o) is moves opens takes =
-        let same : low_with observer ticket c k task move o ≡ turn = cc in
-        subst (λ (t : LowTurn). measure t.next < measure c) same (opened-lowers observer c k task move contents o is moves opens)
-
-    moving : (task : TaskState) (m : Option Move) → IsTaskOf c k task → move_of (cell_at c) (plan c.program task) ≡ m
-        → option_and_then (λ move. option_map (low_with observer ticket c k task move) (opened observer move.act move.reply contents)) m ≡ Some turn → measure turn.next < measure c
-    moving task None is moves takes = absurd (cc)
-    moving task (Some move) is moves takes = opening task move (opened observer move.act move.reply contents) is moves refl takes
-
-    by : (t : Option TaskState) → (cell_at c k).task ≡ t → option_and_then (low_turn observer ticket c k contents) t ≡ Some turn → measure turn.next < measure c
-    by None is takes = absurd (cc)
-    by (Some task) is takes = moving task (move_of (cell_at c) (plan c.program task)) is refl takes
+low_turn_lowers_measure observer ticket c k contents turn takes =
+    let p = low-parts observer ticket c k contents turn takes in
+    subst (λ (t : LowTurn). measure t.next < measure c) p.is_turn (opened-lowers observer c k p.task p.move contents p.o p.is_task p.moves p.opens)

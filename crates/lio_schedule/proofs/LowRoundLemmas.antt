@@ -4,10 +4,8 @@ use Rattle.std.specs.Prelude.{option_and_then, option_map}
 use Rattle.lio_labels.specs.declared.label.Label.{Label}
 use Rattle.lio_labels.specs.Flow.{flows}
 use Rattle.lio_values.specs.declared.value.Content.{Content}
-use Rattle.lio_values.specs.declared.act.Act.{Act}
 use Rattle.lio_values.specs.declared.act.Act.TheVariants as act
-use Rattle.lio_values.specs.declared.entry.Entry.{Entry}
-use Rattle.lio_values.specs.Erasure.{erase_act, erase_entry}
+use Rattle.lio_values.specs.Erasure.{erase_entry}
 use Rattle.lio_calculus.specs.Task.{TaskState}
 use Rattle.lio_calculus.specs.Step.{Configuration, cell_at, Turn, step, can}
 use Rattle.lio_calculus.specs.Erased.{erase, LowTurn, low, released_to}
@@ -15,11 +13,12 @@ use Rattle.lio_calculus.specs.Run.{Ran, ran_after, run, is_visible, who, release
 use Rattle.lio_calculus.specs.Sound.{IsTaskOf, IsSound}
 use Rattle.lio_calculus.proofs.LawLemmas.{unseen_turn_changes_nothing, unseen_turn_releases_nothing, seen_turn_is_erased_turn}
 use Rattle.lio_calculus.proofs.EnabledLemmas.{seen_task_is_enabled_below, low_turns_where_enabled}
-use Rattle.lio_schedule.specs.Round.{Taken, born_at, born_in, Round, moved_first, round}
+use Rattle.lio_schedule.specs.Round.{Taken, born_in, Round, moved_first, round}
 use Rattle.lio_schedule.specs.Rounds.{stepped}
 use Rattle.lio_schedule.specs.LowRounds.{LowState, low_taken, low_stepped}
 use Rattle.lio_schedule.specs.LowLaws.{CompleteIsCompleteBelow}
 use Rattle.lio_schedule.proofs.TurnLemmas.{Parts, parts, with_ticket, step-ticket}
+use Rattle.lio_schedule.proofs.LowTurnLemmas.{born-erased}
 use Rattle.lio_schedule.proofs.BirthLemmas.{Among}
 use Rattle.lio_schedule.proofs.NewLemmas.{turn-born}
 use Rattle.lio_schedule.proofs.RoundLemmas.{round-moves, round-skips, round-nobody, round-each}
@@ -111,30 +110,6 @@ releases-first observer ticket t rest = refl
 who-first : (observer : Label) (ticket : ℕ) (t : Taken Configuration) (rest : Ran) → who observer (ran_after (record t.entry { ticket = ticket }) rest).entries ≡ (if is_visible observer t.entry then t.entry.actor ∷ who observer rest.entries else who observer rest.entries)
 unfolding who
 who-first observer ticket t rest = refl
-
--- an erased entry shows the same child
-born-erased : (observer : Label) (entry : Entry) → born_in (erase_entry observer entry) ≡ born_in entry
-born-erased observer entry = by entry.act entry.target
-  where
-    by : (asked : Act) (target : Option ℕ) → born_at (erase_act observer asked) target ≡ born_at asked target
-    by (act.Fork birth) None = refl
-    by (act.Fork birth) (Some n) = refl
-    by (act.Spawn birth) None = refl
-    by (act.Spawn birth) (Some n) = refl
-    by (act.Release source target power content) t = refl
-    by (act.NewRef label value) t = refl
-    by (act.NewVar label value) t = refl
-    by (act.Write value) t = refl
-    by (act.Put value) t = refl
-    by act.Step t = refl
-    by (act.Seal label) t = refl
-    by (act.Raise op label) t = refl
-    by (act.Lower label) t = refl
-    by act.Read t = refl
-    by act.Take t = refl
-    by act.Wait t = refl
-    by (act.Send text) t = refl
-    by (act.Ended content) t = refl
 
 -- A round, as an observer sees it: a round of the erased calculus over the tasks that it sees, with what the rest of the run releases to it.
 pub record OneRound (observer : Label) (low_walked : List ℕ) (c : Configuration) (done : Round Configuration) (low_order order actors : List ℕ) (ran : Ran) : Type 0 where

@@ -1,11 +1,11 @@
 -- The laws of the erased calculus's rounds: in rounds an observer's view, its order with it, is a function of what the observer sees (the noninterference of the
 -- concurrent calculus of LIO, ICFP 2012, under a round-robin scheduler).
-use Rattle.std.specs.Prelude.{◌≡◌, ℕ, ◌<◌, List, [], Some}
+use Rattle.std.specs.Prelude.{◌≡◌, ℕ, ◌<◌, List, [], Some, None}
 use Rattle.lio_labels.specs.declared.label.Label.{Label}
 use Rattle.lio_values.specs.declared.value.Content.{Content}
 use Rattle.lio_calculus.specs.Step.{Configuration}
 use Rattle.lio_calculus.specs.Erased.{erase, LowTurn, low}
-use Rattle.lio_calculus.specs.Run.{Ran, run, view, who, releases}
+use Rattle.lio_calculus.specs.Run.{Ran, run, view, who, releases, LowRan}
 use Rattle.lio_calculus.specs.Sound.{IsSound}
 use Rattle.lio_schedule.specs.Round.{round, order_after, followed}
 use Rattle.lio_schedule.specs.Rounds.{IsComplete, measure, rounds}
@@ -15,6 +15,11 @@ use Rattle.lio_schedule.specs.LowRounds.{LowState, low_stepped, low_rounds_from,
 abbrev pub CompleteIsCompleteBelow : Type 0
 CompleteIsCompleteBelow = (observer : Label) (c : Configuration) → IsSound c → IsComplete c → IsComplete (erase observer c)
 
+-- an erased turn with one ticket is an erased turn with every other: the ticket stands in its entry alone, so who can move doesn't depend on it
+abbrev pub LowTicketStandsInTheEntry : Type 0
+LowTicketStandsInTheEntry = (observer : Label) (one two : ℕ) (c : Configuration) (k : ℕ) (contents : List Content) (turn : LowTurn) → low observer one c k contents ≡ Some turn
+    → low observer two c k contents ≡ Some (record { entry = record turn.entry { ticket = two }; next = turn.next; left = turn.left })
+
 -- each turn of the erased calculus lowers the measure, in every configuration
 abbrev pub LowTurnLowersMeasure : Type 0
 LowTurnLowersMeasure = (observer : Label) (ticket : ℕ) (c : Configuration) (k : ℕ) (contents : List Content) (turn : LowTurn) → low observer ticket c k contents ≡ Some turn → measure turn.next < measure c
@@ -23,6 +28,16 @@ LowTurnLowersMeasure = (observer : Label) (ticket : ℕ) (c : Configuration) (k 
 abbrev pub LowRoundsGoOn : Type 0
 LowRoundsGoOn = (observer : Label) (order : List ℕ) (s : LowState)
     → low_rounds_from observer order s ≡ followed (round (low_stepped observer) order s).moved (low_rounds_from observer (order_after order (round (low_stepped observer) order s)) (round (low_stepped observer) order s).after)
+
+-- The rounds of the erased calculus run to the end: each whom they name can take its erased turn at its place, and then no task can take one with the contents that are left.
+pub record LowRunsToTheEnd (observer : Label) (c : Configuration) (contents : List Content) : Type 0 where
+  pub ran : LowRan
+  pub defined : low_run_by_rounds observer c contents ≡ Some ran
+  pub still : (k : ℕ) → low observer 0 ran.last k ran.left ≡ None
+
+-- so an observer can run them from every configuration and with any contents, be they invented
+abbrev pub LowRoundsRunToTheEnd : Type 0
+LowRoundsRunToTheEnd = (observer : Label) (c : Configuration) (contents : List Content) → LowRunsToTheEnd observer c contents
 
 -- A run by rounds, seen by an observer, is the run by rounds of the erased calculus from what the observer sees of the configuration and what the journal releases to it.
 pub record RoundsSeenAs (observer : Label) (c : Configuration) (ran : Ran) : Type 0 where

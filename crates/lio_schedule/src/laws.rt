@@ -1,6 +1,6 @@
 //! The laws of schedules. Each function does nothing: its contract is the law.
 ghost use Rattle.lio_schedule.specs.Laws.{RoundKeepsTheOrder, RoundMovesInOrder, RoundOfTwoParts, RoundsGoOn, RoundsRunToTheEnd, RunIsBounded, TasksAreAnOrder, TicketStandsInTheEntry, TurnLowersMeasure};
-ghost use Rattle.lio_schedule.specs.LowLaws.{CompleteIsCompleteBelow, LowRoundsGoOn, LowTurnLowersMeasure, RoundsAreErasedRounds, RoundsLookAlike};
+ghost use Rattle.lio_schedule.specs.LowLaws.{CompleteIsCompleteBelow, LowRoundsGoOn, LowRoundsRunToTheEnd, LowTicketStandsInTheEntry, LowTurnLowersMeasure, RoundsAreErasedRounds, RoundsLookAlike};
 
 /// The ticket of a turn stands in its entry alone.
 pub fn ticket_stands_in_the_entry()
@@ -47,6 +47,11 @@ pub fn round_keeps_the_order()
     ensures { RoundKeepsTheOrder }
 {}
 
+/// The ticket of an erased turn stands in its entry alone.
+pub fn low_ticket_stands_in_the_entry()
+    ensures { LowTicketStandsInTheEntry }
+{}
+
 /// Each turn of the erased calculus lowers the measure.
 pub fn low_turn_lowers_measure()
     ensures { LowTurnLowersMeasure }
@@ -60,6 +65,11 @@ pub fn complete_is_complete_below()
 /// Rounds of the erased calculus are a round and, if it moved a task, rounds again.
 pub fn low_rounds_go_on()
     ensures { LowRoundsGoOn }
+{}
+
+/// Rounds of the erased calculus run to the end.
+pub fn low_rounds_run_to_the_end()
+    ensures { LowRoundsRunToTheEnd }
 {}
 
 /// Rounds, as an observer sees them, are the rounds of the erased calculus, in their order.

@@ -1,4 +1,4 @@
-use Rattle.lio_schedule.proofs.LowEndLemmas.{low_rounds_go_on}
+use Rattle.lio_schedule.proofs.LowRunLemmas.{low_rounds_go_on}
 use Rattle.lio_schedule.proofs.laws.low_rounds_go_on.Goals as goal
 
 pub returns : goal.returns
