@@ -2,7 +2,7 @@
 use Rattle.std.proofs.Common.{◌≡◌, ◌∙◌, refl, sym, ap, subst, ℕ, zero, suc, List, [], ◌∷◌, ◌++◌, Some, append-nil, arith}
 use Rattle.lio_labels.specs.declared.label.Label.{Label}
 use Rattle.lio_calculus.specs.Step.{Configuration}
-use Rattle.lio_calculus.specs.Erased.{erase, low}
+use Rattle.lio_calculus.specs.Erased.{erase}
 use Rattle.lio_calculus.specs.Run.{Ran, run, who, view, releases, LowRan, low_run}
 use Rattle.lio_calculus.specs.Laws.{RunSeenAs}
 use Rattle.lio_calculus.specs.Sound.{IsSound}

@@ -4,7 +4,6 @@ use Rattle.std.specs.Prelude.{option_and_then, option_map}
 use Rattle.lio_labels.specs.declared.label.Label.{Label}
 use Rattle.lio_labels.specs.Flow.{flows}
 use Rattle.lio_values.specs.declared.value.Content.{Content}
-use Rattle.lio_values.specs.declared.act.Act.TheVariants as act
 use Rattle.lio_values.specs.Erasure.{erase_entry}
 use Rattle.lio_calculus.specs.Task.{TaskState}
 use Rattle.lio_calculus.specs.Step.{Configuration, cell_at, Turn, step, can}
