@@ -44,7 +44,7 @@ stepped-sound c k t is sound =
     let p = parts 0 c k (turned t) steps in turn-kept 0 c k p.task (turned t) sound p.is_task steps
 
 -- these actors run to a configuration, with tickets from a first one
-abbrev RunsTo : ℕ → Configuration → List ℕ → Configuration → Type 0
+abbrev pub RunsTo : ℕ → Configuration → List ℕ → Configuration → Type 0
 RunsTo ticket c actors last = (entries : List Entry) × (run ticket c actors ≡ Some (record { entries = entries; last = last }))
 
 run-first : (ticket : ℕ) (c : Configuration) (k : ℕ) (actors : List ℕ) (t : Taken Configuration) (last : Configuration) → stepped c k ≡ Some t → RunsTo (ticket + 1) t.next actors last → RunsTo ticket c (k ∷ actors) last
@@ -107,18 +107,18 @@ none-moves c none k = ap (λ (t : Option Turn). is_some t) (by (cell_at c k).tas
     by (Some task) e = none k task e
 
 -- actors run to the end, from any ticket
-record Ends (c : Configuration) (actors : List ℕ) : Type 0 where
-  last : Configuration
-  runs : (ticket : ℕ) → RunsTo ticket c actors last
-  complete : IsComplete last
-  sound : IsSound c → IsSound last
+pub record Ends (c : Configuration) (actors : List ℕ) : Type 0 where
+  pub last : Configuration
+  pub runs : (ticket : ℕ) → RunsTo ticket c actors last
+  pub complete : IsComplete last
+  pub sound : IsSound c → IsSound last
 
 -- where nobody moves
 ends-here : (c : Configuration) → ((k : ℕ) (task : TaskState) → IsTaskOf c k task → step 0 c k ≡ None) → Ends c []
 ends-here c none = record { last = c; runs = λ ticket. nothing-run ticket c; complete = none-moves c none; sound = λ sound. sound }
 
 -- as many rounds as the measure says are enough
-rounds-end : (count : ℕ) (order : List ℕ) (c : Configuration) → measure c ≤ count → HasAll order c → Ends c (rounds_within stepped count order c)
+pub rounds-end : (count : ℕ) (order : List ℕ) (c : Configuration) → measure c ≤ count → HasAll order c → Ends c (rounds_within stepped count order c)
 unfolding rounds_within
 rounds-end zero order c few all = ends-here c (λ k task is. none k (step 0 c k) refl)
   where

@@ -14,3 +14,4 @@ pub mod LowRoundLemmas
 pub mod LowTasks
 pub mod LowRunLemmas
 pub mod LowEndLemmas
+pub mod OrderLaws

@@ -17,15 +17,15 @@ use Rattle.lio_schedule.proofs.RoundLemmas.{round-each}
 use Rattle.lio_schedule.proofs.EndLemmas.{turned, stepped-step, stepped-sound, tasks-all}
 
 -- no number twice
-abbrev Apart : List ℕ → Type 0
+abbrev pub Apart : List ℕ → Type 0
 Apart [] = Unit {0}
 Apart (k ∷ ks) = (Among k ks → ⊥) × Apart ks
 
 -- an order, by recursion
-record Listing (c : Configuration) (order : List ℕ) : Type 0 where
-  all : HasAll order c
-  only : (k : ℕ) → Among k order → is_some (cell_at c k).task ≡ true
-  once : Apart order
+pub record Listing (c : Configuration) (order : List ℕ) : Type 0 where
+  pub all : HasAll order c
+  pub only : (k : ℕ) → Among k order → is_some (cell_at c k).task ≡ true
+  pub once : Apart order
 
 among-either : (k : ℕ) (xs ys : List ℕ) → Among k (xs ++ ys) → Among k xs ⊎ Among k ys
 among-either k [] ys a = inr a
@@ -55,7 +55,7 @@ born-apart (act.Spawn birth) None = tt
 born-apart asked target = tt
 
 -- one turn
-turn-listing : (c : Configuration) (k : ℕ) (turn : Turn) (order : List ℕ) → IsSound c → step 0 c k ≡ Some turn → Listing c order → Listing turn.next (order ++ born_in turn.entry)
+pub turn-listing : (c : Configuration) (k : ℕ) (turn : Turn) (order : List ℕ) → IsSound c → step 0 c k ≡ Some turn → Listing c order → Listing turn.next (order ++ born_in turn.entry)
 turn-listing c k turn order sound steps listing =
     let born : List ℕ = born_in turn.entry in
     let new : (n : ℕ) → Among n born → IsNew c turn.next n = turn-born 0 c k turn sound steps in
@@ -164,14 +164,14 @@ apart-distinct (x ∷ xs) distinct = (none xs distinct.0, apart-distinct xs dist
     none (y ∷ ys) each (inl e) = differs x y each.0 e
     none (y ∷ ys) each (inr a) = none ys each.1 a
 
-order-listing : (c : Configuration) (order : List ℕ) → Listing c order → IsOrderOf c order
+pub order-listing : (c : Configuration) (order : List ℕ) → Listing c order → IsOrderOf c order
 order-listing c order listing = record {
   all = λ k task is. contains-among k order (listing.all k task is);
   tasks_alone = all-among (λ k. is_some (cell_at c k).task ≡ true) order listing.only;
   once = distinct-apart order listing.once;
 }
 
-listing-order : (c : Configuration) (order : List ℕ) → IsOrderOf c order → Listing c order
+pub listing-order : (c : Configuration) (order : List ℕ) → IsOrderOf c order → Listing c order
 listing-order c order is = record {
   all = λ k task there. let found = is.all k task there in among-contains k order found.0 found.1 found.2;
   only = among-all (λ k. is_some (cell_at c k).task ≡ true) order is.tasks_alone;
