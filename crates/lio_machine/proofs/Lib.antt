@@ -1,0 +1,4 @@
+pub mod RunLemmas
+pub mod RoundLemmas
+pub mod MachineLemmas
+pub mod HolderTasks

@@ -1,0 +1,46 @@
+-- What a machine keeps when it takes a turn.
+use Rattle.std.proofs.Common.{◌≡◌, refl, sym, ap, subst, ℕ, ◌<◌, ◌≤◌, ◌+◌, Bool, true, false, List, [], ◌∷◌, ◌++◌, length, length-append, arith, get_or, nat_lt, Some}
+use Rattle.std.proofs.Math.ListN.{get_or-append}
+use Rattle.std.proofs.Math.Seq.{get_or-append_seam}
+use borrow.Author.Tests.{ltb-true, ltb-false}
+use Rattle.lio_values.specs.declared.entry.Entry.{Entry}
+use Rattle.lio_events.specs.Rising.{AreRising}
+use Rattle.lio_calculus.specs.Step.{Configuration, Turn, step}
+use Rattle.lio_calculus.proofs.StepKept.{turn-kept}
+use Rattle.lio_schedule.specs.Round.{born_in}
+use Rattle.lio_schedule.proofs.TurnLemmas.{Parts, parts}
+use Rattle.lio_schedule.proofs.OrderLaws.{turn-keeps_order}
+use Rattle.lio_schedule.specs.Laws.{IsOrderOf}
+use Rattle.lio_machine.specs.Invariant.{AreNumbered, IsMachine}
+
+-- one more entry, whose ticket is the number of those before it
+numbered_with : (entries : List Entry) (entry : Entry) → AreNumbered entries → entry.ticket ≡ length entries → AreNumbered (entries ++ entry ∷ [])
+numbered_with entries entry numbered next i d within = by_place (nat_lt i (length entries)) refl
+  where
+    long : length (entries ++ entry ∷ []) ≡ length entries + 1
+    long = length-append entries (entry ∷ [])
+
+    by_place : (b : Bool) → nat_lt i (length entries) ≡ b → (get_or (entries ++ entry ∷ []) i d).ticket ≡ i
+    by_place true e = let inside : i < length entries = ltb-true _ _ e in rw (get_or-append entries (entry ∷ []) d i inside) (numbered i d inside)
+    by_place false e =
+        let outside : length entries ≤ i = ltb-false _ _ e in
+        let last : i ≡ length entries = omega (arith, long) in
+        rw (last, get_or-append_seam entries entry [] d) next
+
+-- numbered tickets rise
+pub numbered-rising : (entries : List Entry) → AreNumbered entries → AreRising entries
+numbered-rising entries numbered i j d before within =
+    let first : i < length entries = omega arith in
+    omega (arith, numbered i d first, numbered j d within)
+
+-- a machine that takes a turn keeps what it keeps
+pub machine-took : (c d : Configuration) (k : ℕ) (entry : Entry) (order listed : List ℕ) (before now : List Entry) → IsMachine c order before → step (length before) c k ≡ Some (record { entry = entry; next = d })
+    → listed ≡ order ++ born_in entry → now ≡ before ++ entry ∷ [] → IsMachine d listed now
+machine-took c d k entry order listed before now machine steps lists last =
+    let turn : Turn = record { entry = entry; next = d } in
+    let p : Parts (length before) c k turn = parts (length before) c k turn steps in
+    record {
+      sound = turn-kept (length before) c k p.task turn machine.sound p.is_task steps;
+      lists = subst (IsOrderOf d) (sym lists) (turn-keeps_order (length before) c k turn order machine.sound steps machine.lists);
+      numbered = subst AreNumbered (sym last) (numbered_with before entry machine.numbered (sym (ap (λ (t : Turn). t.entry.ticket) p.is_turn)));
+    }

@@ -1,0 +1,4 @@
+pub mod MachineState
+pub mod MachineParts
+pub mod Invariant
+pub mod Births
