@@ -1,5 +1,5 @@
 -- The laws of operators.
-use Rattle.std.proofs.Common.{◌≡◌, ◌≤◌, ◌+◌, ℕ, ℤ, List, Bool, true, false, if◌then◌else◌, nat_le, length, refl, arith, length-take, length-drop, Result, Ok, Err, Option, Some, None}
+use Rattle.std.proofs.Common.{◌≡◌, ◌≤◌, ℕ, ℤ, List, Bool, true, false, if◌then◌else◌, nat_le, length, take, drop, refl, Result, Ok, Err, Option, Some, None}
 use Rattle.std.specs.Ordering.{int_eq}
 use Rattle.std.specs.Prelude.{pos, ◌++◌, ◌+ℤ◌, ◌-ℤ◌, ◌*ℤ◌, neg_ℤ, int_div, int_rem, codes}
 use Rattle.std.specs.Fmt.{signed_decimal}
@@ -21,7 +21,7 @@ use Rattle.lio_operators.specs.Texts.{made, place_at, on_texts, on_text_at}
 use Rattle.lio_operators.specs.Labels.{is_wide, bounded, on_labels}
 use Rattle.lio_operators.specs.Flags.{on_flags, on_units}
 use Rattle.lio_operators.specs.Operators.{bare, not_of, neg_of, len_of, whole_read, num_of, flag_text, str_of, label_of, on_plain, on_sealed, operate1, flag_and, unit_and, whole_and, text_and, label_and, on_plains, operate2}
-use Rattle.lio_operators.specs.Laws.{hide_result, HiddenFromOne, HiddenFromTwo, IsPublic, OneGivesSimple, TwoGiveSimple, IsShort, GivesShort, OneGivesShort, TwoGiveShort, IsUnthrown}
+use Rattle.lio_operators.specs.Laws.{hide_result, HiddenFromOne, HiddenFromTwo, IsPublic, OneGivesSimple, TwoGiveSimple, GivesShort, OneGivesShort, TwoGiveShort, IsUnthrown}
 
 -- a bare value is seen as it is
 bare_shown : (observer : Label) (given : Result Plain FaultKind) → bare given ≡ hide_result observer (bare given)
@@ -76,11 +76,11 @@ divided_gives limit a b number = by (int_eq b (pos 0)) (is_whole (int_div a b))
     by false true = tt
     by false false = tt
 
-made_gives : (limit longest : ℕ) (text : List ℕ) → longest ≤ limit → Gives limit (made longest text)
-made_gives limit longest text within = by (nat_le (length text) longest) refl
+made_gives : (longest : ℕ) (text : List ℕ) → Gives longest (made longest text)
+made_gives longest text = by (nat_le (length text) longest) refl
   where
-    by : (b : Bool) → nat_le (length text) longest ≡ b → Gives limit (if b then Ok (Bytes text) else Err TooLong)
-    by true e = let short : length text ≤ longest = leb-true _ _ e in omega arith
+    by : (b : Bool) → nat_le (length text) longest ≡ b → Gives longest (if b then Ok (Bytes text) else Err TooLong)
+    by true e = leb-true _ _ e
     by false e = tt
 
 bounded_gives : (limit : ℕ) (a b bound : Label) → Gives limit (bounded a b bound)
@@ -99,14 +99,14 @@ wholes_give limit Div a b = divided_gives limit a b (int_div a b)
 wholes_give limit Rem a b = divided_gives limit a b (int_rem a b)
 wholes_give limit two a b = tt
 
-texts_give : (limit longest : ℕ) (op : Two) (a b : List ℕ) → longest ≤ limit → Gives limit (on_texts longest op a b)
-texts_give limit longest Add a b within = made_gives limit longest (a ++ b) within
-texts_give limit longest two a b within = tt
+texts_give : (longest : ℕ) (op : Two) (a b : List ℕ) → Gives longest (on_texts longest op a b)
+texts_give longest Add a b = made_gives longest (a ++ b)
+texts_give longest two a b = tt
 
-text_at_gives : (limit : ℕ) (op : Two) (text : List ℕ) (at : ℤ) → length text ≤ limit → Gives limit (on_text_at op text at)
-text_at_gives limit From text at short = omega (arith, length-drop (place_at at) text)
-text_at_gives limit Upto text at short = omega (arith, length-take (place_at at) text)
-text_at_gives limit two text at short = tt
+text_at_gives : (longest : ℕ) (op : Two) (text : List ℕ) (at : ℤ) → Gives longest (on_text_at longest op text at)
+text_at_gives longest From text at = made_gives longest (drop (place_at at) text)
+text_at_gives longest Upto text at = made_gives longest (take (place_at at) text)
+text_at_gives longest two text at = tt
 
 labels_give : (limit : ℕ) (op : Two) (a b : Label) → Gives limit (on_labels op a b)
 labels_give limit Join a b = bounded_gives limit a b (join a b)
@@ -134,22 +134,22 @@ whole_and_gives : (limit : ℕ) (op : Two) (a : ℤ) (b : Plain) → Gives limit
 whole_and_gives limit op a (Whole b) = wholes_give limit op a b
 whole_and_gives limit op a b = tt
 
-text_and_gives : (limit longest : ℕ) (op : Two) (a : List ℕ) (b : Plain) → longest ≤ limit → length a ≤ limit → Gives limit (text_and longest op a b)
-text_and_gives limit longest op a (Bytes b) within short = texts_give limit longest op a b within
-text_and_gives limit longest op a (Whole at) within short = text_at_gives limit op a at short
-text_and_gives limit longest op a b within short = tt
+text_and_gives : (longest : ℕ) (op : Two) (a : List ℕ) (b : Plain) → Gives longest (text_and longest op a b)
+text_and_gives longest op a (Bytes b) = texts_give longest op a b
+text_and_gives longest op a (Whole at) = text_at_gives longest op a at
+text_and_gives longest op a b = tt
 
 label_and_gives : (limit : ℕ) (op : Two) (a : Label) (b : Plain) → Gives limit (label_and op a b)
 label_and_gives limit op a (Lab b) = labels_give limit op a b
 label_and_gives limit op a b = tt
 
-plains_give : (limit longest : ℕ) (op : Two) (a b : Plain) → longest ≤ limit → IsShort limit (Bare a) → Gives limit (on_plains longest op a b)
-plains_give limit longest op unit b within short = unit_and_gives limit op b
-plains_give limit longest op (Flag a) b within short = flag_and_gives limit op a b
-plains_give limit longest op (Whole a) b within short = whole_and_gives limit op a b
-plains_give limit longest op (Bytes a) b within short = text_and_gives limit longest op a b within short
-plains_give limit longest op (Lab a) b within short = label_and_gives limit op a b
-plains_give limit longest op a b within short = tt
+plains_give : (longest : ℕ) (op : Two) (a b : Plain) → Gives longest (on_plains longest op a b)
+plains_give longest op unit b = unit_and_gives longest op b
+plains_give longest op (Flag a) b = flag_and_gives longest op a b
+plains_give longest op (Whole a) b = whole_and_gives longest op a b
+plains_give longest op (Bytes a) b = text_and_gives longest op a b
+plains_give longest op (Lab a) b = label_and_gives longest op a b
+plains_give longest op a b = tt
 
 -- on one value
 not_gives : (limit : ℕ) (a : Plain) → Gives limit (not_of a)
@@ -173,9 +173,9 @@ num_gives limit (Bytes a) = read_gives limit (whole_of a)
 num_gives limit a = tt
 
 str_gives : (longest : ℕ) (a : Plain) → Gives longest (str_of longest a)
-str_gives longest (Whole a) = made_gives longest longest (signed_decimal a) (omega arith)
-str_gives longest (Flag a) = made_gives longest longest (flag_text a) (omega arith)
-str_gives longest unit = made_gives longest longest (codes "unit") (omega arith)
+str_gives longest (Whole a) = made_gives longest (signed_decimal a)
+str_gives longest (Flag a) = made_gives longest (flag_text a)
+str_gives longest unit = made_gives longest (codes "unit")
 str_gives longest a = tt
 
 label_gives : (limit : ℕ) (a : Plain) → Gives limit (label_of a)
@@ -207,30 +207,14 @@ unfolding operate1
 one_gives_short longest op (Bare a) = short_of longest (on_plain longest op a) (plain_gives longest op a)
 one_gives_short longest op (Sealed label content) = short_of longest (on_sealed op label) (sealed_gives longest op label)
 
--- a limit for each value
-limit_of : (longest : ℕ) → Plain → ℕ
-limit_of longest (Bytes text) = longest + length text
-limit_of longest plain = longest
-
-limit_is : (longest : ℕ) (a : Plain) → longest ≤ limit_of longest a
-unfolding limit_of
-limit_is longest (Bytes text) = omega arith
-limit_is longest plain = omega arith
-
-limit_short : (longest : ℕ) (a : Plain) → IsShort (limit_of longest a) (Bare a)
-unfolding limit_of
-limit_short longest (Bytes text) = omega arith
-limit_short longest plain = tt
-
 pub two_give_simple : TwoGiveSimple
 unfolding operate2
-two_give_simple longest op (Bare a) (Bare b) =
-    simple_of (limit_of longest a) (on_plains longest op a b) (plains_give (limit_of longest a) longest op a b (limit_is longest a) (limit_short longest a))
+two_give_simple longest op (Bare a) (Bare b) = simple_of longest (on_plains longest op a b) (plains_give longest op a b)
 two_give_simple longest op (Bare a) (Sealed label content) = tt
 two_give_simple longest op (Sealed label content) b = tt
 
 pub two_give_short : TwoGiveShort
 unfolding operate2
-two_give_short limit longest op (Bare a) (Bare b) within short = short_of limit (on_plains longest op a b) (plains_give limit longest op a b within short)
-two_give_short limit longest op (Bare a) (Sealed label content) within short = tt
-two_give_short limit longest op (Sealed label content) b within short = tt
+two_give_short longest op (Bare a) (Bare b) = short_of longest (on_plains longest op a b) (plains_give longest op a b)
+two_give_short longest op (Bare a) (Sealed label content) = tt
+two_give_short longest op (Sealed label content) b = tt

@@ -63,6 +63,6 @@ GivesShort longest (Err kind) = Unit {0}
 abbrev pub OneGivesShort : Type 0
 OneGivesShort = (longest : ℕ) (op : One) (a : Value) → GivesShort longest (operate1 longest op a)
 
--- a text that an operator on two values gives is within each limit that texts and the left operand are within
+-- nor has a text that an operator on two values gives more
 abbrev pub TwoGiveShort : Type 0
-TwoGiveShort = (limit longest : ℕ) (op : Two) (a b : Value) → longest ≤ limit → IsShort limit a → GivesShort limit (operate2 longest op a b)
+TwoGiveShort = (longest : ℕ) (op : Two) (a b : Value) → GivesShort longest (operate2 longest op a b)

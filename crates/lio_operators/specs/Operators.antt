@@ -101,7 +101,7 @@ whole_and two a b = Err BadType
 
 abbrev pub text_and : ℕ → Two → List ℕ → Plain → Result Plain FaultKind
 text_and longest two a (Bytes b) = on_texts longest two a b
-text_and longest two a (Whole at) = on_text_at two a at
+text_and longest two a (Whole at) = on_text_at longest two a at
 text_and longest two a b = Err BadType
 
 abbrev pub label_and : Two → Label → Plain → Result Plain FaultKind

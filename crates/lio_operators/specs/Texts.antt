@@ -43,7 +43,7 @@ place_at (pos place) = place
 place_at (negsuc number) = 0
 
 -- the bytes from a place on, and those up to it
-abbrev pub on_text_at : Two → List ℕ → ℤ → Result Plain FaultKind
-on_text_at From text at = Ok (Bytes (drop (place_at at) text))
-on_text_at Upto text at = Ok (Bytes (take (place_at at) text))
-on_text_at two text at = Err BadType
+abbrev pub on_text_at : ℕ → Two → List ℕ → ℤ → Result Plain FaultKind
+on_text_at longest From text at = made longest (drop (place_at at) text)
+on_text_at longest Upto text at = made longest (take (place_at at) text)
+on_text_at longest two text at = Err BadType

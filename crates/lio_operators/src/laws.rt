@@ -20,7 +20,7 @@ pub fn gives_simple()
     ensures two { TwoGiveSimple }
 {}
 
-/// A text that an operator gives has at most so many bytes as texts may have, or as the left operand has, from which it may be cut.
+/// A text that an operator gives has at most so many bytes as texts may have.
 #[tactic(auto, using(crate::proofs::OperatorLemmas::one_gives_short, crate::proofs::OperatorLemmas::two_give_short))]
 pub fn gives_short()
     ensures one { OneGivesShort }

@@ -187,7 +187,7 @@ fn text_and(alloc: Global, op: Two, a: &[u8], b: &Plain, longest: u32) -> Result
 {
     match b {
         Plain::Bytes(b) => on_texts(alloc, op, a, b.bytes(), longest),
-        Plain::Whole(at) => on_text_at(alloc, op, a, *at),
+        Plain::Whole(at) => on_text_at(alloc, op, a, *at, longest),
         _ => Err(OpFault::Kind(FaultKind::BadType)),
     }
 }

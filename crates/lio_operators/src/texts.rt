@@ -84,28 +84,34 @@ fn place_in(text: &[u8], at: i64) -> usize
 }
 
 /// The bytes from a place on.
-fn bytes_from(alloc: Global, text: &[u8], at: i64) -> Result<Plain, OpFault>
-    ensures { Answers (Ok (Plain.Bytes (drop (place_at at) text.now))) result }
+fn bytes_from(alloc: Global, text: &[u8], at: i64, longest: u32) -> Result<Plain, OpFault>
+    ensures { Answers (made longest (drop (place_at at) text.now)) result }
 {
     let place = place_in(text, at);
-    Ok(Plain::Bytes(Text::of(alloc, &text[place..])?))
+    made(alloc, &text[place..], longest)
 }
 
 /// The bytes up to a place.
-fn bytes_upto(alloc: Global, text: &[u8], at: i64) -> Result<Plain, OpFault>
-    ensures { Answers (Ok (Plain.Bytes (take (place_at at) text.now))) result }
+fn bytes_upto(alloc: Global, text: &[u8], at: i64, longest: u32) -> Result<Plain, OpFault>
+    ensures { Answers (made longest (take (place_at at) text.now)) result }
 {
     let place = place_in(text, at);
-    Ok(Plain::Bytes(Text::of(alloc, &text[..place])?))
+    made(alloc, &text[..place], longest)
 }
 
 /// An operator on a text and a whole.
-pub(crate) fn on_text_at(alloc: Global, op: Two, text: &[u8], at: i64) -> Result<Plain, OpFault>
-    ensures { Answers (spec.on_text_at op text.now at) result }
+pub(crate) fn on_text_at(
+    alloc: Global,
+    op: Two,
+    text: &[u8],
+    at: i64,
+    longest: u32,
+) -> Result<Plain, OpFault>
+    ensures { Answers (spec.on_text_at longest op text.now at) result }
 {
     match op {
-        Two::From => bytes_from(alloc, text, at),
-        Two::Upto => bytes_upto(alloc, text, at),
+        Two::From => bytes_from(alloc, text, at, longest),
+        Two::Upto => bytes_upto(alloc, text, at, longest),
         _ => Err(OpFault::Kind(FaultKind::BadType)),
     }
 }
