@@ -3,3 +3,4 @@ pub mod PlaceLemmas
 pub mod LiteralLemmas
 pub mod SoundLemmas
 pub mod LawLemmas
+pub mod MakingLemmas

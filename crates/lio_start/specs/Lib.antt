@@ -1,3 +1,4 @@
 pub mod Fits
 pub mod Start
+pub mod Making
 pub mod Laws

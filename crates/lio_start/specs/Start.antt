@@ -29,11 +29,15 @@ content_by false label text = Faulted (record { kind = TooLong; at = label })
 abbrev pub input_content : ℕ → Label → List ℕ → Content
 input_content longest label text = content_by (nat_le (length text) longest) label text
 
+-- an input with its text, sealed under its label
+abbrev pub sealed_input : ℕ → FileEntry → List ℕ → Value
+sealed_input longest input text = Sealed input.label (input_content longest input.label text)
+
 -- the inputs with their texts, each sealed under its label
 abbrev pub sealed_inputs : ℕ → List FileEntry → List (List ℕ) → List Value
 sealed_inputs longest [] texts = []
 sealed_inputs longest (input ∷ inputs) [] = []
-sealed_inputs longest (input ∷ inputs) (text ∷ texts) = Sealed input.label (input_content longest input.label text) ∷ sealed_inputs longest inputs texts
+sealed_inputs longest (input ∷ inputs) (text ∷ texts) = sealed_input longest input text ∷ sealed_inputs longest inputs texts
 
 -- the inputs of a policy
 abbrev pub inputs_of : PolicyParts → List (List ℕ) → List Value
