@@ -28,13 +28,13 @@ there f None = refl
 there f (Some x) = refl
 
 -- a task can take a turn where it has a move, and what is no task takes none
-can-task : (c : Configuration) (k : ℕ) (task : TaskState) → IsTaskOf c k task → can c k ≡ is_some (move_of (cell_at c) (plan c.program task))
+pub can-task : (c : Configuration) (k : ℕ) (task : TaskState) → IsTaskOf c k task → can c k ≡ is_some (move_of (cell_at c) (plan c.program task))
 unfolding step
 can-task c k task is =
     ap (λ (t : Option TaskState). is_some (option_and_then (turn_of 0 c k) t)) is
     ∙ there (λ move. let turn : Turn = record { entry = entry_of 0 k task move; next = after c k task move } in turn) (move_of (cell_at c) (plan c.program task))
 
-can-absent : (c : Configuration) (k : ℕ) → (cell_at c k).task ≡ None → can c k ≡ false
+pub can-absent : (c : Configuration) (k : ℕ) → (cell_at c k).task ≡ None → can c k ≡ false
 unfolding step
 can-absent c k is = ap (λ (t : Option TaskState). is_some (option_and_then (turn_of 0 c k) t)) is
 

@@ -33,3 +33,7 @@ pub mod RunLemmas
 pub mod EnabledLemmas
 pub mod AffordedLemmas
 pub mod MeetingLemmas
+pub mod TurnParts
+pub mod LocalityLemmas
+pub mod WaitingLemmas
+pub mod PowerLemmas

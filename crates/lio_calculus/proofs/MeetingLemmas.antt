@@ -180,7 +180,7 @@ actor-unready c k task asked sound is going =
     by label None same none = ap (λ (s : State). is_ready s asked) same ∙ job-unready label asked
     by label (Some content) same none = absurd (true≢false none)
 
-actor-unchanged : (c : Configuration) (k : ℕ) (task : TaskState) (asked : Act) → IsSound c → IsTaskOf c k task → is_ended asked ≡ false → state_after (cell_at c k).state asked ≡ (cell_at c k).state
+pub actor-unchanged : (c : Configuration) (k : ℕ) (task : TaskState) (asked : Act) → IsSound c → IsTaskOf c k task → is_ended asked ≡ false → state_after (cell_at c k).state asked ≡ (cell_at c k).state
 actor-unchanged c k task asked sound is e =
     let job = job-state (cell_at c k).state (task-job c k task sound is) in
     subst (λ (s : State). state_after s asked ≡ s) (sym job.is) (job-unchanged job.label job.result asked e)

@@ -12,3 +12,6 @@ pub mod Run
 pub mod Enabled
 pub mod Afforded
 pub mod Meeting
+pub mod Locality
+pub mod Waiting
+pub mod Powers

@@ -3,7 +3,10 @@ ghost use Rattle.lio_calculus.specs.Afforded.{PlanAfforded};
 ghost use Rattle.lio_calculus.specs.Enabled.{LowTurnsWhereEnabled, SeenTaskIsEnabledBelow};
 ghost use Rattle.lio_calculus.specs.Hiding.{PlanHidden};
 ghost use Rattle.lio_calculus.specs.Laws.{RunIsErasedRun, SeenTurnIsErasedTurn, TurnKeepsSoundness, UnseenTurnChangesNothing, UnseenTurnReleasesNothing};
+ghost use Rattle.lio_calculus.specs.Locality.{RefusedTurnChangesActorAlone, StepChangesTwoCells, StepLooksAtTwoCells};
 ghost use Rattle.lio_calculus.specs.Meeting.{VisitMeetsNode};
+ghost use Rattle.lio_calculus.specs.Powers.{PowersAreGiven};
+ghost use Rattle.lio_calculus.specs.Waiting.{TaskCanUnlessStill};
 
 /// The plan of a task that is seen with hidden values is its plan with hidden values.
 #[tactic(auto, using(crate::proofs::LawLemmas::plan_of_hidden))]
@@ -57,4 +60,29 @@ pub fn seen_task_is_enabled_below()
 /// The erased step is undefined only for a task that can't take a turn, or for want of a released content.
 pub fn low_turns_where_enabled()
     ensures { LowTurnsWhereEnabled }
+{}
+
+/// A turn changes the actor's cell and its target's alone.
+pub fn step_changes_two_cells()
+    ensures { StepChangesTwoCells }
+{}
+
+/// A turn goes by the actor's cell and the one that its plan visits alone.
+pub fn step_looks_at_two_cells()
+    ensures { StepLooksAtTwoCells }
+{}
+
+/// A refused turn changes the actor alone, and keeps its labels, its range and its node.
+pub fn refused_turn_changes_actor_alone()
+    ensures { RefusedTurnChangesActorAlone }
+{}
+
+/// A task can take a turn unless it has ended or waits for a node.
+pub fn task_can_unless_still()
+    ensures { TaskCanUnlessStill }
+{}
+
+/// Privileges are given and never made.
+pub fn powers_are_given()
+    ensures { PowersAreGiven }
 {}

@@ -1,0 +1,258 @@
+-- What a turn touches.
+use Rattle.std.proofs.Common.{◌≡◌, ◌∙◌, refl, sym, ap, subst, ℕ, ◌==◌, Bool, true, false, if◌then◌else◌, List, [], ◌∷◌, length, Option, Some, None}
+use Rattle.std.specs.Prelude.{option_and_then, option_map}
+use Rattle.std.specs.Option.{option_map_or}
+use Rattle.std.proofs.lemmas.List.{length-set, get_or-set_same, get_or-set_other}
+use Rattle.lio_labels.specs.declared.label.Label.{Label}
+use Rattle.lio_values.specs.declared.fault.Fault.{Fault}
+use Rattle.lio_values.specs.declared.fault.FaultKind.TheVariants.{NoTurns}
+use Rattle.lio_values.specs.declared.value.Content.{Content}
+use Rattle.lio_values.specs.declared.value.Content.TheVariants.{Faulted}
+use Rattle.lio_values.specs.declared.value.Value.{Value}
+use Rattle.lio_values.specs.declared.act.Act.{Act}
+use Rattle.lio_values.specs.declared.act.Act.TheVariants as act
+use Rattle.lio_values.specs.declared.act.Reply.{Reply}
+use Rattle.lio_values.specs.declared.act.Reply.TheVariants.{Done, Got, Told, Refused}
+use Rattle.lio_values.specs.declared.entry.Entry.{Entry}
+use Rattle.lio_lines.specs.declared.line.Operand.{Operand}
+use Rattle.lio_lines.specs.declared.line.Simple.{Simple}
+use Rattle.lio_lines.specs.declared.line.Simple.TheVariants as line
+use Rattle.lio_syntax.specs.Statements.{Statement, Statements}
+use Rattle.lio_syntax.specs.Statements as statement
+use Rattle.lio_cells.specs.declared.state.State.{State}
+use Rattle.lio_cells.specs.State.{held, full_with, result_of, answer}
+use Rattle.lio_control.specs.Items.{Item, Do, Access, Mark, Back, Fail}
+use Rattle.lio_calculus.specs.Operands.{bound, seen_as, flag_of, reference_of, variable_of, result_of as result_handle}
+use Rattle.lio_calculus.specs.Task.{TaskState}
+use Rattle.lio_calculus.specs.Going.{Onward, Throw, gone_on}
+use Rattle.lio_calculus.specs.Plan.{Program, Plan, Over, Own, Visit, Target, fault_at, ending, with_seen, choosing, looping, plan_statement, plan_access, plan_items, plan}
+use Rattle.lio_calculus.specs.Step.{Cell, Configuration, blank, cell_at, with_cell, number_of, is_met, met, visit, Move, move_of, met_after, actor_after, target_after, after, Turn, entry_of, turn_of, step}
+use Rattle.lio_calculus.specs.Sound.{IsTaskOf}
+use Rattle.lio_calculus.specs.Locality.{ChangesTwoCells, StepChangesTwoCells, visited, StepLooksAtTwoCells, after_refusal, ChangesActorAlone, RefusedTurnChangesActorAlone}
+use Rattle.lio_calculus.proofs.Outcome.{Outcome}
+use Rattle.lio_calculus.proofs.Outcome as out
+use Rattle.lio_calculus.proofs.OutcomeLemmas.{outcome}
+use Rattle.lio_calculus.proofs.SoundLemmas.{inside, task-there}
+use Rattle.lio_calculus.proofs.PlanKept.{KeptPlan, is_ended, plan-kept}
+use Rattle.lio_calculus.proofs.MeetingLemmas.{actor-unchanged}
+use Rattle.lio_calculus.proofs.TurnParts.{made_of, parts, own_move, own-moves, visit-moves, over-moves}
+
+-- cells that the target's isn't
+target-elsewhere : (c : Configuration) (label : Label) (asked : Act) (target : Option Target) (n : ℕ) → (option_map number_of target ≡ Some n → ⊥) → cell_at (target_after c label asked target) n ≡ cell_at c n
+target-elsewhere c label asked None n other = refl
+target-elsewhere c label asked (Some target) n other = by (is_met target (cell_at c (number_of target)).state)
+  where
+    by : (b : Bool) → cell_at (if b then with_cell c (number_of target) (met_after c.program label asked (cell_at c (number_of target))) else c) n ≡ cell_at c n
+    by true = get_or-set_other c.cells (number_of target) n _ blank (λ e. other (ap Some (sym e)))
+    by false = refl
+
+target-size : (c : Configuration) (label : Label) (asked : Act) (target : Option Target) → length (target_after c label asked target).cells ≡ length c.cells
+target-size c label asked None = refl
+target-size c label asked (Some target) = by (is_met target (cell_at c (number_of target)).state)
+  where
+    by : (b : Bool) → (let d : Configuration = if b then with_cell c (number_of target) (met_after c.program label asked (cell_at c (number_of target))) else c in length d.cells ≡ length c.cells)
+    by true = length-set c.cells (number_of target) _
+    by false = refl
+
+target-program : (c : Configuration) (label : Label) (asked : Act) (target : Option Target) → (target_after c label asked target).program ≡ c.program
+target-program c label asked None = refl
+target-program c label asked (Some target) = by (is_met target (cell_at c (number_of target)).state)
+  where
+    by : (b : Bool) → (let d : Configuration = if b then with_cell c (number_of target) (met_after c.program label asked (cell_at c (number_of target))) else c in d.program ≡ c.program)
+    by true = refl
+    by false = refl
+
+-- a node refuses nothing
+found-unrefused : {X : Type 0} (into : X → Reply) (o : Option X) (fault : Fault) → ((x : X) → into x ≡ Refused fault → ⊥) → option_map_or into o Done ≡ Refused fault → ⊥
+found-unrefused into None fault none e = cc
+found-unrefused into (Some x) fault none e = none x e
+
+got-unrefused : (fault : Fault) (value : Value) → Got value ≡ Refused fault → ⊥
+got-unrefused fault value e = cc
+
+told-unrefused : (fault : Fault) (content : Content) → Told content ≡ Refused fault → ⊥
+told-unrefused fault content e = cc
+
+answer-unrefused : (state : State) (asked : Act) (fault : Fault) → answer state asked ≡ Refused fault → ⊥
+unfolding answer
+answer-unrefused state act.Read fault e = found-unrefused Got (held state) fault (got-unrefused fault) e
+answer-unrefused state act.Take fault e = found-unrefused Got (full_with state) fault (got-unrefused fault) e
+answer-unrefused state act.Wait fault e = found-unrefused Told (result_of state) fault (told-unrefused fault) e
+answer-unrefused state asked fault e = absurd (cc)
+
+move-untargeted : (c : Configuration) (p : Plan) (move : Move) (fault : Fault) → move_of (cell_at c) p ≡ Some move → move.reply ≡ Refused fault → option_map number_of move.target ≡ None
+move-untargeted c Over move fault moves refused = absurd (over-moves c move moves)
+move-untargeted c (Own asked reply onward) move fault moves refused =
+    ap (λ (m : Move). option_map number_of m.target) (sym (own-moves c asked reply onward move moves))
+move-untargeted c (Visit asked target onward) move fault moves refused =
+    absurd (answer-unrefused (met target (cell_at c (number_of target)).state) asked fault (ap (λ (m : Move). m.reply) (visit-moves c asked target onward move moves) ∙ refused))
+
+move-changes : (ticket : ℕ) (c : Configuration) (k : ℕ) (task : TaskState) (move : Move) → move_of (cell_at c) (plan c.program task) ≡ Some move → ChangesTwoCells c k (made_of ticket c k task move)
+move-changes ticket c k task move moves =
+    let between : Configuration = target_after c task.label move.act move.target in
+    record {
+      elsewhere = λ n p q. get_or-set_other between.cells k n (actor_after task move (cell_at between k)) blank p ∙ target-elsewhere c task.label move.act move.target n q;
+      actor = refl;
+      program = target-program c task.label move.act move.target;
+      size = length-set between.cells k (actor_after task move (cell_at between k)) ∙ target-size c task.label move.act move.target;
+      refused = λ fault e. move-untargeted c (plan c.program task) move fault moves e;
+    }
+
+pub step_changes_two_cells : StepChangesTwoCells
+step_changes_two_cells ticket c k turn steps =
+    let p = parts ticket c k turn steps in
+    subst (ChangesTwoCells c k) p.made (move-changes ticket c k p.task p.move p.moves)
+
+-- the move goes by the cell that is visited
+move-same : (c d : Configuration) (p : Plan) → ((n : ℕ) → visited p ≡ Some n → cell_at c n ≡ cell_at d n) → move_of (cell_at c) p ≡ move_of (cell_at d) p
+move-same c d Over same = refl
+move-same c d (Own asked reply onward) same = refl
+move-same c d (Visit asked target onward) same = ap (λ (cell : Cell). visit asked target onward (met target cell.state)) (same (number_of target) refl)
+
+-- the entry of a step
+abbrev entry : Turn → Entry
+entry turn = turn.entry
+
+entry-task : (ticket : ℕ) (c : Configuration) (k : ℕ) (task : TaskState) → IsTaskOf c k task → option_map (λ turn. turn.entry) (step ticket c k) ≡ option_map (entry_of ticket k task) (move_of (cell_at c) (plan c.program task))
+unfolding step
+entry-task ticket c k task is =
+    ap (λ (t : Option TaskState). option_map entry (option_and_then (turn_of ticket c k) t)) is ∙ by (move_of (cell_at c) (plan c.program task))
+  where
+    by : (m : Option Move) → option_map entry (option_map (made_of ticket c k task) m) ≡ option_map (entry_of ticket k task) m
+    by None = refl
+    by (Some move) = refl
+
+entry-absent : (ticket : ℕ) (c : Configuration) (k : ℕ) → (cell_at c k).task ≡ None → option_map (λ turn. turn.entry) (step ticket c k) ≡ None
+unfolding step
+entry-absent ticket c k is = ap (λ (t : Option TaskState). option_map entry (option_and_then (turn_of ticket c k) t)) is
+
+pub step_looks_at_two_cells : StepLooksAtTwoCells
+step_looks_at_two_cells ticket c d k same = by (cell_at c k).task refl
+  where
+    there : (t : Option TaskState) → (cell_at c k).task ≡ t → (cell_at d k).task ≡ t
+    there t is = sym (ap (λ (cell : Cell). cell.task) same.actor) ∙ is
+
+    by : (t : Option TaskState) → (cell_at c k).task ≡ t → option_map (λ turn. turn.entry) (step ticket c k) ≡ option_map (λ turn. turn.entry) (step ticket d k)
+    by None is = entry-absent ticket c k is ∙ sym (entry-absent ticket d k (there None is))
+    by (Some task) is =
+        entry-task ticket c k task is
+        ∙ ap (option_map (entry_of ticket k task)) (move-same c d (plan c.program task) (λ n e. same.target task n is e) ∙ ap (λ (program : Program). move_of (cell_at d) (plan program task)) same.program)
+        ∙ sym (entry-task ticket d k task (there (Some task) is))
+
+-- a plan whose act is refused throws the fault
+abbrev ThrowsRefused : Plan → Type 0
+ThrowsRefused (Own asked (Refused fault) onward) = onward ≡ Throw fault
+ThrowsRefused plan = Unit {0}
+
+outcome-throws : (program : Program) (task : TaskState) (s : Simple) (p : Plan) → Outcome program task s p → ThrowsRefused p
+outcome-throws program task s p (out.Mistyped t) = refl
+outcome-throws program task s p (out.Refused t asked o target kind tests e) = refl
+outcome-throws program task s p (out.Fails1 x o a value kind e) = refl
+outcome-throws program task s p (out.Fails2 x a o b left right kind e) = refl
+outcome-throws program task s p (out.IsTooDeep x q arguments) = refl
+outcome-throws program task s p (out.Throws a plain e) = refl
+outcome-throws program task s p (out.KeepsBack x a l q t target power kind e) = refl
+outcome-throws program task s p (out.LacksReference x l a label value e) = refl
+outcome-throws program task s p (out.RefusesReference x l a label value kind e f) = refl
+outcome-throws program task s p (out.LacksVariable t x label value f) = refl
+outcome-throws program task s p (out.RefusesVariable t x label value kind f e) = refl
+outcome-throws program task s p (out.RefusesWrite r a handle value kind e f) = refl
+outcome-throws program task s p (out.RefusesChild t x label turns cells birth kind f e) = refl
+outcome-throws program task s p (out.LacksCells t x label turns cells birth f) = refl
+outcome-throws program task s p (out.LacksTurns t x label turns cells birth f) = refl
+outcome-throws program task s p (out.OrphanLacksCells t turns cells birth f) = refl
+outcome-throws program task s p (out.OrphanLacksTurns t turns cells birth f) = refl
+outcome-throws program task s p o = tt
+
+seen-throws : {X : Type 0} (task : TaskState) (seen : Option X) (next : X → Plan) → ((x : X) → ThrowsRefused (next x)) → ThrowsRefused (with_seen task seen next)
+seen-throws task None next fine = refl
+seen-throws task (Some x) next fine = fine x
+
+choosing-throws : (block other : Statements) (flag : Bool) → ThrowsRefused (choosing block other flag)
+choosing-throws block other true = tt
+choosing-throws block other false = tt
+
+looping-throws : (condition : Operand) (block : Statements) (flag : Bool) → ThrowsRefused (looping condition block flag)
+looping-throws condition block true = tt
+looping-throws condition block false = tt
+
+statement-throws : (program : Program) (task : TaskState) (s : Statement) → ThrowsRefused (plan_statement program task s)
+statement-throws program task (statement.Do simple) = outcome-throws program task simple _ (outcome program task simple)
+statement-throws program task (statement.If a block) = seen-throws task (seen_as flag_of task.environment a) (choosing block statement.Nothing) (choosing-throws block statement.Nothing)
+statement-throws program task (statement.IfElse a block other) = seen-throws task (seen_as flag_of task.environment a) (choosing block other) (choosing-throws block other)
+statement-throws program task (statement.While a block) = seen-throws task (seen_as flag_of task.environment a) (looping a block) (looping-throws a block)
+statement-throws program task (statement.Try block code payload handler) = tt
+
+access-throws : (task : TaskState) (s : Simple) → ThrowsRefused (plan_access task s)
+unfolding plan_access
+access-throws task (line.Read x r) = seen-throws task (seen_as reference_of task.environment r) _ (λ handle. tt)
+access-throws task (line.Take x v) = seen-throws task (seen_as variable_of task.environment v) _ (λ handle. tt)
+access-throws task (line.Put v a) = seen-throws task (seen_as variable_of task.environment v) _ (λ handle. seen-throws task (bound task.environment a) _ (λ value. tt))
+access-throws task (line.Wait x r) = seen-throws task (seen_as result_handle task.environment r) _ (λ handle. tt)
+access-throws task s = refl
+
+items-throws : (program : Program) (task : TaskState) (items : List Item) → ThrowsRefused (plan_items program task items)
+items-throws program task [] = tt
+items-throws program task (Do s ∷ items) = statement-throws program task s
+items-throws program task (Access s ∷ items) = access-throws task s
+items-throws program task (Mark code payload handler ∷ items) = tt
+items-throws program task (Back caller name ∷ items) = tt
+items-throws program task (Fail fault ∷ items) = tt
+
+plan-throws : (program : Program) (task : TaskState) → ThrowsRefused (plan program task)
+unfolding plan
+plan-throws program task = by task.ended (task.turns == 0)
+  where
+    by : (ended none : Bool) → ThrowsRefused (if ended then Over else (if none then ending (Faulted (fault_at task NoTurns)) else plan_items program task task.items))
+    by true none = tt
+    by false true = tt
+    by false false = items-throws program task task.items
+
+-- a refused move: it has no target, throws the fault, and ends no task
+move-refused : (c : Configuration) (task : TaskState) (p : Plan) (move : Move) (fault : Fault) → ThrowsRefused p → move_of (cell_at c) p ≡ Some move → move.reply ≡ Refused fault
+    → (move.target ≡ None) × (move.onward ≡ Throw fault) × (KeptPlan task p → is_ended move.act ≡ false)
+move-refused c task Over move fault throws moves refused = absurd (over-moves c move moves)
+move-refused c task (Own asked reply onward) move fault throws moves refused =
+    let same : own_move asked reply onward ≡ move = own-moves c asked reply onward move moves in
+    let reply_is : reply ≡ Refused fault = ap (λ (m : Move). m.reply) same ∙ refused in
+    let throw : onward ≡ Throw fault = subst (λ (r : Reply). ThrowsRefused (Own asked r onward)) reply_is throws in (
+      sym (ap (λ (m : Move). m.target) same),
+      sym (ap (λ (m : Move). m.onward) same) ∙ throw,
+      λ kept. subst (λ (m : Move). is_ended m.act ≡ false) same (subst (λ (o : Onward). KeptPlan task (Own asked reply o)) throw kept).1,
+    )
+move-refused c task (Visit asked target onward) move fault throws moves refused =
+    absurd (answer-unrefused (met target (cell_at c (number_of target)).state) asked fault (ap (λ (m : Move). m.reply) (visit-moves c asked target onward move moves) ∙ refused))
+
+actor-refused : (c : Configuration) (k : ℕ) (task : TaskState) (move : Move) (fault : Fault) → IsTaskOf c k task → move.target ≡ None → cell_at (after c k task move) k ≡ actor_after task move (cell_at c k)
+actor-refused c k task move fault is none =
+    let same : target_after c task.label move.act move.target ≡ c = ap (target_after c task.label move.act) none in
+    subst (λ (d : Configuration). cell_at (with_cell d k (actor_after task move (cell_at d k))) k ≡ actor_after task move (cell_at c k)) (sym same)
+    (get_or-set_same c.cells k (actor_after task move (cell_at c k)) blank (inside c k (task-there c k task is)))
+
+thrown-on : (task : TaskState) (fault : Fault) (asked : Act) (reply : Reply) → gone_on task (Throw fault) asked reply ≡ after_refusal task fault
+unfolding gone_on
+thrown-on task fault asked reply = refl
+
+move-alone : (ticket : ℕ) (c : Configuration) (k : ℕ) (task : TaskState) (move : Move) (fault : Fault) → IsTaskOf c k task → move_of (cell_at c) (plan c.program task) ≡ Some move → move.reply ≡ Refused fault
+    → ChangesActorAlone c k task fault (made_of ticket c k task move)
+move-alone ticket c k task move fault is moves refused =
+    let r = move-refused c task (plan c.program task) move fault (plan-throws c.program task) moves refused in
+    let changes = move-changes ticket c k task move moves in
+    let none : option_map number_of move.target ≡ None = ap (option_map number_of) r.0 in
+    let cell : cell_at (after c k task move) k ≡ actor_after task move (cell_at c k) = actor-refused c k task move fault is r.0 in
+    record {
+      elsewhere = λ n p. changes.elsewhere n p (λ e. let clash : None ≡ Some n = sym none ∙ e in cc);
+      actor = ap (λ (x : Cell). x.task) cell ∙ ap (λ (o : Onward). Some (gone_on task o move.act move.reply)) r.1 ∙ ap Some (thrown-on task fault move.act move.reply);
+      keeps = record { label = refl; clearance = refl; first = refl; cells = refl; ended = refl };
+      state = λ sound. ap (λ (x : Cell). x.state) cell ∙ actor-unchanged c k task move.act sound is (r.2 (plan-kept c.program task (sound.clearance k task is) (sound.literals k task is) sound.program));
+    }
+
+pub refused_turn_changes_actor_alone : RefusedTurnChangesActorAlone
+refused_turn_changes_actor_alone ticket c k task turn fault is steps refused =
+    let p = parts ticket c k turn steps in
+    let same : p.task ≡ task = some-same (sym p.is ∙ is) in
+    subst (ChangesActorAlone c k task fault) (subst (λ (t : TaskState). made_of ticket c k t p.move ≡ turn) same p.made)
+    (move-alone ticket c k task p.move fault is (subst (λ (t : TaskState). move_of (cell_at c) (plan c.program t) ≡ Some p.move) same p.moves) (ap (λ (t : Turn). t.entry.reply) p.made ∙ refused))
+  where
+    some-same : {a b : TaskState} → Some a ≡ Some b → a ≡ b
+    some-same e = cc
