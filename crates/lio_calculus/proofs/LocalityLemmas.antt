@@ -1,7 +1,8 @@
 -- What a turn touches.
-use Rattle.std.proofs.Common.{◌≡◌, ◌∙◌, refl, sym, ap, subst, ℕ, ◌==◌, Bool, true, false, if◌then◌else◌, List, [], ◌∷◌, length, Option, Some, None}
+use Rattle.std.proofs.Common.{◌≡◌, ◌∙◌, refl, sym, ap, subst, ℕ, zero, suc, ◌==◌, ◌⊎◌, inl, inr, arith, Bool, true, false, if◌then◌else◌, List, [], ◌∷◌, length, Option, Some, None}
 use Rattle.std.specs.Prelude.{option_and_then, option_map}
 use Rattle.std.specs.Option.{option_map_or}
+use Rattle.std.specs.List.{slice_set, slice_index_or}
 use Rattle.std.proofs.lemmas.List.{length-set, get_or-set_same, get_or-set_other}
 use Rattle.lio_labels.specs.declared.label.Label.{Label}
 use Rattle.lio_values.specs.declared.fault.Fault.{Fault}
@@ -28,7 +29,7 @@ use Rattle.lio_calculus.specs.Going.{Onward, Throw, gone_on}
 use Rattle.lio_calculus.specs.Plan.{Program, Plan, Over, Own, Visit, Target, fault_at, ending, with_seen, choosing, looping, plan_statement, plan_access, plan_items, plan}
 use Rattle.lio_calculus.specs.Step.{Cell, Configuration, blank, cell_at, with_cell, number_of, is_met, met, visit, Move, move_of, met_after, actor_after, target_after, after, Turn, entry_of, turn_of, step}
 use Rattle.lio_calculus.specs.Sound.{IsTaskOf}
-use Rattle.lio_calculus.specs.Locality.{ChangesTwoCells, StepChangesTwoCells, visited, StepLooksAtTwoCells, after_refusal, ChangesActorAlone, RefusedTurnChangesActorAlone}
+use Rattle.lio_calculus.specs.Locality.{ChangesTwoCells, StepChangesTwoCells, visited, SameWhereItLooks, StepLooksAtTwoCells, StepMakesTheSameCells, after_refusal, ChangesActorAlone, RefusedTurnChangesActorAlone}
 use Rattle.lio_calculus.proofs.Outcome.{Outcome}
 use Rattle.lio_calculus.proofs.Outcome as out
 use Rattle.lio_calculus.proofs.OutcomeLemmas.{outcome}
@@ -138,6 +139,90 @@ step_looks_at_two_cells ticket c d k same = by (cell_at c k).task refl
         entry-task ticket c k task is
         ∙ ap (option_map (entry_of ticket k task)) (move-same c d (plan c.program task) (λ n e. same.target task n is e) ∙ ap (λ (program : Program). move_of (cell_at d) (plan program task)) same.program)
         ∙ sym (entry-task ticket d k task (there (Some task) is))
+
+-- two lists of cells with the same cell under one number
+set-same : (xs ys : List Cell) (i n : ℕ) (x y : Cell) → length xs ≡ length ys → x ≡ y → ((n ≡ i → ⊥) → slice_index_or xs n blank ≡ slice_index_or ys n blank)
+    → slice_index_or (slice_set xs i x) n blank ≡ slice_index_or (slice_set ys i y) n blank
+set-same [] [] i n x y size same other = refl
+set-same [] (b ∷ ys) i n x y size same other = absurd (cc)
+set-same (a ∷ xs) [] i n x y size same other = absurd (cc)
+set-same (a ∷ xs) (b ∷ ys) zero zero x y size same other = same
+set-same (a ∷ xs) (b ∷ ys) zero (suc n) x y size same other = other (λ e. suc-zero n e)
+  where
+    suc-zero : (n : ℕ) → suc n ≡ zero → ⊥
+    suc-zero n e = cc
+set-same (a ∷ xs) (b ∷ ys) (suc i) zero x y size same other = other (λ e. zero-suc i e)
+  where
+    zero-suc : (n : ℕ) → zero ≡ suc n → ⊥
+    zero-suc n e = cc
+set-same (a ∷ xs) (b ∷ ys) (suc i) (suc n) x y size same other = set-same xs ys i n x y (omega (arith, size)) same (λ differ. other (λ e. differ (omega (arith, e))))
+
+target-same : (c d : Configuration) (label : Label) (asked : Act) (target : Option Target) (n : ℕ) → c.program ≡ d.program → length c.cells ≡ length d.cells
+    → ((m : ℕ) → option_map number_of target ≡ Some m → cell_at c m ≡ cell_at d m) → cell_at c n ≡ cell_at d n → cell_at (target_after c label asked target) n ≡ cell_at (target_after d label asked target) n
+target-same c d label asked None n program size met_same same = same
+target-same c d label asked (Some target) n program size met_same same =
+    by (is_met target (cell_at c (number_of target)).state) ∙ ap (λ (cell : Cell). cell_at (if is_met target cell.state then with_cell d (number_of target) (met_after d.program label asked (cell_at d (number_of target))) else d) n) here
+  where
+    here : cell_at c (number_of target) ≡ cell_at d (number_of target)
+    here = met_same (number_of target) refl
+
+    made : met_after c.program label asked (cell_at c (number_of target)) ≡ met_after d.program label asked (cell_at d (number_of target))
+    made = ap (λ (p : Program). met_after p label asked (cell_at c (number_of target))) program ∙ ap (met_after d.program label asked) here
+
+    by : (b : Bool) → cell_at (if b then with_cell c (number_of target) (met_after c.program label asked (cell_at c (number_of target))) else c) n
+        ≡ cell_at (if b then with_cell d (number_of target) (met_after d.program label asked (cell_at d (number_of target))) else d) n
+    by true = set-same c.cells d.cells (number_of target) n _ _ size made (λ differ. same)
+    by false = same
+
+after-same : (c d : Configuration) (k : ℕ) (task : TaskState) (move : Move) (n : ℕ) → c.program ≡ d.program → length c.cells ≡ length d.cells → cell_at c k ≡ cell_at d k
+    → ((m : ℕ) → option_map number_of move.target ≡ Some m → cell_at c m ≡ cell_at d m) → cell_at c n ≡ cell_at d n → cell_at (after c k task move) n ≡ cell_at (after d k task move) n
+after-same c d k task move n program size actor met_same same =
+    let one : Configuration = target_after c task.label move.act move.target in
+    let two : Configuration = target_after d task.label move.act move.target in
+    set-same one.cells two.cells k n (actor_after task move (cell_at one k)) (actor_after task move (cell_at two k))
+    (target-size c task.label move.act move.target ∙ size ∙ sym (target-size d task.label move.act move.target))
+    (ap (actor_after task move) (target-same c d task.label move.act move.target k program size met_same actor))
+    (λ differ. target-same c d task.label move.act move.target n program size met_same same)
+
+-- the move meets the node that the plan visits
+move-visits : (c : Configuration) (p : Plan) (move : Move) → move_of (cell_at c) p ≡ Some move → option_map number_of move.target ≡ visited p
+move-visits c Over move moves = absurd (over-moves c move moves)
+move-visits c (Own asked reply onward) move moves = ap (λ (m : Move). option_map number_of m.target) (sym (own-moves c asked reply onward move moves))
+move-visits c (Visit asked target onward) move moves = ap (λ (m : Move). option_map number_of m.target) (sym (visit-moves c asked target onward move moves))
+
+moves-same : (ticket : ℕ) (c d : Configuration) (k : ℕ) (task : TaskState) (one two : Move) → SameWhereItLooks c d k → length c.cells ≡ length d.cells → IsTaskOf c k task
+    → move_of (cell_at c) (plan c.program task) ≡ Some one → move_of (cell_at d) (plan d.program task) ≡ Some two
+    → (n : ℕ) → (n ≡ k) ⊎ (option_map number_of one.target ≡ Some n) → cell_at (after c k task one) n ≡ cell_at (after d k task two) n
+moves-same ticket c d k task one two same size is moves others n place =
+    let equal : one ≡ two = some-same (sym moves ∙ move-same c d (plan c.program task) (λ m e. same.target task m is e) ∙ ap (λ (program : Program). move_of (cell_at d) (plan program task)) same.program ∙ others) in
+    subst (λ (move : Move). cell_at (after c k task one) n ≡ cell_at (after d k task move) n) equal
+    (after-same c d k task one n same.program size same.actor at_target (here place))
+  where
+    some-same : {a b : Move} → Some a ≡ Some b → a ≡ b
+    some-same e = cc
+
+    at_target : (m : ℕ) → option_map number_of one.target ≡ Some m → cell_at c m ≡ cell_at d m
+    at_target m e = same.target task m is (sym (move-visits c (plan c.program task) one moves) ∙ e)
+
+    here : (n ≡ k) ⊎ (option_map number_of one.target ≡ Some n) → cell_at c n ≡ cell_at d n
+    here (inl e) = subst (λ (m : ℕ). cell_at c m ≡ cell_at d m) (sym e) same.actor
+    here (inr e) = at_target n e
+
+pub step_makes_the_same_cells : StepMakesTheSameCells
+step_makes_the_same_cells ticket c d k one two same size steps others n place =
+    let p = parts ticket c k one steps in
+    let q = parts ticket d k two others in
+    let task : q.task ≡ p.task = some-task (sym q.is ∙ sym (ap (λ (cell : Cell). cell.task) same.actor) ∙ p.is) in
+    let move : move_of (cell_at d) (plan d.program p.task) ≡ Some q.move = subst (λ (t : TaskState). move_of (cell_at d) (plan d.program t) ≡ Some q.move) task q.moves in
+    let made : made_of ticket d k p.task q.move ≡ two = subst (λ (t : TaskState). made_of ticket d k t q.move ≡ two) task q.made in
+    sym (ap (λ (t : Turn). cell_at t.next n) p.made) ∙ moves-same ticket c d k p.task p.move q.move same size p.is p.moves move n (shown p.task p.move place p.made) ∙ ap (λ (t : Turn). cell_at t.next n) made
+  where
+    some-task : {a b : TaskState} → Some a ≡ Some b → a ≡ b
+    some-task e = cc
+
+    shown : (task : TaskState) (move : Move) → (n ≡ k) ⊎ (one.entry.target ≡ Some n) → made_of ticket c k task move ≡ one → (n ≡ k) ⊎ (option_map number_of move.target ≡ Some n)
+    shown task move (inl e) made = inl e
+    shown task move (inr e) made = inr (ap (λ (t : Turn). t.entry.target) made ∙ e)
 
 -- a plan whose act is refused throws the fault
 abbrev ThrowsRefused : Plan → Type 0

@@ -1,6 +1,6 @@
 -- What a turn touches: it changes the actor's cell and at most its target's, and goes by these two alone; a refused turn changes the actor's alone
 -- (the small step of the concurrent calculus of LIO, ICFP 2012).
-use Rattle.std.specs.Prelude.{◌≡◌, ℕ, ◌-◌, length, Option, Some, None}
+use Rattle.std.specs.Prelude.{◌≡◌, ℕ, ◌-◌, length, Option, Some, None, ◌⊎◌}
 use Rattle.std.specs.Option.{option_map}
 use Rattle.lio_values.specs.declared.fault.Fault.{Fault}
 use Rattle.lio_values.specs.declared.act.Reply.TheVariants.{Refused}
@@ -41,6 +41,12 @@ pub record SameWhereItLooks (c d : Configuration) (k : ℕ) : Type 0 where
 -- there a task takes the same turn, with the same entry, or none in both
 abbrev pub StepLooksAtTwoCells : Type 0
 StepLooksAtTwoCells = (ticket : ℕ) (c d : Configuration) (k : ℕ) → SameWhereItLooks c d k → option_map (λ turn. turn.entry) (step ticket c k) ≡ option_map (λ turn. turn.entry) (step ticket d k)
+
+-- and where the configurations have as many cells, the actor's cell and the target's are the same after it
+abbrev pub StepMakesTheSameCells : Type 0
+StepMakesTheSameCells = (ticket : ℕ) (c d : Configuration) (k : ℕ) (one two : Turn)
+    → SameWhereItLooks c d k → length c.cells ≡ length d.cells → step ticket c k ≡ Some one → step ticket d k ≡ Some two
+    → (n : ℕ) → (n ≡ k) ⊎ (one.entry.target ≡ Some n) → cell_at one.next n ≡ cell_at two.next n
 
 -- a task after a refused turn: its first item is dropped, one turn is spent, if one is left, and the fault is thrown
 abbrev pub after_refusal : TaskState → Fault → TaskState

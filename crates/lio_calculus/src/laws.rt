@@ -3,7 +3,7 @@ ghost use Rattle.lio_calculus.specs.Afforded.{PlanAfforded};
 ghost use Rattle.lio_calculus.specs.Enabled.{LowTurnsWhereEnabled, SeenTaskIsEnabledBelow};
 ghost use Rattle.lio_calculus.specs.Hiding.{PlanHidden};
 ghost use Rattle.lio_calculus.specs.Laws.{RunIsErasedRun, SeenTurnIsErasedTurn, TurnKeepsSoundness, UnseenTurnChangesNothing, UnseenTurnReleasesNothing};
-ghost use Rattle.lio_calculus.specs.Locality.{RefusedTurnChangesActorAlone, StepChangesTwoCells, StepLooksAtTwoCells};
+ghost use Rattle.lio_calculus.specs.Locality.{RefusedTurnChangesActorAlone, StepChangesTwoCells, StepLooksAtTwoCells, StepMakesTheSameCells};
 ghost use Rattle.lio_calculus.specs.Meeting.{VisitMeetsNode};
 ghost use Rattle.lio_calculus.specs.Powers.{PowersAreGiven};
 ghost use Rattle.lio_calculus.specs.Waiting.{TaskCanUnlessStill};
@@ -70,6 +70,11 @@ pub fn step_changes_two_cells()
 /// A turn goes by the actor's cell and the one that its plan visits alone.
 pub fn step_looks_at_two_cells()
     ensures { StepLooksAtTwoCells }
+{}
+
+/// What a turn makes of these two cells goes by them alone.
+pub fn step_makes_the_same_cells()
+    ensures { StepMakesTheSameCells }
 {}
 
 /// A refused turn changes the actor alone, and keeps its labels, its range and its node.
