@@ -1,2 +1,2 @@
 pub mod Escape
-pub mod Turns
+pub mod Given

@@ -2,6 +2,7 @@
 
 use crate::escape::escape;
 use lio_clauses::{FormFault, NameFault, NoMemory, TextFault};
+use lio_fields::{FieldFault, Words};
 use lio_policy::PolicyFault;
 use std::alloc::{AllocError, AllocFailed, Global};
 use std::io;
@@ -39,6 +40,16 @@ pub enum Refusal {
     NoMemory,
 }
 
+impl From<FieldFault> for Refusal {
+    fn from(fault: FieldFault) -> Refusal {
+        match fault {
+            FieldFault::Invalid => Refusal::NoCommand,
+            FieldFault::Text(fault) => Refusal::Text(fault),
+            FieldFault::NoMemory => Refusal::NoMemory,
+        }
+    }
+}
+
 impl From<PolicyFault> for Refusal {
     fn from(fault: PolicyFault) -> Refusal {
         match fault {
@@ -63,6 +74,15 @@ impl From<AllocError> for Refusal {
 impl<T: Drop> From<AllocFailed<T>> for Refusal {
     fn from(_: AllocFailed<T>) -> Refusal {
         Refusal::NoMemory
+    }
+}
+
+/// The answer of a command, if no field is left.
+pub fn finished(answer: Answer, words: &Words) -> Result<Option<Answer>, Refusal> {
+    if words.is_empty() {
+        Ok(Some(answer))
+    } else {
+        Err(Refusal::NoCommand)
     }
 }
 

@@ -1,13 +1,11 @@
 //! Commands on entries and journals.
 ghost use Rattle.lio_events.specs.Printable.{IsPrintable};
 
-use crate::answer::{Answer, Refusal};
-use crate::turns::{entry, journal};
-use crate::values::label;
-use crate::words::Words;
+use crate::answer::{Answer, Refusal, finished};
 use lio_clauses::Names;
 use lio_events::laws::erased_is_printable;
 use lio_events::{channel_bytes, print_entry, print_journal};
+use lio_fields::{Words, read_entry, read_journal, read_label};
 use lio_labels::Label;
 use lio_values::Entry;
 use std::alloc::Global;
@@ -20,24 +18,19 @@ pub fn answer(
     fields: &[Vec<u8>],
 ) -> Result<Option<Answer>, Refusal> {
     let mut words = Words::new(fields);
-    let answer = match word {
-        b"entry" => shown(&mut words, alloc, names)?,
-        b"erased" => erased(&mut words, alloc, names)?,
-        b"equal_entries" => equal(&mut words, alloc, names)?,
-        b"journal" => history(&mut words, alloc, names)?,
-        b"bytes" => bytes(&mut words, alloc, names)?,
-        _ => return Ok(None),
-    };
-    if words.is_empty() {
-        Ok(Some(answer))
-    } else {
-        Err(Refusal::NoCommand)
+    match word {
+        b"entry" => finished(shown(&mut words, alloc, names)?, &words),
+        b"erased" => finished(erased(&mut words, alloc, names)?, &words),
+        b"equal_entries" => finished(equal(&mut words, alloc, names)?, &words),
+        b"journal" => finished(history(&mut words, alloc, names)?, &words),
+        b"bytes" => finished(bytes(&mut words, alloc, names)?, &words),
+        _ => Ok(None),
     }
 }
 
 /// `entry ENTRY`: the line of a copy of the entry, with its ticket.
 fn shown(words: &mut Words, alloc: Global, names: &Names) -> Result<Answer, Refusal> {
-    let entry = entry(words, alloc, names)?;
+    let entry = read_entry(words, alloc, names)?;
     copied(alloc, names, &entry)
 }
 
@@ -58,8 +51,8 @@ fn line(alloc: Global, names: &Names, entry: &Entry, ticket: bool) -> Result<Ans
 
 /// `erased L ENTRY`: the line of the entry as an observer at the label sees it, without its ticket.
 fn erased(words: &mut Words, alloc: Global, names: &Names) -> Result<Answer, Refusal> {
-    let observer = label(words, alloc, names)?;
-    let entry = entry(words, alloc, names)?;
+    let observer = read_label(words, alloc, names)?;
+    let entry = read_entry(words, alloc, names)?;
     seen(alloc, names, &observer, &entry)
 }
 
@@ -74,20 +67,30 @@ fn seen(alloc: Global, names: &Names, observer: &Label, entry: &Entry) -> Result
 
 /// `equal_entries ENTRY ENTRY`: whether the two are equal.
 fn equal(words: &mut Words, alloc: Global, names: &Names) -> Result<Answer, Refusal> {
-    let one = entry(words, alloc, names)?;
-    let other = entry(words, alloc, names)?;
-    Ok(Answer::Truth(one == other))
+    let one = read_entry(words, alloc, names)?;
+    equal_to_next(words, alloc, names, &one)
+}
+
+/// Whether the next entry is equal to this one.
+fn equal_to_next(
+    words: &mut Words,
+    alloc: Global,
+    names: &Names,
+    one: &Entry,
+) -> Result<Answer, Refusal> {
+    let other = read_entry(words, alloc, names)?;
+    Ok(Answer::Truth(*one == other))
 }
 
 /// `journal COUNT ENTRY..`: the lines of the journal, with their tickets.
 fn history(words: &mut Words, alloc: Global, names: &Names) -> Result<Answer, Refusal> {
-    let journal = journal(words, alloc, names)?;
+    let journal = read_journal(words, alloc, names)?;
     Ok(Answer::Text(print_journal(alloc, &journal, true, names)?))
 }
 
 /// `bytes NUMBER COUNT ENTRY..`: what the channel with this number has received, by the journal.
 fn bytes(words: &mut Words, alloc: Global, names: &Names) -> Result<Answer, Refusal> {
     let channel = words.number()?;
-    let journal = journal(words, alloc, names)?;
+    let journal = read_journal(words, alloc, names)?;
     Ok(Answer::Text(channel_bytes(alloc, &journal, channel)?))
 }

@@ -8,12 +8,10 @@ mod escape;
 mod formulas;
 mod labels;
 mod names;
+mod operators;
 mod policies;
 mod scripts;
 mod session;
-mod turns;
-mod values;
-mod words;
 
 use answer::write_answer;
 use session::Session;

@@ -1,7 +1,7 @@
 //! Commands on policies.
 
 use crate::answer::{Answer, Refusal};
-use lio_policy::{EntryAt, EntryKind, entry_at, read_policy};
+use lio_policy::{EntryAt, EntryKind, Policy, entry_at, read_policy};
 use std::alloc::{AllocError, Global};
 use std::str;
 
@@ -20,12 +20,17 @@ pub fn answer(alloc: Global, word: &[u8], fields: &[Vec<u8>]) -> Result<Option<A
 /// `policy JSON`: `ok` and its numbers of principals, channels, inputs and tasks.
 fn policy(alloc: Global, json: &[u8]) -> Result<Answer, Refusal> {
     let policy = read_policy(alloc, json)?;
+    Ok(Answer::Text(counts(alloc, &policy)?))
+}
+
+/// The text of a policy's numbers of principals, channels, inputs and tasks.
+fn counts(alloc: Global, policy: &Policy) -> Result<Vec<u8>, AllocError> {
     let principals = policy.names.len();
     let channels = policy.channels.as_slice().len();
     let inputs = policy.inputs.as_slice().len();
     let tasks = policy.tasks.as_slice().len();
     let text = format!(in alloc; "ok {principals} {channels} {inputs} {tasks}")?;
-    Ok(Answer::Text(text.into_bytes()))
+    Ok(text.into_bytes())
 }
 
 /// The number that a field is.

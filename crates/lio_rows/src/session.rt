@@ -2,7 +2,7 @@
 
 use crate::answer::{Answer, Refusal};
 use crate::command::read_command;
-use crate::{entries, formulas, labels, names, policies, scripts};
+use crate::{entries, formulas, labels, names, operators, policies, scripts};
 use lio_clauses::{Names, NoMemory};
 use std::alloc::Global;
 
@@ -48,6 +48,9 @@ fn answer(
         return Ok(Some(answer));
     }
     if let Some(answer) = entries::answer(alloc, names, word, fields)? {
+        return Ok(Some(answer));
+    }
+    if let Some(answer) = operators::answer(alloc, names, word, fields)? {
         return Ok(Some(answer));
     }
     if let Some(answer) = scripts::answer(alloc, names, word, fields)? {

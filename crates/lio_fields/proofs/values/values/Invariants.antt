@@ -1,6 +1,6 @@
 use Rattle.std.proofs.Common.{All}
 use Rattle.lio_events.specs.Named.{IsValueNamed}
-use Rattle.lio_rows.proofs.values.values.Given as goal
+use Rattle.lio_fields.proofs.values.values.Given as goal
 
 -- each principal in the values so far has a name
 abbrev pub invariant-loop : goal.invariant-loop

@@ -1,6 +1,6 @@
 //! The fields of a command, one after another.
 
-use crate::answer::Refusal;
+use crate::fault::FieldFault;
 use std::str;
 
 /// The fields that are left to be read.
@@ -21,41 +21,41 @@ impl<'a> Words<'a> {
     }
 
     /// The next field.
-    pub fn next(&mut self) -> Result<&'a [u8], Refusal> {
+    pub fn next(&mut self) -> Result<&'a [u8], FieldFault> {
         match self.rest {
             [word, rest @ ..] => {
                 self.rest = rest;
                 Ok(word.as_slice())
             }
-            [] => Err(Refusal::NoCommand),
+            [] => Err(FieldFault::Invalid),
         }
     }
 
     /// The next field, as text.
-    fn text(&mut self) -> Result<&'a str, Refusal> {
-        str::from_utf8(self.next()?).map_err(|_| Refusal::NoCommand)
+    fn text(&mut self) -> Result<&'a str, FieldFault> {
+        str::from_utf8(self.next()?).map_err(|_| FieldFault::Invalid)
     }
 
     /// The number of 64 bits in the next field.
-    pub fn long(&mut self) -> Result<u64, Refusal> {
-        self.text()?.parse::<u64>().map_err(|_| Refusal::NoCommand)
+    pub fn long(&mut self) -> Result<u64, FieldFault> {
+        self.text()?.parse::<u64>().map_err(|_| FieldFault::Invalid)
     }
 
     /// The number of 32 bits in the next field, or none where it is `-`.
-    pub fn optional(&mut self) -> Result<Option<u32>, Refusal> {
+    pub fn optional(&mut self) -> Result<Option<u32>, FieldFault> {
         match self.text()? {
             "-" => Ok(None),
-            text => Ok(Some(text.parse::<u32>().map_err(|_| Refusal::NoCommand)?)),
+            text => Ok(Some(text.parse::<u32>().map_err(|_| FieldFault::Invalid)?)),
         }
     }
 
     /// The number of 32 bits in the next field.
-    pub fn number(&mut self) -> Result<u32, Refusal> {
-        self.text()?.parse::<u32>().map_err(|_| Refusal::NoCommand)
+    pub fn number(&mut self) -> Result<u32, FieldFault> {
+        self.text()?.parse::<u32>().map_err(|_| FieldFault::Invalid)
     }
 
     /// The number of 64 bits with a sign in the next field.
-    pub fn whole(&mut self) -> Result<i64, Refusal> {
-        self.text()?.parse::<i64>().map_err(|_| Refusal::NoCommand)
+    pub fn whole(&mut self) -> Result<i64, FieldFault> {
+        self.text()?.parse::<i64>().map_err(|_| FieldFault::Invalid)
     }
 }

@@ -4,40 +4,39 @@ ghost use Rattle.lio_labels.specs.LabelPrint.{AreNamed};
 ghost use Rattle.lio_values.specs.PlainText.{IsPowerNamed, IsPlainNamed};
 ghost use Rattle.lio_events.specs.Named.{IsKindNamed, IsFaultNamed, IsContentNamed, IsValueNamed};
 
-use crate::answer::Refusal;
-use crate::formulas;
+use crate::fault::FieldFault;
 use crate::words::Words;
-use lio_clauses::Names;
+use lio_clauses::{Formula, Names};
 use lio_labels::{Label, Priv};
 use lio_values::{Content, Fault, FaultKind, Handle, Held, List, Plain, Text, Value, Values};
 use std::alloc::Global;
 
 /// The label of the next field.
-pub fn label(words: &mut Words, alloc: Global, names: &Names) -> Result<Label, Refusal>
+pub fn read_label(words: &mut Words, alloc: Global, names: &Names) -> Result<Label, FieldFault>
     ensures { IfOk result (AreNamed names.now) }
 {
     Ok(Label::read(alloc, words.next()?, names)?)
 }
 
 /// The privilege of the formula in the next field.
-pub fn power(words: &mut Words, alloc: Global, names: &Names) -> Result<Priv, Refusal>
+pub(crate) fn power(words: &mut Words, alloc: Global, names: &Names) -> Result<Priv, FieldFault>
     ensures { IfOk result (IsPowerNamed names.now) }
 {
-    let power = formulas::read(alloc, names, words.next()?)?;
+    let power = Formula::read(alloc, words.next()?, names)?;
     Ok(Priv { power })
 }
 
 /// A handle: its number and its label.
-fn handle(words: &mut Words, alloc: Global, names: &Names) -> Result<Handle, Refusal>
+fn handle(words: &mut Words, alloc: Global, names: &Names) -> Result<Handle, FieldFault>
     ensures { IfOk result (λ handle. AreNamed names.now handle.label) }
 {
     let number = words.number()?;
-    let label = label(words, alloc, names)?;
+    let label = read_label(words, alloc, names)?;
     Ok(Handle { number, label })
 }
 
 /// A plain value.
-fn plain(words: &mut Words, alloc: Global, names: &Names) -> Result<Plain, Refusal>
+fn plain(words: &mut Words, alloc: Global, names: &Names) -> Result<Plain, FieldFault>
     ensures { IfOk result (IsPlainNamed names.now) }
 {
     match words.next()? {
@@ -46,28 +45,28 @@ fn plain(words: &mut Words, alloc: Global, names: &Names) -> Result<Plain, Refus
         b"false" => Ok(Plain::Flag(false)),
         b"whole" => Ok(Plain::Whole(words.whole()?)),
         b"text" => Ok(Plain::Bytes(Text::of(alloc, words.next()?)?)),
-        b"label" => Ok(Plain::Lab(label(words, alloc, names)?)),
+        b"label" => Ok(Plain::Lab(read_label(words, alloc, names)?)),
         b"power" => Ok(Plain::Power(power(words, alloc, names)?)),
         b"ref" => Ok(Plain::RefOf(handle(words, alloc, names)?)),
         b"var" => Ok(Plain::VarOf(handle(words, alloc, names)?)),
         b"result" => Ok(Plain::ResultOf(handle(words, alloc, names)?)),
         b"chan" => Ok(Plain::ChanOf(handle(words, alloc, names)?)),
-        _ => Err(Refusal::NoCommand),
+        _ => Err(FieldFault::Invalid),
     }
 }
 
 /// Two labels.
-fn two_labels(words: &mut Words, alloc: Global, names: &Names) -> Result<(Label, Label), Refusal>
+fn two_labels(words: &mut Words, alloc: Global, names: &Names) -> Result<(Label, Label), FieldFault>
     ensures first { IfOk result (λ labels. AreNamed names.now labels.0) }
     ensures second { IfOk result (λ labels. AreNamed names.now labels.1) }
 {
-    let first = label(words, alloc, names)?;
-    let second = label(words, alloc, names)?;
+    let first = read_label(words, alloc, names)?;
+    let second = read_label(words, alloc, names)?;
     Ok((first, second))
 }
 
 /// The kind of a fault without labels.
-fn short_kind(word: &[u8], words: &mut Words) -> Result<FaultKind, Refusal>
+fn short_kind(word: &[u8], words: &mut Words) -> Result<FaultKind, FieldFault>
     ensures { IfOk result (λ kind. (names : List (List ℕ)) → IsKindNamed names kind) }
 {
     match word {
@@ -79,12 +78,12 @@ fn short_kind(word: &[u8], words: &mut Words) -> Result<FaultKind, Refusal>
         b"no_cells" => Ok(FaultKind::NoCells(words.long()?, words.long()?)),
         b"child_turns" => Ok(FaultKind::ChildTurns(words.long()?, words.long()?)),
         b"depth" => Ok(FaultKind::Depth),
-        _ => Err(Refusal::NoCommand),
+        _ => Err(FieldFault::Invalid),
     }
 }
 
 /// The kind of a fault.
-fn kind(words: &mut Words, alloc: Global, names: &Names) -> Result<FaultKind, Refusal>
+fn kind(words: &mut Words, alloc: Global, names: &Names) -> Result<FaultKind, FieldFault>
     ensures { IfOk result (IsKindNamed names.now) }
 {
     match words.next()? {
@@ -115,49 +114,53 @@ fn kind(words: &mut Words, alloc: Global, names: &Names) -> Result<FaultKind, Re
 }
 
 /// A fault: its kind, and the label at which it was thrown.
-pub fn fault(words: &mut Words, alloc: Global, names: &Names) -> Result<Fault, Refusal>
+pub(crate) fn fault(words: &mut Words, alloc: Global, names: &Names) -> Result<Fault, FieldFault>
     ensures { IfOk result (IsFaultNamed names.now) }
 {
     let kind = kind(words, alloc, names)?;
-    let at = label(words, alloc, names)?;
+    let at = read_label(words, alloc, names)?;
     Ok(Fault { kind, at })
 }
 
 /// A content.
-pub fn content(words: &mut Words, alloc: Global, names: &Names) -> Result<Content, Refusal>
+pub(crate) fn content(
+    words: &mut Words,
+    alloc: Global,
+    names: &Names,
+) -> Result<Content, FieldFault>
     ensures { IfOk result (IsContentNamed names.now) }
 {
     match words.next()? {
         b"kept" => Ok(Content::Kept(plain(words, alloc, names)?)),
         b"faulted" => Ok(Content::Faulted(Held::new(alloc, fault(words, alloc, names)?)?)),
         b"hidden" => Ok(Content::Hidden),
-        _ => Err(Refusal::NoCommand),
+        _ => Err(FieldFault::Invalid),
     }
 }
 
 /// A value.
-pub fn value(words: &mut Words, alloc: Global, names: &Names) -> Result<Value, Refusal>
+pub fn read_value(words: &mut Words, alloc: Global, names: &Names) -> Result<Value, FieldFault>
     ensures { IfOk result (IsValueNamed names.now) }
 {
     match words.next()? {
         b"bare" => Ok(Value::Bare(plain(words, alloc, names)?)),
         b"sealed" => {
-            let label = label(words, alloc, names)?;
+            let label = read_label(words, alloc, names)?;
             let content = Held::new(alloc, content(words, alloc, names)?)?;
             Ok(Value::Sealed(label, content))
         }
-        _ => Err(Refusal::NoCommand),
+        _ => Err(FieldFault::Invalid),
     }
 }
 
 /// A number, and so many values.
-pub fn values(words: &mut Words, alloc: Global, names: &Names) -> Result<Values, Refusal>
+pub(crate) fn values(words: &mut Words, alloc: Global, names: &Names) -> Result<Values, FieldFault>
     ensures { IfOk result (All (IsValueNamed names.now)) }
 {
     let count = words.number()?;
     let mut values = List::new(alloc);
     for _ in 0..count {
-        values.push(value(words, alloc, names)?)?;
+        values.push(read_value(words, alloc, names)?)?;
     }
     Ok(values)
 }

@@ -1,6 +1,6 @@
 use Rattle.std.proofs.Common.{◌<◌, All}
 use Rattle.lio_events.specs.Printable.{IsPrintable}
-use Rattle.lio_rows.proofs.turns.journal.Given as goal
+use Rattle.lio_fields.proofs.turns.read_journal.Given as goal
 
 -- the tickets so far are below the next, and the entries can be printed
 abbrev pub invariant-loop : goal.invariant-loop

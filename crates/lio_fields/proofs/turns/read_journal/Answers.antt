@@ -1,7 +1,7 @@
 use Rattle.std.proofs.Common.{◌≤◌, arith}
 use Rattle.lio_events.specs.Printable.{IsPrintable}
-use Rattle.lio_rows.proofs.Added.{All-with, below_with}
-use Rattle.lio_rows.proofs.turns.journal.Goals as goal
+use Rattle.lio_fields.proofs.Added.{All-with, below_with}
+use Rattle.lio_fields.proofs.turns.read_journal.Goals as goal
 
 pub loop-preserved : goal.loop-preserved
 loop-preserved c =

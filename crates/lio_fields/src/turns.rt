@@ -3,10 +3,10 @@ ghost use Rattle.std.specs.Prelude.{All, IfOk};
 ghost use Rattle.lio_labels.specs.LabelPrint.{AreNamed};
 ghost use Rattle.lio_events.specs.Named.{IsContentNamed, IsValueNamed};
 ghost use Rattle.lio_events.specs.Printable.{IsOptionNamed, IsBirthNamed, IsActNamed, IsRaising, IsRaiseOf, IsReplyNamed, IsPrintable};
-ghost use Rattle.lio_rows.specs.Turns.{CanPrint};
+ghost use Rattle.lio_fields.specs.Turns.{CanPrint};
 
-use crate::answer::Refusal;
-use crate::values::{content, fault, label, power, value, values};
+use crate::fault::FieldFault;
+use crate::values::{content, fault, power, read_label, read_value, values};
 use crate::words::Words;
 use lio_clauses::Names;
 use lio_events::Journal;
@@ -15,7 +15,7 @@ use lio_values::{Act, Birth, Content, Entry, Held, Op, Reply, Text, Value};
 use std::alloc::Global;
 
 /// The operation of a raise.
-fn op(words: &mut Words) -> Result<Op, Refusal>
+fn op(words: &mut Words) -> Result<Op, FieldFault>
     ensures { IfOk result IsRaising }
 {
     match words.next()? {
@@ -25,18 +25,18 @@ fn op(words: &mut Words) -> Result<Op, Refusal>
         b"wait" => Ok(Op::Wait),
         b"take" => Ok(Op::Take),
         b"put" => Ok(Op::Put),
-        _ => Err(Refusal::NoCommand),
+        _ => Err(FieldFault::Invalid),
     }
 }
 
 /// A birth: the procedure's place, the label of the result, the clearance, turns, first number, how many numbers, and the arguments with
 /// their number before them.
-fn birth(words: &mut Words, alloc: Global, names: &Names) -> Result<Held<Birth>, Refusal>
+fn birth(words: &mut Words, alloc: Global, names: &Names) -> Result<Held<Birth>, FieldFault>
     ensures { IfOk result (IsBirthNamed names.now) }
 {
     let proc_at = words.number()?;
-    let result = label(words, alloc, names)?;
-    let clearance = label(words, alloc, names)?;
+    let result = read_label(words, alloc, names)?;
+    let clearance = read_label(words, alloc, names)?;
     let turns = words.number()?;
     let first = words.number()?;
     let cells = words.number()?;
@@ -54,39 +54,47 @@ fn birth(words: &mut Words, alloc: Global, names: &Names) -> Result<Held<Birth>,
 }
 
 /// A value on the heap.
-fn held_value(words: &mut Words, alloc: Global, names: &Names) -> Result<Held<Value>, Refusal>
+fn held_value(words: &mut Words, alloc: Global, names: &Names) -> Result<Held<Value>, FieldFault>
     ensures { IfOk result (IsValueNamed names.now) }
 {
-    Ok(Held::new(alloc, value(words, alloc, names)?)?)
+    Ok(Held::new(alloc, read_value(words, alloc, names)?)?)
 }
 
 /// A content on the heap.
-fn held_content(words: &mut Words, alloc: Global, names: &Names) -> Result<Held<Content>, Refusal>
+fn held_content(
+    words: &mut Words,
+    alloc: Global,
+    names: &Names,
+) -> Result<Held<Content>, FieldFault>
     ensures { IfOk result (IsContentNamed names.now) }
 {
     Ok(Held::new(alloc, content(words, alloc, names)?)?)
 }
 
 /// A label on the heap.
-fn held_label(words: &mut Words, alloc: Global, names: &Names) -> Result<Held<Label>, Refusal>
+fn held_label(words: &mut Words, alloc: Global, names: &Names) -> Result<Held<Label>, FieldFault>
     ensures { IfOk result (AreNamed names.now) }
 {
-    Ok(Held::new(alloc, label(words, alloc, names)?)?)
+    Ok(Held::new(alloc, read_label(words, alloc, names)?)?)
 }
 
 /// What a variable holds at first: `empty`, or `full` and a value.
-fn variable(words: &mut Words, alloc: Global, names: &Names) -> Result<Held<Option<Value>>, Refusal>
+fn variable(
+    words: &mut Words,
+    alloc: Global,
+    names: &Names,
+) -> Result<Held<Option<Value>>, FieldFault>
     ensures { IfOk result (IsOptionNamed names.now) }
 {
     match words.next()? {
         b"empty" => Ok(Held::new(alloc, None)?),
-        b"full" => Ok(Held::new(alloc, Some(value(words, alloc, names)?))?),
-        _ => Err(Refusal::NoCommand),
+        b"full" => Ok(Held::new(alloc, Some(read_value(words, alloc, names)?))?),
+        _ => Err(FieldFault::Invalid),
     }
 }
 
 /// A release: the label that it comes from, the label that it comes to, the privilege's formula, and the content.
-fn release(words: &mut Words, alloc: Global, names: &Names) -> Result<Act, Refusal>
+fn release(words: &mut Words, alloc: Global, names: &Names) -> Result<Act, FieldFault>
     ensures { IfOk result (CanPrint names.now) }
 {
     let source = held_label(words, alloc, names)?;
@@ -97,26 +105,26 @@ fn release(words: &mut Words, alloc: Global, names: &Names) -> Result<Act, Refus
 }
 
 /// An act that makes a node.
-fn making(word: &[u8], words: &mut Words, alloc: Global, names: &Names) -> Result<Act, Refusal>
+fn making(word: &[u8], words: &mut Words, alloc: Global, names: &Names) -> Result<Act, FieldFault>
     ensures { IfOk result (CanPrint names.now) }
 {
     match word {
         b"newref" => {
-            let label = label(words, alloc, names)?;
+            let label = read_label(words, alloc, names)?;
             Ok(Act::NewRef(label, held_value(words, alloc, names)?))
         }
         b"newvar" => {
-            let label = label(words, alloc, names)?;
+            let label = read_label(words, alloc, names)?;
             Ok(Act::NewVar(label, variable(words, alloc, names)?))
         }
         b"fork" => Ok(Act::Fork(birth(words, alloc, names)?)),
         b"spawn" => Ok(Act::Spawn(birth(words, alloc, names)?)),
-        _ => Err(Refusal::NoCommand),
+        _ => Err(FieldFault::Invalid),
     }
 }
 
 /// An act on a node that is there.
-fn visit(word: &[u8], words: &mut Words, alloc: Global, names: &Names) -> Result<Act, Refusal>
+fn visit(word: &[u8], words: &mut Words, alloc: Global, names: &Names) -> Result<Act, FieldFault>
     ensures { IfOk result (CanPrint names.now) }
 {
     match word {
@@ -131,14 +139,14 @@ fn visit(word: &[u8], words: &mut Words, alloc: Global, names: &Names) -> Result
 }
 
 /// An act.
-fn act(words: &mut Words, alloc: Global, names: &Names) -> Result<Act, Refusal>
+fn act(words: &mut Words, alloc: Global, names: &Names) -> Result<Act, FieldFault>
     ensures { IfOk result (CanPrint names.now) }
 {
     match words.next()? {
         b"step" => Ok(Act::Step),
-        b"seal" => Ok(Act::Seal(label(words, alloc, names)?)),
-        b"raise" => Ok(Act::Raise(op(words)?, label(words, alloc, names)?)),
-        b"lower" => Ok(Act::Lower(label(words, alloc, names)?)),
+        b"seal" => Ok(Act::Seal(read_label(words, alloc, names)?)),
+        b"raise" => Ok(Act::Raise(op(words)?, read_label(words, alloc, names)?)),
+        b"lower" => Ok(Act::Lower(read_label(words, alloc, names)?)),
         b"release" => release(words, alloc, names),
         b"ended" => Ok(Act::Ended(held_content(words, alloc, names)?)),
         word => visit(word, words, alloc, names),
@@ -146,7 +154,7 @@ fn act(words: &mut Words, alloc: Global, names: &Names) -> Result<Act, Refusal>
 }
 
 /// A reply.
-fn reply(words: &mut Words, alloc: Global, names: &Names) -> Result<Reply, Refusal>
+fn reply(words: &mut Words, alloc: Global, names: &Names) -> Result<Reply, FieldFault>
     ensures { IfOk result (IsReplyNamed names.now) }
 {
     match words.next()? {
@@ -154,18 +162,18 @@ fn reply(words: &mut Words, alloc: Global, names: &Names) -> Result<Reply, Refus
         b"got" => Ok(Reply::Got(held_value(words, alloc, names)?)),
         b"told" => Ok(Reply::Told(held_content(words, alloc, names)?)),
         b"refused" => Ok(Reply::Refused(Held::new(alloc, fault(words, alloc, names)?)?)),
-        _ => Err(Refusal::NoCommand),
+        _ => Err(FieldFault::Invalid),
     }
 }
 
 /// An entry: ticket, actor, target, the label before the turn, act and reply.
-pub fn entry(words: &mut Words, alloc: Global, names: &Names) -> Result<Entry, Refusal>
+pub fn read_entry(words: &mut Words, alloc: Global, names: &Names) -> Result<Entry, FieldFault>
     ensures { IfOk result (IsPrintable names.now) }
 {
     let ticket = words.long()?;
     let actor = words.number()?;
     let target = words.optional()?;
-    let at = label(words, alloc, names)?;
+    let at = read_label(words, alloc, names)?;
     let act = act(words, alloc, names)?;
     let reply = reply(words, alloc, names)?;
     Ok(Entry {
@@ -179,16 +187,16 @@ pub fn entry(words: &mut Words, alloc: Global, names: &Names) -> Result<Entry, R
 }
 
 /// A number, and a journal of so many entries.
-pub fn journal(words: &mut Words, alloc: Global, names: &Names) -> Result<Journal, Refusal>
+pub fn read_journal(words: &mut Words, alloc: Global, names: &Names) -> Result<Journal, FieldFault>
     ensures { IfOk result (All (IsPrintable names.now)) }
 {
     let count = words.number()?;
     let mut journal = Journal::new(alloc);
     let mut next = 0u64;
     for _ in 0..count {
-        let entry = entry(words, alloc, names)?;
+        let entry = read_entry(words, alloc, names)?;
         if entry.ticket < next || entry.ticket == u64::MAX {
-            return Err(Refusal::NoCommand);
+            return Err(FieldFault::Invalid);
         }
         next = entry.ticket + 1;
         journal.push(entry)?;
