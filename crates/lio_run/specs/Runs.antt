@@ -1,0 +1,31 @@
+-- Complete runs by rounds, and what observers see of them.
+use Rattle.std.specs.Prelude.{◌≡◌, List, Some}
+use Rattle.lio_labels.specs.declared.label.Label.{Label}
+use Rattle.lio_values.specs.declared.value.Content.{Content}
+use Rattle.lio_syntax.specs.Statements.{Procedure}
+use Rattle.lio_calculus.specs.Step.{Configuration}
+use Rattle.lio_calculus.specs.Run as calculus
+use Rattle.lio_calculus.specs.Run.{releases, run}
+use Rattle.lio_calculus.specs.Laws.{RunSeenAs}
+use Rattle.lio_calculus.specs.Sound.{IsSound}
+use Rattle.lio_schedule.specs.Rounds.{IsComplete, rounds}
+use Rattle.lio_schedule.specs.LowLaws.{RoundsSeenAs}
+use Rattle.lio_task.specs.Configuration.{configuration_of}
+use Rattle.lio_run.specs.declared.by_rounds.Ran.{Ran}
+
+-- the run that the code's journal and configuration stand for, with a script
+abbrev pub ran_of : List Procedure → Ran → calculus.Ran
+ran_of script ran = record { entries = ran.journal; last = configuration_of script ran.config }
+
+-- a complete run by rounds: the turns of the rounds, after which no task can take one; the first and the last configuration are well-formed
+pub record RunsByRounds (c : Configuration) (ran : calculus.Ran) : Type 0 where
+  pub is_run : run 0 c (rounds c) ≡ Some ran
+  pub complete : IsComplete ran.last
+  pub first : IsSound c
+  pub last : IsSound ran.last
+
+-- An observer sees of a run what the erased calculus gives from what it sees of the first configuration and from what is released to it: the entries of its view, in the order of
+-- the erased calculus's own rounds, and what it sees of the last configuration (the noninterference of the concurrent calculus of LIO, ICFP 2012).
+pub record IsSeen (observer : Label) (c : Configuration) (ran : calculus.Ran) : Type 0 where
+  pub run : RunSeenAs observer c ran
+  pub rounds : RoundsSeenAs observer c ran

@@ -1,0 +1,54 @@
+//! A run by rounds.
+ghost use Rattle.std.specs.Prelude.{◌≡◌, IfOk, None, length};
+ghost use Rattle.lio_labels.specs.declared.label.Label.{Label};
+ghost use Rattle.lio_start.specs.Fits.{fits};
+ghost use Rattle.lio_start.specs.Start.{start_of};
+ghost use Rattle.lio_run.specs.Runs.{IsSeen, RunsByRounds, ran_of};
+
+use lio_clauses::NoMemory;
+use lio_events::Journal;
+use lio_machine::Machine;
+use lio_policy::Policy;
+use lio_policy::laws::policy_keeps_rules;
+use lio_start::start;
+use lio_syntax::Script;
+use lio_task::Config;
+use lio_values::Text;
+use std::alloc::Global;
+
+/// What a run gives: its journal, and the configuration after it.
+#[derive(Drop)]
+pub struct Ran {
+    pub journal: Journal,
+    pub config: Config,
+}
+
+/// The run by rounds from the first configuration, as a run.
+fn run_to_the_end(
+    alloc: Global,
+    policy: &Policy,
+    script: Script,
+    texts: &[Text],
+) -> Result<Ran, NoMemory>
+    requires fits { fits policy.now.tasks script ≡ None }
+    requires inputs { length texts.now ≡ length policy.now.inputs }
+    ensures { IfOk result (λ ran. RunsByRounds (start_of policy.now script texts.now) (ran_of script ran)) }
+{
+    policy_keeps_rules(policy);
+    let _ = script.lines();
+    let config = start(alloc, policy, &script, texts)?;
+    let mut machine = Machine::new(alloc, config, script)?;
+    machine.run(alloc)?;
+    let (journal, config) = machine.finish();
+    Ok(Ran { journal, config })
+}
+
+/// Runs a script by rounds from the first configuration of a policy, over the texts of the inputs, until no task can take a turn.
+pub fn run(alloc: Global, policy: &Policy, script: Script, texts: &[Text]) -> Result<Ran, NoMemory>
+    requires fits { fits policy.now.tasks script ≡ None }
+    requires inputs { length texts.now ≡ length policy.now.inputs }
+    ensures run { IfOk result (λ ran. RunsByRounds (start_of policy.now script texts.now) (ran_of script ran)) }
+    ensures seen { IfOk result (λ ran. (observer : Label) → IsSeen observer (start_of policy.now script texts.now) (ran_of script ran)) }
+{
+    run_to_the_end(alloc, policy, script, texts)
+}
