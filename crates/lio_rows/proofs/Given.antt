@@ -1,7 +1,7 @@
 -- Each principal in what an operator gives, or in its fault, has a name where each in the operands has one.
 use Rattle.std.proofs.Common.{◌≡◌, ℕ, ℤ, List, Bool, true, false, if◌then◌else◌, nat_le, length, subst, Result, Ok, Err, Option, Some, None}
 use Rattle.std.specs.Ordering.{int_eq}
-use Rattle.std.specs.Prelude.{pos, ◌++◌, ◌+ℤ◌, ◌-ℤ◌, ◌*ℤ◌, neg_ℤ, int_div, int_rem, codes}
+use Rattle.std.specs.Prelude.{pos, ◌++◌, drop, take, ◌+ℤ◌, ◌-ℤ◌, ◌*ℤ◌, neg_ℤ, int_div, int_rem, codes}
 use Rattle.std.specs.Fmt.{signed_decimal}
 use Rattle.lio_labels.specs.declared.label.Label.{Label}
 use Rattle.lio_labels.specs.Bounds.{join, meet}
@@ -17,14 +17,14 @@ use Rattle.lio_values.specs.PlainText.{IsPlainNamed}
 use Rattle.lio_words.specs.declared.operators.One.{One}
 use Rattle.lio_words.specs.declared.operators.One.TheVariants.{Not, Neg, Len, Num, Str, LabelOf}
 use Rattle.lio_words.specs.declared.operators.Two.{Two}
-use Rattle.lio_words.specs.declared.operators.Two.TheVariants.{Add, Sub, Mul, Div, Rem, Eq, Join, Meet}
+use Rattle.lio_words.specs.declared.operators.Two.TheVariants.{Add, Sub, Mul, Div, Rem, Eq, From, Upto, Join, Meet}
 use Rattle.lio_words.specs.Literals.{whole_of, is_whole}
 use Rattle.lio_events.specs.Named.{IsKindNamed, IsValueNamed}
 use Rattle.lio_operators.specs.declared.faults.OpFault.{OpFault}
 use Rattle.lio_operators.specs.declared.faults.OpFault.TheVariants.{Kind, NoMemory}
 use Rattle.lio_operators.specs.Answers.{Answers}
 use Rattle.lio_operators.specs.Wholes.{fitting, divided, on_wholes}
-use Rattle.lio_operators.specs.Texts.{made, on_texts, on_text_at}
+use Rattle.lio_operators.specs.Texts.{made, place_at, on_texts, on_text_at}
 use Rattle.lio_operators.specs.Labels.{is_wide, bounded, on_labels}
 use Rattle.lio_operators.specs.Flags.{on_flags, on_units}
 use Rattle.lio_operators.specs.Operators.{bare, not_of, neg_of, len_of, whole_read, num_of, flag_text, str_of, label_of, on_plain, on_sealed, operate1, flag_and, unit_and, whole_and, text_and, label_and, on_plains, operate2}
@@ -90,9 +90,10 @@ texts_named : (names : List (List ℕ)) (longest : ℕ) (op : Two) (a b : List �
 texts_named names longest Add a b = made_named names longest (a ++ b)
 texts_named names longest two a b = tt
 
-text_at_named : (names : List (List ℕ)) (op : Two) (text : List ℕ) (at : ℤ) → Named names (on_text_at op text at)
-text_at_named names Eq text at = tt
-text_at_named names two text at = tt
+text_at_named : (names : List (List ℕ)) (longest : ℕ) (op : Two) (text : List ℕ) (at : ℤ) → Named names (on_text_at longest op text at)
+text_at_named names longest From text at = made_named names longest (drop (place_at at) text)
+text_at_named names longest Upto text at = made_named names longest (take (place_at at) text)
+text_at_named names longest two text at = tt
 
 labels_named : (names : List (List ℕ)) (op : Two) (a b : Label) → AreNamed names a → AreNamed names b → Named names (on_labels op a b)
 labels_named names Join a b left right = bounded_named names a b (join a b) left right (join_is_named names a b left right)
@@ -122,7 +123,7 @@ whole_and_named names op a b = tt
 
 text_and_named : (names : List (List ℕ)) (longest : ℕ) (op : Two) (a : List ℕ) (b : Plain) → Named names (text_and longest op a b)
 text_and_named names longest op a (Bytes b) = texts_named names longest op a b
-text_and_named names longest op a (Whole at) = text_at_named names op a at
+text_and_named names longest op a (Whole at) = text_at_named names longest op a at
 text_and_named names longest op a b = tt
 
 label_and_named : (names : List (List ℕ)) (op : Two) (a : Label) (b : Plain) → AreNamed names a → IsPlainNamed names b → Named names (label_and op a b)
