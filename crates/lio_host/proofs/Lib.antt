@@ -1,4 +1,2 @@
-pub mod Clashes
-pub mod RunOf
-pub mod Loads
+pub mod Prepares
 pub mod Says

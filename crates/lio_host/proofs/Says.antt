@@ -2,46 +2,57 @@
 use Rattle.std.proofs.Common.{◌≡◌, sym, ap, subst, refl, ℕ, List, Option, Some, None, Result, Ok, Err, inl, inr}
 use Rattle.std.specs.Prelude.{IfSome, ◌↔◌}
 use Rattle.lio_outside.specs.FileMap.{FileMap}
-use Rattle.lio_outside.specs.Fetch.{given}
-use Rattle.lio_host.specs.declared.load.Job.{Job}
-use Rattle.lio_host.specs.declared.load.LoadFault.{LoadFault}
-use Rattle.lio_host.specs.declared.load.LoadFault.TheVariants as load
+use Rattle.lio_labels.specs.declared.label.Label.{Label}
+use Rattle.lio_start.specs.Start.{start_of}
+use Rattle.lio_task.specs.Configuration.{configuration_of}
+use Rattle.lio_powers.specs.Given.{powers_of}
+use Rattle.lio_powers.specs.Laws.{ReleasesByPowers}
+use Rattle.lio_run.specs.declared.by_rounds.Ran.{Ran}
+use Rattle.lio_run.specs.Runs.{IsSeen, RunsByRounds, SeesChannels, ran_of}
+use Rattle.lio_host.specs.declared.job.Job.{Job}
 use Rattle.lio_host.specs.declared.status.HostStatus.{HostStatus}
-use Rattle.lio_host.specs.declared.status.HostStatus.TheVariants.{Done, BadWords, Missing, ReadFault, BadPolicy, NotYet, WriteFault, NoMemory, Clash}
+use Rattle.lio_host.specs.declared.status.HostStatus.TheVariants.{Done, BadWords, Missing, ReadFault, BadPolicy, BadScript, BadStart, WriteFault, NoMemory, Clash}
 use Rattle.lio_host.specs.Command.{Command, command_of}
-use Rattle.lio_host.specs.Verdict.{Fetched, verdict}
+use Rattle.lio_host.specs.Preparing.{IsPrepared, PrepareSays}
+use Rattle.lio_host.specs.Headline.{IsRunOf}
+use Rattle.lio_host.specs.Verdict.{Fetched, found, prepared, verdict}
 use Rattle.lio_host.specs.Answers.{Call, IsVerdict, NothingDone, Refuses, Says, Follows, answer_of}
-use Rattle.lio_host.specs.Loading.{IsLoaded, LoadSays, status_of}
 
 -- the verdict is what the command is found to be
-pub verdict-loaded : (told : Option FileMap) (words : List (List ℕ)) (command : Command) (is : Result Job HostStatus) → command_of words ≡ Some command → IsLoaded told command is → IsVerdict told words is
-verdict-loaded told words command is named found = record { fetched = found.fetched; is_fetched = found.is_fetched; verdict_is = rw named found.loaded_is }
+pub verdict-prepared : (told : Option FileMap) (words : List (List ℕ)) (command : Command) (is : Result Job HostStatus) → command_of words ≡ Some command → IsPrepared told command is → IsVerdict told words is
+verdict-prepared None words command is named prepares = record { fetched = λ _. prepares.fetched; is_fetched = tt; verdict_is = rw named prepares.prepared_is }
+verdict-prepared (Some files) words command is named prepares =
+    record { fetched = found files; is_fetched = refl; verdict_is = rw named (subst (λ (fetched : Fetched). prepared fetched command ≡ is) prepares.is_fetched prepares.prepared_is) }
 
 -- words that name no command
 verdict-bad_words : (told : Option FileMap) (words : List (List ℕ)) → command_of words ≡ None → IsVerdict told words (Err BadWords)
-verdict-bad_words None words named = record { fetched = λ _ _. None; is_fetched = tt; verdict_is = rw named refl }
-verdict-bad_words (Some files) words named = record { fetched = given files; is_fetched = refl; verdict_is = rw named refl }
+verdict-bad_words None words named = record { fetched = λ _. record { policy = None; script = None; input = λ _ _. None }; is_fetched = tt; verdict_is = rw named refl }
+verdict-bad_words (Some files) words named = record { fetched = found files; is_fetched = refl; verdict_is = rw named refl }
 
 -- a call whose words name no command
 pub says-bad_words : (call : Call) → command_of call.words ≡ None → NothingDone call → Says call BadWords
 says-bad_words call named nothing = record { words = named; refused = record { verdict = verdict-bad_words call.told_before call.words named; nothing = nothing } }
 
 -- a call that is refused by its command
-refused : (call : Call) (command : Command) (status : HostStatus) → command_of call.words ≡ Some command → NothingDone call → IsLoaded call.told_before command (Err status) → Refuses call status
-refused call command status named nothing found = record { verdict = verdict-loaded call.told_before call.words command (Err status) named found; nothing = nothing }
+refused : (call : Call) (command : Command) (status : HostStatus) → command_of call.words ≡ Some command → NothingDone call → IsPrepared call.told_before command (Err status) → Refuses call status
+refused call command status named nothing prepares = record { verdict = verdict-prepared call.told_before call.words command (Err status) named prepares; nothing = nothing }
 
--- a call that ends where its command isn't run
-pub says-load : (call : Call) (command : Command) (fault : LoadFault) → command_of call.words ≡ Some command → NothingDone call → LoadSays call.told_before command call.faults_before call.faults_after fault → Says call (status_of fault)
-says-load call command (load.Missing name) named nothing says = record { refused = refused call command (Missing name) named nothing says.0; missing = says.1 }
-says-load call command (load.ReadFault name) named nothing says = record { command = command; words = named; is_read = says.0; rose = says.1; nothing = nothing }
-says-load call command (load.BadPolicy rule entry) named nothing says = refused call command (BadPolicy rule entry) named nothing says
-says-load call command (load.NotYet document place) named nothing says = refused call command (NotYet document place) named nothing says
-says-load call command (load.Clash name) named nothing says = refused call command (Clash name) named nothing says
-says-load call command load.NoMemory named nothing says = record { command = command; words = named; nothing = nothing }
+-- a call that ends before its script runs
+pub says-prepare : (call : Call) (command : Command) (status : HostStatus) → command_of call.words ≡ Some command → NothingDone call → PrepareSays call.told_before command call.faults_before call.faults_after status → Says call status
+says-prepare call command Done named nothing says = absurd says
+says-prepare call command BadWords named nothing says = absurd says
+says-prepare call command (Missing name) named nothing says = record { refused = refused call command (Missing name) named nothing says.0; missing = says.1 }
+says-prepare call command (ReadFault name) named nothing says = record { command = command; words = named; reads = says.0; rose = says.1; nothing = nothing }
+says-prepare call command (BadPolicy rule entry) named nothing says = refused call command (BadPolicy rule entry) named nothing says
+says-prepare call command (BadScript line rule) named nothing says = refused call command (BadScript line rule) named nothing says
+says-prepare call command (BadStart place cause) named nothing says = refused call command (BadStart place cause) named nothing says
+says-prepare call command (WriteFault name) named nothing says = absurd says
+says-prepare call command NoMemory named nothing says = record { command = command; words = named; files = inl nothing.files; journal = nothing.journal }
+says-prepare call command (Clash name) named nothing says = refused call command (Clash name) named nothing says
 
 -- the verdict over the files of a store that tells
-verdict-told : (files : FileMap) (words : List (List ℕ)) (is : Result Job HostStatus) → IsVerdict (Some files) words is → verdict (given files) words ≡ is
-verdict-told files words is v = subst (λ (fetched : Fetched). verdict fetched words ≡ is) v.is_fetched v.verdict_is
+verdict-told : (files : FileMap) (words : List (List ℕ)) (is : Result Job HostStatus) → IsVerdict (Some files) words is → verdict (found files) words ≡ is
+verdict-told files words is v = subst (λ (fetched : Command → Fetched). verdict fetched words ≡ is) v.is_fetched v.verdict_is
 
 -- a refused call of a store that tells its files is answered by its verdict
 follows-refused : (call : Call) (status : HostStatus) (files : FileMap) → call.told_before ≡ Some files → Refuses call status → Follows call status files
@@ -56,10 +67,11 @@ follows call BadWords files told says = follows-refused call BadWords files told
 follows call (Missing name) files told says = follows-refused call (Missing name) files told says.refused
 follows call (ReadFault name) files told says = record { answer = inr (inr says.rose) }
 follows call (BadPolicy rule entry) files told says = follows-refused call (BadPolicy rule entry) files told says
-follows call (NotYet document place) files told says = follows-refused call (NotYet document place) files told says
-follows call (Clash name) files told says = follows-refused call (Clash name) files told says
+follows call (BadScript line rule) files told says = follows-refused call (BadScript line rule) files told says
+follows call (BadStart place cause) files told says = follows-refused call (BadStart place cause) files told says
 follows call (WriteFault name) files told says = record { answer = inr (inr says.rose) }
 follows call NoMemory files told says = record { answer = inr (inl refl) }
+follows call (Clash name) files told says = follows-refused call (Clash name) files told says
 
 pub follows_verdict : (call : Call) (status : HostStatus) (told : Option FileMap) → call.told_before ≡ told → Says call status → IfSome told (Follows call status)
 follows_verdict call status None is says = tt
@@ -78,10 +90,11 @@ only-bad_words call BadWords says none = refl
 only-bad_words call (Missing name) says none = refused-none call (Missing name) none says.refused
 only-bad_words call (ReadFault name) says none = let some = says.words in absurd (cc)
 only-bad_words call (BadPolicy rule entry) says none = refused-none call (BadPolicy rule entry) none says
-only-bad_words call (NotYet document place) says none = refused-none call (NotYet document place) none says
-only-bad_words call (Clash name) says none = refused-none call (Clash name) none says
+only-bad_words call (BadScript line rule) says none = refused-none call (BadScript line rule) none says
+only-bad_words call (BadStart place cause) says none = refused-none call (BadStart place cause) none says
 only-bad_words call (WriteFault name) says none = let e = verdict-none call.told_before call.words (Ok says.job) none says.ran.verdict in absurd (cc)
 only-bad_words call NoMemory says none = let some = says.words in absurd (cc)
+only-bad_words call (Clash name) says none = refused-none call (Clash name) none says
 
 words-bad : (call : Call) (status : HostStatus) → Says call status → status ≡ BadWords → command_of call.words ≡ None
 words-bad call status says is = (subst (λ (s : HostStatus). Says call s) is says).words
@@ -93,3 +106,15 @@ bad_words call status says = (words-bad call status says, only-bad_words call st
 -- an answer that is equal to one says the same
 pub says-same : (call : Call) (status got : HostStatus) → got ≡ status → Says call status → Says call got
 says-same call status got is says = subst (λ (s : HostStatus). Says call s) (sym is) says
+
+-- what a run gives is a run of what the call is to do
+pub run-of : (job : Job) (texts : List (List ℕ)) (ran : Ran) → texts ≡ job.inputs → RunsByRounds (start_of job.policy job.script texts) (ran_of job.script ran)
+    → ((observer : Label) → IsSeen observer (start_of job.policy job.script texts) (ran_of job.script ran)) → ((observer : Label) → SeesChannels observer job.policy ran.journal)
+    → ReleasesByPowers (powers_of job.policy) (ran_of job.script ran) → IsRunOf job ran.journal
+run-of job texts ran same is seen channels powers = record {
+  last = configuration_of job.script ran.config;
+  is_run = subst (λ (xs : List (List ℕ)). RunsByRounds (start_of job.policy job.script xs) (ran_of job.script ran)) same is;
+  seen = λ observer. subst (λ (xs : List (List ℕ)). IsSeen observer (start_of job.policy job.script xs) (ran_of job.script ran)) same (seen observer);
+  channels = channels;
+  powers = powers;
+}

@@ -1,31 +1,24 @@
 -- What the host promises of a run.
-use Rattle.std.specs.Prelude.{◌≡◌, ℕ, List, [], ◌∷◌, Some}
+use Rattle.std.specs.Prelude.{List}
+use Rattle.lio_labels.specs.declared.label.Label.{Label}
 use Rattle.lio_values.specs.declared.entry.Entry.{Entry}
-use Rattle.lio_policy.specs.declared.policy.FileEntry.{FileEntry}
-use Rattle.lio_policy.specs.declared.policy.TaskEntry.{TaskEntry}
-use Rattle.lio_rounds.specs.Step.{Configuration}
-use Rattle.lio_rounds.specs.Run.{run, actors, IsComplete}
-use Rattle.lio_rounds.specs.Rounds.{IsByRounds}
-use Rattle.lio_rounds.specs.Start.{start}
-use Rattle.lio_host.specs.declared.load.Job.{Job}
+use Rattle.lio_calculus.specs.Step.{Configuration}
+use Rattle.lio_start.specs.Start.{start_of}
+use Rattle.lio_powers.specs.Given.{powers_of}
+use Rattle.lio_powers.specs.Laws.{ReleasesByPowers}
+use Rattle.lio_run.specs.Runs.{IsSeen, RunsByRounds, SeesChannels}
+use Rattle.lio_host.specs.declared.job.Job.{Job}
 
--- the turns of the first task, which alone runs so far
-abbrev pub turns_of : List TaskEntry → ℕ
-turns_of [] = 0
-turns_of (task ∷ tasks) = task.turns
+-- the first configuration of what is run
+abbrev pub first_of : Job → Configuration
+first_of job = start_of job.policy job.script job.inputs
 
--- the file of the first channel, which alone is there so far
-abbrev pub file_of : List FileEntry → List ℕ
-file_of [] = []
-file_of (channel ∷ channels) = channel.file
-
--- the first configuration of a script under a policy
-abbrev pub start_of : Job → Configuration
-start_of job = start job.script (turns_of job.policy.tasks) job.policy.longest
-
--- a journal is a complete run, by rounds, of a script under a policy
+-- A journal is a complete run, by rounds, of what the call names; and of it each observer sees what the erased calculus gives from what the observer sees of the first
+-- configuration, in the erased calculus's own order, with the contents that recorded privileges released to it. What is sent to a channel whose label flows to the observer's stands in its view, and each release is by a
+-- privilege that the policy gives a task.
 pub record IsRunOf (job : Job) (journal : List Entry) : Type 0 where
   pub last : Configuration
-  pub is_run : run (start_of job) (actors journal) ≡ Some (record { entries = journal; last = last })
-  pub is_complete : IsComplete last
-  pub by_rounds : IsByRounds (start_of job) (actors journal)
+  pub is_run : RunsByRounds (first_of job) (record { entries = journal; last = last })
+  pub seen : (observer : Label) → IsSeen observer (first_of job) (record { entries = journal; last = last })
+  pub channels : (observer : Label) → SeesChannels observer job.policy journal
+  pub powers : ReleasesByPowers (powers_of job.policy) (record { entries = journal; last = last })

@@ -1,8 +1,6 @@
 pub mod Command
-pub mod Beyond
-pub mod Clash
 pub mod Verdict
 pub mod Headline
 pub mod Answers
-pub mod Loading
+pub mod Preparing
 pub mod ExitStatus

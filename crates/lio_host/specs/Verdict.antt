@@ -1,77 +1,61 @@
--- What a call of the host is to do, as its words and the files say: the answer that refuses it, or the script that is run and its policy.
+-- What a call of the host is to do, as its words and the files say: the answer that refuses it, or what is run.
 use Rattle.std.specs.Prelude.{ℕ, List, Option, Some, None, Result, Ok, Err}
-use Rattle.lio_policy.specs.declared.policy.Policy.{Policy}
-use Rattle.lio_policy.specs.declared.fault.PolicyFault.{PolicyFault}
-use Rattle.lio_policy.specs.declared.fault.PolicyFault.TheVariants as policy_fault
-use Rattle.lio_policy.specs.Verdict.{policy_of}
-use Rattle.lio_sends.specs.declared.script.Stmt.{Stmt}
-use Rattle.lio_sends.specs.ScriptText.{script_of}
-use Rattle.lio_host.specs.declared.load.Job.{Job}
+use Rattle.lio_outside.specs.FileMap.{FileMap}
+use Rattle.lio_outside.specs.Fetch.{given}
+use Rattle.lio_front.specs.declared.fault.FrontFault.{FrontFault}
+use Rattle.lio_front.specs.declared.fault.FrontFault.TheVariants as front_fault
+use Rattle.lio_front.specs.declared.loading.Front.{Front}
+use Rattle.lio_front.specs.Steps.{◌>>=◌, or_refused, unless, told_as}
+use Rattle.lio_front.specs.Loading.{loaded, texts_of, most_policy_bytes, most_script_bytes}
+use Rattle.lio_front.specs.Clash.{clash}
+use Rattle.lio_host.specs.declared.job.Job.{Job}
 use Rattle.lio_host.specs.declared.status.HostStatus.{HostStatus}
-use Rattle.lio_host.specs.declared.status.HostStatus.TheVariants.{BadWords, Missing, BadPolicy, NotYet, NoMemory, Clash}
+use Rattle.lio_host.specs.declared.status.HostStatus.TheVariants.{BadWords, Missing, ReadFault, BadPolicy, BadScript, BadStart, NoMemory, Clash}
 use Rattle.lio_host.specs.Command.{Command, command_of}
-use Rattle.lio_host.specs.Beyond.{first_beyond}
-use Rattle.lio_host.specs.Clash.{clash}
 
--- the most bytes of a policy and of a script
-abbrev pub most_policy_bytes : ℕ
-most_policy_bytes = 1048576
+-- the answer that a fault of a step is
+abbrev pub status_of : FrontFault → HostStatus
+status_of (front_fault.Missing name) = Missing name
+status_of (front_fault.ReadFault name) = ReadFault name
+status_of (front_fault.BadPolicy rule entry) = BadPolicy rule entry
+status_of (front_fault.BadScript line rule) = BadScript line rule
+status_of (front_fault.BadStart place cause) = BadStart place cause
+status_of front_fault.NoMemory = NoMemory
 
-abbrev pub most_script_bytes : ℕ
-most_script_bytes = 262144
+-- what was found under the names of the policy and of the script, and under each name with the limit of inputs; nothing where no file has the name
+pub record Fetched : Type 0 where
+  pub policy : Option (List ℕ)
+  pub script : Option (List ℕ)
+  pub input : ℕ → List ℕ → Option (List ℕ)
 
--- what each file was found to hold: the first bytes under a name, at most one more than the limit, or nothing where no file has the name
-abbrev pub Fetched : Type 0
-Fetched = List ℕ → ℕ → Option (List ℕ)
+-- what a command finds in files, of each file at most one byte more than its limit
+abbrev pub found : FileMap → Command → Fetched
+found files command = record {
+  policy = given files command.policy most_policy_bytes;
+  script = given files command.script most_script_bytes;
+  input = λ longest name. given files name longest;
+}
 
--- a step that gives something, and the steps after it; a refused step ends the call
-infixl 10 ◌>>=◌
-abbrev pub ◌>>=◌ : {A B : Type 0} → Result A HostStatus → (A → Result B HostStatus) → Result B HostStatus
-Ok a >>= next = next a
-Err status >>= next = Err status
+-- the policy and the script of a command
+abbrev pub front_of : Fetched → Command → Result Front HostStatus
+front_of fetched command =
+    told_as status_of (loaded command.policy command.script fetched.policy fetched.script)
 
--- a step that is refused where nothing is there
-abbrev pub or_refused : {A : Type 0} → HostStatus → Option A → Result A HostStatus
-or_refused status None = Err status
-or_refused status (Some a) = Ok a
+-- what is run of a policy and a script: they, with the inputs
+abbrev pub with_inputs : Fetched → Front → Result Job HostStatus
+with_inputs fetched front = do
+  inputs ← told_as status_of (texts_of (fetched.input front.policy.longest) front.policy.inputs)
+  Ok (record { policy = front.policy; script = front.script; inputs = inputs })
 
--- a step that is refused where something is there, and else gives a value
-abbrev pub unless : {A B : Type 0} → (A → HostStatus) → Option A → B → Result B HostStatus
-unless status None b = Ok b
-unless status (Some a) b = Err (status a)
+-- what is run by a command, or the refusal of the first step that is refused: the policy and the script, that no file that is written is taken, the inputs
+abbrev pub prepared : Fetched → Command → Result Job HostStatus
+prepared fetched command = do
+  loaded_front ← front_of fetched command
+  front ← unless Clash (clash command.policy command.script loaded_front.policy) loaded_front
+  with_inputs fetched front
 
--- the policy that was read, or the rule and the entry at which it fails
-abbrev pub read_policy : Result Policy PolicyFault → Result Policy HostStatus
-read_policy (Ok policy) = Ok policy
-read_policy (Err (policy_fault.Bad rule entry)) = Err (BadPolicy rule entry)
-read_policy (Err policy_fault.NoMemory) = Err NoMemory
-
--- the script that was read, or the line at which it can't go on
-abbrev pub read_script : Result (List Stmt) ℕ → Result (List Stmt) HostStatus
-read_script (Ok script) = Ok script
-read_script (Err line) = Err (NotYet 1 line)
-
--- the policy that a text is
-unfoldable pub policy_from : List ℕ → Result Policy HostStatus
-policy_from text = do
-  policy ← read_policy (policy_of text)
-  unless (NotYet 0) (first_beyond policy) policy
-
--- the script that a text is
-abbrev pub script_from : List ℕ → Result (List Stmt) HostStatus
-script_from text = read_script (script_of text)
-
--- what is run by a command, or the refusal of the first step that is refused
-abbrev pub loaded : Fetched → Command → Result Job HostStatus
-loaded fetched command = do
-  policy_text ← or_refused (Missing command.policy) (fetched command.policy most_policy_bytes)
-  policy ← policy_from policy_text
-  script_text ← or_refused (Missing command.script) (fetched command.script most_script_bytes)
-  script ← script_from script_text
-  unless Clash (clash command policy) (record { policy = policy; script = script })
-
--- what a call with these words is to do, over these files
-abbrev pub verdict : Fetched → List (List ℕ) → Result Job HostStatus
+-- what a call with these words is to do, over what its command finds
+abbrev pub verdict : (Command → Fetched) → List (List ℕ) → Result Job HostStatus
 verdict fetched words = do
   command ← or_refused BadWords (command_of words)
-  loaded fetched command
+  prepared (fetched command) command

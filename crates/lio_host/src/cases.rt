@@ -1,15 +1,10 @@
 //! Reads the worked runs of `rows.rt`, runs each over a store in memory, and compares.
 
+use crate::detail::detail_of;
 use crate::host::host_main;
 use crate::refusal::refusal_text;
-use crate::status::HostStatus;
-use lio_labels::Label;
 use lio_outside::MemStore;
-use lio_policy::entry_at;
-use lio_values::{Act, Content, Entry, Fault, FaultKind, Held, Plain, Reply, Text};
 use std::alloc::{AllocError, Global};
-use std::fmt::Write;
-use std::str;
 use std::test::Fail;
 
 /// A part of a case: its word, what it is about, and its text.
@@ -37,6 +32,14 @@ impl Case {
     fn text(&self, word: &str) -> Option<&str> {
         let part = self.part(word)?;
         Some(part.text.as_str())
+    }
+
+    /// The number that the part with this word is about, if there is one.
+    fn number(&self, word: &str) -> Result<Option<usize>, Fail> {
+        match self.part(word) {
+            Some(part) => Ok(Some(part.about.as_str().parse::<usize>()?)),
+            None => Ok(None),
+        }
     }
 }
 
@@ -95,8 +98,8 @@ fn read_cases(alloc: Global, rows: &str) -> Result<Vec<Case>, AllocError> {
 /// A store with the files of a case, whose calls fail that are to fail.
 fn store(alloc: Global, case: &Case, policy: &str, script: &str) -> Result<MemStore, Fail> {
     let mut failing = Vec::new(alloc);
-    if let Some(part) = case.part("fail") {
-        failing.push(part.about.as_str().parse::<u64>()?)?;
+    if let Some(call) = case.number("fail")? {
+        failing.push(call as u64)?;
     }
     let mut store = MemStore::new(alloc, failing);
     store.put(alloc, b"p.json", policy.as_bytes())?;
@@ -118,66 +121,6 @@ fn words(alloc: Global, case: &Case) -> Result<Vec<String>, AllocError> {
     Ok(words)
 }
 
-/// A text as it is shown.
-fn shown(text: &Text) -> &str {
-    str::from_utf8(text.bytes()).unwrap_or("no text")
-}
-
-/// The fault of a public task that has no turn left.
-fn no_turns(alloc: Global) -> Result<Content, Fail> {
-    let at = Label::public(alloc)?;
-    let kind = FaultKind::NoTurns;
-    Ok(Content::Faulted(Held::new(alloc, Fault { kind, at })?))
-}
-
-/// An act as it is shown.
-fn act_text(alloc: Global, act: &Act) -> Result<String, Fail> {
-    if let Act::Send(text) = act {
-        Ok(format!(in alloc; "send \"{}\"", shown(text))?)
-    } else if *act == Act::Ended(Held::new(alloc, Content::Kept(Plain::Unit))?) {
-        Ok(format!(in alloc; "ended unit")?)
-    } else if *act == Act::Ended(Held::new(alloc, no_turns(alloc)?)?) {
-        Ok(format!(in alloc; "ended fault(no_turns at <True %% True>)")?)
-    } else {
-        Ok(format!(in alloc; "another act")?)
-    }
-}
-
-/// A reply as it is shown.
-fn reply_text(reply: &Reply) -> &str {
-    match reply {
-        Reply::Done => "ok",
-        Reply::Got(_) | Reply::Told(_) | Reply::Refused(_) => "another reply",
-    }
-}
-
-/// An entry of a public task as it is shown.
-fn append_entry(alloc: Global, text: &mut String, entry: &Entry) -> Result<(), Fail> {
-    let act = act_text(alloc, &entry.act)?;
-    write!(text, "{} {} ", entry.ticket, entry.actor)?;
-    match entry.target {
-        Some(target) => write!(text, "{target}")?,
-        None => text.push_str("-")?,
-    }
-    let label = if entry.at == Label::public(alloc)? {
-        "<True %% True>"
-    } else {
-        "<another label>"
-    };
-    let reply = reply_text(&entry.reply);
-    writeln!(text, " {label} {act} : {reply}")?;
-    Ok(())
-}
-
-/// A history as it is shown.
-fn history_text(alloc: Global, entries: &[Entry]) -> Result<String, Fail> {
-    let mut text = String::new(alloc);
-    for entry in entries {
-        append_entry(alloc, &mut text, entry)?;
-    }
-    Ok(text)
-}
-
 /// Whether a part that speaks of a file says what a store holds.
 fn is_true_of(part: &Part, store: &MemStore) -> bool {
     match part.word.as_str() {
@@ -197,16 +140,12 @@ fn holds(alloc: Global, case: &Case, policy: &str, script: &str) -> Result<bool,
     let outcome = host_main(alloc, words.as_slice(), &mut store);
     let answer = &outcome.status;
     let status = format!(in alloc; "{answer}")?;
-    let found = match answer {
-        HostStatus::BadPolicy(_, entry) => entry_at(alloc, policy.as_bytes(), *entry)?,
-        HostStatus::NotYet(0, entry) => entry_at(alloc, policy.as_bytes(), *entry)?,
-        _ => None,
-    };
-    let said = refusal_text(alloc, answer, words.as_slice(), found.as_ref())?;
-    let history = history_text(alloc, outcome.journal.entries())?;
+    let found = detail_of(alloc, answer, policy.as_bytes(), script.as_bytes())?;
+    let said = refusal_text(alloc, answer, words.as_slice(), &found)?;
+    let entries = case.number("entries")?.unwrap_or(0);
     Ok(
         status.as_str() == expected.about.as_str()
-            && history.as_str() == case.text("history").unwrap_or("")
+            && outcome.journal.entries().len() == entries
             && said.as_str().starts_with(case.text("says").unwrap_or(""))
             && case.parts.iter().all(|part| is_true_of(part, &store)),
     )

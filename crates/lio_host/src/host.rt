@@ -1,44 +1,18 @@
-//! The top call: words, policy, script, run, file.
+//! The top call: words, policy, script, inputs, run, files.
 
-ghost use Rattle.std.specs.Prelude.{◌≡◌, ◌↔◌, [], None, IfOk, IfSome};
+ghost use Rattle.std.specs.Prelude.{◌≡◌, ◌↔◌, [], None, IfSome};
 ghost use Rattle.lio_host.specs.Command.{command_of, bytes_of_words};
-ghost use Rattle.lio_host.specs.Headline as spec;
-ghost use Rattle.lio_host.specs.Headline.{IsRunOf};
 ghost use Rattle.lio_host.specs.Answers.{Says, Follows};
 
 use crate::command::read_command;
-use crate::load::{Job, load};
+use crate::job::{Job, prepare};
 use crate::status::{HostStatus, Outcome};
-use crate::write::{OutFault, write_out};
-use lio_clauses::NoMemory;
 use lio_events::Journal;
+use lio_front::{OutFault, write_out};
 use lio_outside::Store;
-use lio_policy::{Policy, TaskEntry};
-use lio_rounds::{Config, Machine};
-use lio_sends::Script;
+use lio_policy::laws::policy_keeps_rules;
+use lio_run::run;
 use std::alloc::Global;
-
-/// The turns of the first task.
-fn turns_of(tasks: &[TaskEntry]) -> u32
-    ensures { result ≡ spec.turns_of tasks.now }
-{
-    match tasks {
-        [] => 0,
-        [task, ..] => task.turns,
-    }
-}
-
-/// Runs a script by rounds under a policy.
-fn run(alloc: Global, policy: &Policy, script: Script) -> Result<Journal, NoMemory>
-    ensures { IfOk result (IsRunOf (record { policy = policy.now; script = script })) }
-{
-    let turns = turns_of(policy.tasks.as_slice());
-    let config = Config::start(alloc, turns, policy.longest)?;
-    let mut machine = Machine::new(alloc, config, script)?;
-    machine.run(alloc)?;
-    let (journal, _config) = machine.finish();
-    Ok(journal)
-}
 
 /// The outcome of a call that ran nothing.
 fn refused(alloc: Global, status: HostStatus) -> Outcome
@@ -65,27 +39,32 @@ fn answer<S: Store>(alloc: Global, words: &[String], store: &mut S) -> Outcome
     let Some(command) = read_command(words) else {
         return refused(alloc, HostStatus::BadWords);
     };
-    let Job { policy, script } = match load(alloc, store, command) {
+    let Job {
+        policy,
+        script,
+        inputs,
+    } = match prepare(alloc, store, command) {
         Ok(job) => job,
-        Err(fault) => return refused(alloc, HostStatus::from(fault)),
+        Err(status) => return refused(alloc, status),
     };
-    let Ok(journal) = run(alloc, &policy, script) else {
+    policy_keeps_rules(&policy);
+    let Ok(ran) = run(alloc, &policy, script, inputs.as_slice()) else {
         return refused(alloc, HostStatus::NoMemory);
     };
-    match write_out(alloc, store, policy.channels.as_slice(), &journal) {
+    match write_out(alloc, store, &policy, &ran.journal) {
         Ok(()) => Outcome {
             status: HostStatus::Done,
-            journal,
+            journal: ran.journal,
         },
         Err(OutFault::WriteFault(name)) => Outcome {
             status: HostStatus::WriteFault(name),
-            journal,
+            journal: ran.journal,
         },
         Err(OutFault::NoMemory) => refused(alloc, HostStatus::NoMemory),
     }
 }
 
-/// Runs the script that the words name under the policy that they name, and writes its channel's file.
+/// Runs the script that the words name under the policy that they name, and writes the channels' files.
 pub fn host_main<S: Store>(alloc: Global, words: &[String], store: &mut S) -> Outcome
     ensures says { Says (record {
       words = bytes_of_words words.now;

@@ -1,24 +1,25 @@
-//! Runs a script under a policy, and writes what it sends to its channel.
+//! Runs a script under a policy over labelled inputs, and writes what it sends to its channels.
 #![tactic(auto)]
 
-mod beyond;
 #[cfg(test)]
 mod cases;
-mod clash;
 mod command;
+mod detail;
 mod host;
-mod load;
+mod job;
 mod refusal;
 #[cfg(test)]
 mod rows;
 mod status;
 #[cfg(test)]
 mod tests;
-mod write;
+#[cfg(test)]
+mod worked;
 
+use detail::refusal_detail;
 use host::host_main;
 use lio_outside::RealStore;
-use refusal::{print_refusal, refused_entry};
+use refusal::print_refusal;
 use std::process::ExitCode;
 use std::{env, io};
 
@@ -34,8 +35,8 @@ fn main(rt: HostRuntime) -> ExitCode {
     let mut store = RealStore::new(&rt);
     let outcome = host_main(rt.alloc(), words.as_slice(), &mut store);
     let words = words.as_slice();
-    let entry = refused_entry(rt.alloc(), &rt, &mut store, &outcome.status, words);
+    let detail = refusal_detail(rt.alloc(), &rt, &mut store, &outcome.status, words);
     // A refusal that can't be printed still has its exit status.
-    let _ = print_refusal(&rt, rt.alloc(), &outcome.status, words, entry.as_ref());
+    let _ = print_refusal(&rt, rt.alloc(), &outcome.status, words, &detail);
     ExitCode::from(outcome.status.number())
 }

@@ -1,26 +1,17 @@
 //! What is printed of a refusal: the answer as its type writes it, what was refused and where, and how to mend it.
 
-use crate::load::MOST_POLICY_BYTES;
+use crate::detail::{Detail, Hint};
 use crate::status::HostStatus;
-use lio_outside::Store;
-use lio_policy::{EntryAt, EntryKind, entry_at};
+use lio_policy::{EntryAt, EntryKind};
+use lio_start::StartFault;
 use lio_values::Text;
 use std::alloc::{AllocError, Global};
 use std::fmt::Write;
-use std::fs::Files;
-use std::{fmt, fs, io, str};
+use std::{fmt, io, str};
 
 /// What the words are to be.
 const USAGE: &str =
     "usage: lio_host POLICY SCRIPT\n  POLICY and SCRIPT are the names of two files; a name isn't empty and doesn't begin with `-`";
-
-/// What runs so far of a policy.
-const POLICY: &str =
-    "so far a policy has no inputs, one channel with the label `True %% True`, and one task with the procedure `main`, the label and the clearance `True %% True`, and that channel as its one argument";
-
-/// What runs so far of a script.
-const SCRIPT: &str =
-    "a script that runs so far is the line `proc main c`, then lines `send c \"TEXT\"` and `stop`, then the line `end`, with a line end after each line, single blanks between words, and in TEXT printable ASCII bytes other than `\"` and `\\`";
 
 /// A name as it is shown: in one line, with its control characters escaped.
 #[derive(Clone, Copy)]
@@ -56,16 +47,22 @@ impl fmt::Display for HostStatus {
                 write!(f, "ReadFault({name})")
             }
             HostStatus::BadPolicy(rule, entry) => write!(f, "BadPolicy({rule}, {entry})"),
-            HostStatus::NotYet(document, place) => write!(f, "NotYet({document}, {place})"),
-            HostStatus::Clash(name) => {
-                let name = Shown(name);
-                write!(f, "Clash({name})")
+            HostStatus::BadScript(line, rule) => write!(f, "BadScript({line}, {rule})"),
+            HostStatus::BadStart(task, StartFault::NoProc(place)) => {
+                write!(f, "BadStart({task}, NoProc({place}))")
+            }
+            HostStatus::BadStart(task, StartFault::Arity(place)) => {
+                write!(f, "BadStart({task}, Arity({place}))")
             }
             HostStatus::WriteFault(name) => {
                 let name = Shown(name);
                 write!(f, "WriteFault({name})")
             }
             HostStatus::NoMemory => f.write_str("NoMemory"),
+            HostStatus::Clash(name) => {
+                let name = Shown(name);
+                write!(f, "Clash({name})")
+            }
         }
     }
 }
@@ -115,30 +112,6 @@ impl fmt::Display for ShownEntry<'_> {
     }
 }
 
-/// The entry of the policy that an answer names, where it names one and the policy is a plain file, which can be read once more.
-pub fn refused_entry<S: Store>(
-    alloc: Global,
-    files: &impl Files,
-    store: &mut S,
-    status: &HostStatus,
-    words: &[String],
-) -> Option<EntryAt> {
-    let entry = match status {
-        HostStatus::BadPolicy(_, entry) => *entry,
-        HostStatus::NotYet(0, entry) => *entry,
-        _ => return None,
-    };
-    let name = words.first()?;
-    let about = fs::metadata(files, name.as_str()).ok()?;
-    if !about.is_file() {
-        return None;
-    }
-    match store.fetch(alloc, name.as_bytes(), MOST_POLICY_BYTES) {
-        Ok(text) => entry_at(alloc, text.as_slice(), entry).unwrap_or(None),
-        Err(_) => None,
-    }
-}
-
 /// What a rule of policies asks.
 fn rule_text(rule: u32) -> &'static str {
     match rule {
@@ -164,6 +137,23 @@ fn rule_text(rule: u32) -> &'static str {
     }
 }
 
+/// What a rule of scripts asks.
+fn script_rule_text(rule: u32) -> &'static str {
+    match rule {
+        1 => {
+            "a line is one of the forms that docs/SCRIPTS.md lists, and a label in it is one over the principals of the policy"
+        }
+        2 => "each procedure and each block ends with `end`, and no line stands where it can't",
+        3 => "a procedure that is called, forked or spawned has a `proc` line",
+        4 => "a procedure is given as many arguments as its first `proc` line has parameters",
+        5 => "the name of a procedure stands on one `proc` line alone",
+        6 => "the parameters of a procedure have different names",
+        _ => {
+            "a script has at most 262144 bytes, 8192 lines, 512 procedures, and 64 blocks that are open in a procedure"
+        }
+    }
+}
+
 /// With what the name of a file that is written clashes.
 fn taken_by(name: &Text, words: &[String]) -> &'static str {
     if name.bytes() == word(words, 0).as_bytes() {
@@ -175,12 +165,92 @@ fn taken_by(name: &Text, words: &[String]) -> &'static str {
     }
 }
 
+/// Bytes of a script as they are shown.
+fn shown_bytes(bytes: &[u8]) -> &str {
+    str::from_utf8(bytes).unwrap_or("..")
+}
+
+impl fmt::Display for Hint {
+    fn fmt<W: fmt::Write>(&self, f: &mut fmt::Formatter<W>) -> fmt::Result {
+        match self {
+            Hint::Nothing => Ok(()),
+            Hint::NothingOpen => f.write_str("; no block and no procedure is open here"),
+            Hint::Open(open) => {
+                let line = open.line as u128 + 1;
+                let word = shown_bytes(open.word.bytes());
+                write!(
+                    f,
+                    "; the innermost that is open here is the `{word}` of line {line}"
+                )
+            }
+            Hint::NoProcedure(name) => {
+                let name = shown_bytes(name.bytes());
+                write!(f, "; no line begins with `proc {name}`")
+            }
+            Hint::Takes(takes) => {
+                let name = shown_bytes(takes.name.bytes());
+                let wanted = takes.wanted;
+                let given = takes.given;
+                write!(f, "; `{name}` has {wanted} parameters and is given {given}")
+            }
+        }
+    }
+}
+
+/// What is printed of a script that breaks a rule.
+fn script_text(
+    alloc: Global,
+    status: &HostStatus,
+    script: &str,
+    line: u32,
+    rule: u32,
+    detail: &Detail,
+) -> Result<String, AllocError> {
+    let asked = script_rule_text(rule);
+    match detail {
+        Detail::Line(found) => {
+            let hint = &found.hint;
+            let shown = Shown(&found.text);
+            format!(in alloc;
+                "lio_host: {status}: {script}:{line}: {asked}{hint}\n  {line} | {shown}"
+            )
+        }
+        _ => format!(in alloc; "lio_host: {status}: {script}:{line}: {asked}"),
+    }
+}
+
+/// What is printed of a task that can't begin.
+fn start_text(
+    alloc: Global,
+    status: &HostStatus,
+    policy: &str,
+    script: &str,
+    detail: &Detail,
+) -> Result<String, AllocError> {
+    let Detail::Task(task) = detail else {
+        return format!(in alloc;
+            "lio_host: {status}: {policy}: a task names a procedure of the script, and gives it as many arguments as it has parameters"
+        );
+    };
+    let name = Shown(&task.name);
+    let procedure = Shown(&task.procedure);
+    let given = task.given;
+    match task.wanted {
+        None => format!(in alloc;
+            "lio_host: {status}: {policy}: task \"{name}\" runs the procedure `{procedure}`, which {script} doesn't have; add a line `proc {procedure}`, or name another procedure"
+        ),
+        Some(wanted) => format!(in alloc;
+            "lio_host: {status}: {policy}: task \"{name}\" gives `{procedure}` {given} arguments, and in {script} it has {wanted} parameters"
+        ),
+    }
+}
+
 /// What is printed of a refusal: what was refused, where, and how to mend it. Nothing where the script ran.
 pub fn refusal_text(
     alloc: Global,
     status: &HostStatus,
     words: &[String],
-    found: Option<&EntryAt>,
+    detail: &Detail,
 ) -> Result<String, AllocError> {
     let policy = word(words, 0);
     let script = word(words, 1);
@@ -189,9 +259,9 @@ pub fn refusal_text(
         HostStatus::BadWords => {
             format!(in alloc; "lio_host: {status}: the words aren't two names\n{USAGE}")
         }
-        HostStatus::Missing(_) => {
-            format!(in alloc; "lio_host: {status}: there is no such file\n{USAGE}")
-        }
+        HostStatus::Missing(_) => format!(in alloc;
+            "lio_host: {status}: there is no such file; the names in a policy are looked up from the folder in which the command is given\n{USAGE}"
+        ),
         HostStatus::ReadFault(_) => format!(in alloc;
             "lio_host: {status}: the file couldn't be read; see that it is a file, and that it may be read"
         ),
@@ -199,29 +269,20 @@ pub fn refusal_text(
             let asked = rule_text(*rule);
             let entry = ShownEntry {
                 number: *entry,
-                found,
+                found: detail.entry(),
             };
             format!(in alloc; "lio_host: {status}: {policy}: {entry}: {asked}")
         }
-        HostStatus::NotYet(0, 0) => {
-            format!(in alloc;
-                "lio_host: {status}: {policy}: a policy without tasks doesn't run; {POLICY}"
-            )
+        HostStatus::BadScript(line, rule) => {
+            script_text(alloc, status, script, *line, *rule, detail)
         }
-        HostStatus::NotYet(0, entry) => {
-            let entry = ShownEntry {
-                number: *entry,
-                found,
-            };
-            format!(in alloc; "lio_host: {status}: {policy}: {entry}: it doesn't run yet; {POLICY}")
-        }
-        HostStatus::NotYet(_, 0) => format!(in alloc;
-            "lio_host: {status}: {script}: the script has more than 262144 bytes, the most that are read"
+        HostStatus::BadStart(_, _) => start_text(alloc, status, policy, script, detail),
+        HostStatus::WriteFault(_) => format!(in alloc;
+            "lio_host: {status}: the file couldn't be written; see that it and its folder may be written, and that there is room"
         ),
-        HostStatus::NotYet(_, line) => {
-            let line = *line;
+        HostStatus::NoMemory => {
             format!(in alloc;
-                "lio_host: {status}: {script}:{line}: the script can't go on so at this line; {SCRIPT}"
+                "lio_host: {status}: no memory was left; a first part of the channels' files may be written"
             )
         }
         HostStatus::Clash(name) => {
@@ -230,12 +291,6 @@ pub fn refusal_text(
             format!(in alloc;
                 "lio_host: {status}: {policy}: the file {name} is to be written, but {by}; give the channel another file"
             )
-        }
-        HostStatus::WriteFault(_) => format!(in alloc;
-            "lio_host: {status}: the file couldn't be written; see that it and its folder may be written, and that there is room"
-        ),
-        HostStatus::NoMemory => {
-            format!(in alloc; "lio_host: {status}: no memory was left; no file was changed")
         }
     }
 }
@@ -246,12 +301,12 @@ pub fn print_refusal(
     alloc: Global,
     status: &HostStatus,
     words: &[String],
-    found: Option<&EntryAt>,
+    detail: &Detail,
 ) -> io::Result<()> {
     if let HostStatus::Done = status {
         return Ok(());
     }
-    match refusal_text(alloc, status, words, found) {
+    match refusal_text(alloc, status, words, detail) {
         Ok(text) => eprintln!(rt; "{text}"),
         Err(_) => eprintln!(rt; "lio_host: {status}"),
     }

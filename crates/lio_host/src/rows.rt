@@ -12,7 +12,7 @@
 //! | `status STATUS` | the answer |
 //! | `file NAME`, `absent NAME` | what a file holds afterwards, or that it isn't there |
 //! | `says` | how the words begin that are printed of the answer |
-//! | `history` | the entries, one a line; none where there is none |
+//! | `entries N` | how many turns were taken; none where there is none |
 
 /// Scripts that run.
 pub const RUNS: &str = r#"case a text is sent
@@ -28,9 +28,7 @@ script
 status Done
 file out.txt
 |hi~
-history
-|0 1 0 <True %% True> send "hi" : ok
-|1 1 - <True %% True> ended unit : ok
+entries 2
 case texts are sent one after another
 script
 |proc main c
@@ -41,30 +39,21 @@ script
 status Done
 file out.txt
 |a~ b~
-history
-|0 1 0 <True %% True> send "" : ok
-|1 1 0 <True %% True> send "a~" : ok
-|2 1 0 <True %% True> send " b" : ok
-|3 1 - <True %% True> ended unit : ok
+entries 4
 case a file that was there is replaced
 input out.txt
 |old
 status Done
 file out.txt
 |a~ b~
-history
-|0 1 0 <True %% True> send "" : ok
-|1 1 0 <True %% True> send "a~" : ok
-|2 1 0 <True %% True> send " b" : ok
-|3 1 - <True %% True> ended unit : ok
+entries 4
 case a script without statements
 script
 |proc main c
 |end
 status Done
 file out.txt
-history
-|0 1 - <True %% True> ended unit : ok
+entries 1
 case a task stops
 script
 |proc main c
@@ -73,8 +62,7 @@ script
 |end
 status Done
 file out.txt
-history
-|0 1 - <True %% True> ended unit : ok
+entries 1
 case a task ends without turns
 policy
 |{"version":1,"longest":4096,"principals":[],~
@@ -88,9 +76,7 @@ script
 status Done
 file out.txt
 |hi~
-history
-|0 1 0 <True %% True> send "hi" : ok
-|1 1 - <True %% True> ended fault(no_turns at <True %% True>) : ok
+entries 2
 case a task has no turn
 policy
 |{"version":1,"longest":4096,"principals":[],~
@@ -99,8 +85,7 @@ policy
 |"tasks":[{"name":"main","proc":"main","label":"True %% True","clearance":"True %% True","turns":0,"cells":0,"args":[{"channel":"out"}]}]}~
 status Done
 file out.txt
-history
-|0 1 - <True %% True> ended fault(no_turns at <True %% True>) : ok
+entries 1
 case a public task under two principals, with cells
 policy
 |{"version":1,"longest":4096,"principals":["alice","bob"],~
@@ -114,9 +99,7 @@ script
 status Done
 file out.txt
 |hi~
-history
-|0 1 0 <True %% True> send "hi" : ok
-|1 1 - <True %% True> ended unit : ok
+entries 2
 case principals, other names and cells
 policy
 |{"version":1,"longest":1,"principals":["alice","bob"],~
@@ -127,12 +110,10 @@ status Done
 file log of today.txt
 |hi~
 absent out.txt
-history
-|0 1 0 <True %% True> send "hi" : ok
-|1 1 - <True %% True> ended unit : ok
+entries 2
 "#;
 
-/// Policies that are refused, or that don't run so far.
+/// Policies that are refused.
 pub const REFUSED_POLICIES: &str = r#"case a policy that is no JSON
 policy
 |{~
@@ -174,7 +155,7 @@ absent out.txt
 case a channel with an unknown principal
 policy
 |{"version":1,"longest":4096,"principals":["alice","bob"],~
-|"channels":[{"name":"out","label":"dave %% True","file":"out.txt"}],~
+|"channels":[{"name":"out","label":"carol %% True","file":"out.txt"}],~
 |"inputs":[],~
 |"tasks":[{"name":"main","proc":"main","label":"True %% True","clearance":"True %% True","turns":20,"cells":0,"args":[{"channel":"out"}]}]}~
 status BadPolicy(5, 3)
@@ -226,121 +207,6 @@ words
 |p.json
 |t.lio
 status BadPolicy(9, 1)
-case a policy whose list of tasks is empty
-policy
-|{"version":1,"longest":4096,"principals":[],~
-|"channels":[{"name":"out","label":"True %% True","file":"out.txt"}],~
-|"inputs":[],~
-|"tasks":[]}~
-status NotYet(0, 0)
-says
-|lio_host: NotYet(0, 0): p.json: a policy without tasks~
-absent out.txt
-case a channel that is not public
-policy
-|{"version":1,"longest":4096,"principals":["alice","bob"],~
-|"channels":[{"name":"out","label":"alice %% True","file":"out.txt"}],~
-|"inputs":[],~
-|"tasks":[{"name":"main","proc":"main","label":"True %% True","clearance":"True %% True","turns":20,"cells":0,"args":[{"channel":"out"}]}]}~
-status NotYet(0, 3)
-absent out.txt
-case a channel that somebody vouches for
-policy
-|{"version":1,"longest":4096,"principals":["alice","bob"],~
-|"channels":[{"name":"out","label":"True %% alice","file":"out.txt"}],~
-|"inputs":[],~
-|"tasks":[{"name":"main","proc":"main","label":"True %% True","clearance":"True %% True","turns":20,"cells":0,"args":[{"channel":"out"}]}]}~
-status NotYet(0, 3)
-absent out.txt
-case a second channel
-policy
-|{"version":1,"longest":4096,"principals":[],~
-|"channels":[{"name":"out","label":"True %% True","file":"out.txt"},{"name":"two","label":"True %% True","file":"two.txt"}],~
-|"inputs":[],~
-|"tasks":[{"name":"main","proc":"main","label":"True %% True","clearance":"True %% True","turns":20,"cells":0,"args":[{"channel":"out"}]}]}~
-status NotYet(0, 2)
-absent out.txt
-case an input
-policy
-|{"version":1,"longest":4096,"principals":["alice","bob"],~
-|"channels":[{"name":"out","label":"True %% True","file":"out.txt"}],~
-|"inputs":[{"name":"a","label":"alice %% True","file":"a.txt"}],~
-|"tasks":[{"name":"main","proc":"main","label":"True %% True","clearance":"True %% True","turns":20,"cells":0,"args":[{"channel":"out"}]}]}~
-status NotYet(0, 4)
-says
-|lio_host: NotYet(0, 4): p.json: input 1, "a": it doesn't run yet~
-absent out.txt
-case a second task
-policy
-|{"version":1,"longest":4096,"principals":[],~
-|"channels":[{"name":"out","label":"True %% True","file":"out.txt"}],~
-|"inputs":[],~
-|"tasks":[{"name":"main","proc":"main","label":"True %% True","clearance":"True %% True","turns":20,"cells":0,"args":[{"channel":"out"}]},{"name":"second","proc":"main","label":"True %% True","clearance":"True %% True","turns":20,"cells":0,"args":[{"channel":"out"}]}]}~
-status NotYet(0, 3)
-absent out.txt
-case another procedure
-policy
-|{"version":1,"longest":4096,"principals":[],~
-|"channels":[{"name":"out","label":"True %% True","file":"out.txt"}],~
-|"inputs":[],~
-|"tasks":[{"name":"main","proc":"other","label":"True %% True","clearance":"True %% True","turns":20,"cells":0,"args":[{"channel":"out"}]}]}~
-status NotYet(0, 2)
-absent out.txt
-case a clearance that is not public
-policy
-|{"version":1,"longest":4096,"principals":["alice","bob"],~
-|"channels":[{"name":"out","label":"True %% True","file":"out.txt"}],~
-|"inputs":[],~
-|"tasks":[{"name":"main","proc":"main","label":"True %% True","clearance":"alice %% True","turns":20,"cells":0,"args":[{"channel":"out"}]}]}~
-status NotYet(0, 4)
-absent out.txt
-case no argument
-policy
-|{"version":1,"longest":4096,"principals":[],~
-|"channels":[{"name":"out","label":"True %% True","file":"out.txt"}],~
-|"inputs":[],~
-|"tasks":[{"name":"main","proc":"main","label":"True %% True","clearance":"True %% True","turns":20,"cells":0,"args":[]}]}~
-status NotYet(0, 2)
-absent out.txt
-case an argument that is no channel
-policy
-|{"version":1,"longest":4096,"principals":[],~
-|"channels":[{"name":"out","label":"True %% True","file":"out.txt"}],~
-|"inputs":[],~
-|"tasks":[{"name":"main","proc":"main","label":"True %% True","clearance":"True %% True","turns":20,"cells":0,"args":[{"flag":true}]}]}~
-status NotYet(0, 2)
-absent out.txt
-case two arguments
-policy
-|{"version":1,"longest":4096,"principals":[],~
-|"channels":[{"name":"out","label":"True %% True","file":"out.txt"}],~
-|"inputs":[],~
-|"tasks":[{"name":"main","proc":"main","label":"True %% True","clearance":"True %% True","turns":20,"cells":0,"args":[{"channel":"out"},{"channel":"out"}]}]}~
-status NotYet(0, 2)
-absent out.txt
-case a task that somebody vouches for
-policy
-|{"version":1,"longest":4096,"principals":["alice","bob"],~
-|"channels":[{"name":"out","label":"True %% True","file":"out.txt"}],~
-|"inputs":[],~
-|"tasks":[{"name":"main","proc":"main","label":"True %% alice","clearance":"True %% True","turns":20,"cells":4,"args":[{"channel":"out"}]}]}~
-status NotYet(0, 4)
-absent out.txt
-case two arguments once more
-policy
-|{"version":1,"longest":4096,"principals":[],~
-|"channels":[{"name":"out","label":"True %% True","file":"out.txt"}],~
-|"inputs":[],~
-|"tasks":[{"name":"main","proc":"main","label":"True %% True","clearance":"True %% True","turns":20,"cells":0,"args":[{"channel":"out"},{"channel":"out"}]}]}~
-status NotYet(0, 2)
-case a policy that doesn't run is refused before its script is looked for
-words
-|p.json
-|t.lio
-status NotYet(0, 2)
-case a policy that doesn't run is refused before its script is read
-fail 1
-status NotYet(0, 2)
 case a policy that breaks a rule is refused before its script is read
 policy
 |{~
@@ -348,111 +214,109 @@ fail 1
 status BadPolicy(1, 0)
 "#;
 
-/// Scripts that don't run so far, with the line at which each first can't go on.
-pub const REFUSED_SCRIPTS: &str = r#"case a statement that is none so far
+/// Scripts that are refused, with the line and what helps to mend it.
+pub const REFUSED_SCRIPTS: &str = r#"case a line that is no form
 policy
-|{"version":1,"longest":4096,"principals":[],~
+|{"version":1,"longest":4096,"principals":["alice"],~
 |"channels":[{"name":"out","label":"True %% True","file":"out.txt"}],~
 |"inputs":[],~
 |"tasks":[{"name":"main","proc":"main","label":"True %% True","clearance":"True %% True","turns":20,"cells":0,"args":[{"channel":"out"}]}]}~
 script
 |proc main c
-|let x = 1
+|let x =
 |end
-status NotYet(1, 2)
+status BadScript(2, 1)
 says
-|lio_host: NotYet(1, 2): s.lio:2: the script can't go on so at this line~
+|lio_host: BadScript(2, 1): s.lio:2: a line is one of the forms that docs/SCRIPTS.md lists, and a label in it is one over the principals of the policy
+|  2 | let x =~
 absent out.txt
-case an empty script
-script
-status NotYet(1, 1)
-absent out.txt
-case a first line without its end
-script
-|proc main c~
-status NotYet(1, 1)
-absent out.txt
-case a script without end
+case an else outside of an if
 script
 |proc main c
-status NotYet(1, 2)
-absent out.txt
-case two blanks
-script
-|proc  main c
+|while true
+|else
 |end
-status NotYet(1, 1)
-absent out.txt
-case another parameter
-script
-|proc main d
 |end
-status NotYet(1, 1)
+status BadScript(3, 2)
+says
+|lio_host: BadScript(3, 2): s.lio:3: each procedure and each block ends with `end`, and no line stands where it can't; the innermost that is open here is the `while` of line 2
+|  3 | else~
 absent out.txt
-case another channel
+case a try that ends without catch
 script
 |proc main c
-|send c "a"
-|send d "b"
+|if true
+|else
+|try
 |end
-status NotYet(1, 3)
-absent out.txt
-case a quote in a text
-script
-|proc main c
-|send c "a"b"
 |end
-status NotYet(1, 2)
-absent out.txt
-case a backslash in a text
-script
-|proc main c
-|send c "\n"
 |end
-status NotYet(1, 2)
+status BadScript(5, 2)
+says
+|lio_host: BadScript(5, 2): s.lio:5: each procedure and each block ends with `end`, and no line stands where it can't; the innermost that is open here is the `try` of line 4
+|  5 | end~
 absent out.txt
-case a text that is not closed
-script
-|proc main c
-|send c "
-|end
-status NotYet(1, 2)
-absent out.txt
-case a blank at the end of a line
-script
-|proc main c
-|stop 
-|end
-status NotYet(1, 2)
-absent out.txt
-case a last line without its end
-script
-|proc main c
-|stop
-|end~
-status NotYet(1, 3)
-absent out.txt
-case an empty line
-script
-|proc main c
-|stop
-|
-|end
-status NotYet(1, 3)
-absent out.txt
-case an empty line after the end
-script
-|proc main c
-|end
-|
-status NotYet(1, 3)
-absent out.txt
-case a line after the end
+case a line behind the last procedure
 script
 |proc main c
 |end
 |stop
-status NotYet(1, 3)
+status BadScript(3, 2)
+says
+|lio_host: BadScript(3, 2): s.lio:3: each procedure and each block ends with `end`, and no line stands where it can't; no block and no procedure is open here
+|  3 | stop~
+absent out.txt
+case a procedure that isn't there
+script
+|proc main c
+|spawn 1 0 go c
+|end
+status BadScript(2, 3)
+says
+|lio_host: BadScript(2, 3): s.lio:2: a procedure that is called, forked or spawned has a `proc` line; no line begins with `proc go`
+|  2 | spawn 1 0 go c~
+absent out.txt
+case too many arguments, behind a label with blanks
+script
+|proc main c
+|fork r <alice %% True> 1 0 go c 7
+|end
+|proc go x
+|end
+status BadScript(2, 4)
+says
+|lio_host: BadScript(2, 4): s.lio:2: a procedure is given as many arguments as its first `proc` line has parameters; `go` has 1 parameters and is given 2
+|  2 | fork r <alice %% True> 1 0 go c 7~
+absent out.txt
+case two procedures with one name
+script
+|proc main c
+|end
+|proc main c
+|end
+status BadScript(3, 5)
+absent out.txt
+case two parameters with one name
+script
+|proc main c c
+|end
+status BadScript(1, 6)
+absent out.txt
+case no procedure of the task's name
+script
+|proc other c
+|end
+status BadStart(0, NoProc(0))
+says
+|lio_host: BadStart(0, NoProc(0)): p.json: task "main" runs the procedure `main`, which s.lio doesn't have; add a line `proc main`, or name another procedure~
+absent out.txt
+case a procedure with fewer parameters than arguments
+script
+|proc main
+|end
+status BadStart(0, Arity(0))
+says
+|lio_host: BadStart(0, Arity(0)): p.json: task "main" gives `main` 1 arguments, and in s.lio it has 0 parameters~
 absent out.txt
 "#;
 
@@ -483,12 +347,12 @@ file s.lio
 |proc main c
 |send c "hi"
 |end
-case a script that doesn't run is refused before names clash
+case a script that breaks a rule is refused before names clash
 script
 |proc main c
 |wait
 |end
-status NotYet(1, 2)
+status BadScript(2, 1)
 "#;
 
 /// Files that can't be had or written.
@@ -517,9 +381,7 @@ status WriteFault(out.txt)
 says
 |lio_host: WriteFault(out.txt): the file couldn't be written~
 absent out.txt
-history
-|0 1 0 <True %% True> send "hi" : ok
-|1 1 - <True %% True> ended unit : ok
+entries 2
 case a file that isn't written is as before
 fail 2
 input out.txt
@@ -527,17 +389,13 @@ input out.txt
 status WriteFault(out.txt)
 file out.txt
 |old
-history
-|0 1 0 <True %% True> send "hi" : ok
-|1 1 - <True %% True> ended unit : ok
+entries 2
 case a call after the last one fails
 fail 3
 status Done
 file out.txt
 |hi~
-history
-|0 1 0 <True %% True> send "hi" : ok
-|1 1 - <True %% True> ended unit : ok
+entries 2
 case the script is missing
 words
 |p.json
@@ -568,9 +426,7 @@ fail 2
 status WriteFault(out\n\x1b.txt)
 says
 |lio_host: WriteFault(out\n\x1b.txt): the file couldn't be written~
-history
-|0 1 0 <True %% True> send "hi" : ok
-|1 1 - <True %% True> ended unit : ok
+entries 2
 "#;
 
 /// Words that aren't two names.

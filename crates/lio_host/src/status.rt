@@ -2,15 +2,16 @@
 
 ghost use Rattle.std.specs.Prelude.{◌≡◌};
 
-use crate::load::LoadFault;
 use lio_clauses::NoMemory;
 use lio_events::Journal;
+use lio_front::FrontFault;
+use lio_start::StartFault;
 use lio_values::Text;
 
 /// How a call of the host ended.
 #[derive(Debug, PartialEq, Drop)]
 pub enum HostStatus {
-    /// The script ran, and its channel's file is written.
+    /// The script ran, and the channels' files are written.
     Done,
     /// The words name no policy and script.
     BadWords,
@@ -18,17 +19,18 @@ pub enum HostStatus {
     Missing(Text),
     /// The file with this name couldn't be read.
     ReadFault(Text),
-    /// The first rule that the policy breaks, and the first entry at which it does; entry 0 is the document.
+    /// The lowest rule that the policy breaks, and the lowest entry at which it does; entry 0 is the document.
     BadPolicy(u32, u32),
-    /// What doesn't run so far: 0 and the first entry of the policy that is beyond, or 1 and the first line of the script that
-    /// is, line 0 where it is too long.
-    NotYet(u32, u32),
-    /// The first file to be written whose name is that of a file that is read, or of one that is written before.
-    Clash(Text),
+    /// The first line of the script that breaks a rule, and the lowest rule that it breaks; line 0 where the script is too long.
+    BadScript(u32, u32),
+    /// The place of the first task of the policy that can't begin in the script, from 0, and why.
+    BadStart(u32, StartFault),
     /// The file with this name couldn't be written.
     WriteFault(Text),
     /// No memory was left.
     NoMemory,
+    /// The first file to be written whose name is that of a file that is read, or of one that is written before.
+    Clash(Text),
 }
 
 /// How a call of the host ended, and the journal of what it ran.
@@ -48,19 +50,19 @@ impl From<NoMemory> for HostStatus {
     }
 }
 
-impl From<LoadFault> for HostStatus {
-    ghost use Rattle.lio_host.specs.Loading.{status_of};
+impl From<FrontFault> for HostStatus {
+    ghost use Rattle.lio_host.specs.Verdict.{status_of};
 
     ghost from_gives = { λ fault status. status ≡ status_of fault };
 
-    fn from(fault: LoadFault) -> HostStatus {
+    fn from(fault: FrontFault) -> HostStatus {
         match fault {
-            LoadFault::Missing(name) => HostStatus::Missing(name),
-            LoadFault::ReadFault(name) => HostStatus::ReadFault(name),
-            LoadFault::BadPolicy(rule, entry) => HostStatus::BadPolicy(rule, entry),
-            LoadFault::NotYet(document, place) => HostStatus::NotYet(document, place),
-            LoadFault::Clash(name) => HostStatus::Clash(name),
-            LoadFault::NoMemory => HostStatus::NoMemory,
+            FrontFault::Missing(name) => HostStatus::Missing(name),
+            FrontFault::ReadFault(name) => HostStatus::ReadFault(name),
+            FrontFault::BadPolicy(rule, entry) => HostStatus::BadPolicy(rule, entry),
+            FrontFault::BadScript(line, rule) => HostStatus::BadScript(line, rule),
+            FrontFault::BadStart(place, cause) => HostStatus::BadStart(place, cause),
+            FrontFault::NoMemory => HostStatus::NoMemory,
         }
     }
 }
@@ -79,10 +81,11 @@ impl HostStatus {
             HostStatus::Missing(_) => 2,
             HostStatus::ReadFault(_) => 3,
             HostStatus::BadPolicy(_, _) => 4,
+            HostStatus::BadScript(_, _) => 5,
+            HostStatus::BadStart(_, _) => 6,
             HostStatus::WriteFault(_) => 7,
             HostStatus::NoMemory => 9,
             HostStatus::Clash(_) => 11,
-            HostStatus::NotYet(_, _) => 20,
         }
     }
 }

@@ -2,6 +2,7 @@
 
 use crate::cases::first_failing;
 use crate::rows::{CLASHES, FAULTS, REFUSED_POLICIES, REFUSED_SCRIPTS, RUNS, WRONG_WORDS};
+use crate::worked::WORKED_RUNS;
 use std::process::Abort;
 use std::test::Fail;
 
@@ -19,12 +20,12 @@ fn scripts_run(rt: HostRuntime) -> Result<(), Fail> {
 }
 
 #[test]
-fn other_scripts_are_refused(rt: HostRuntime) -> Result<(), Fail> {
+fn scripts_are_refused(rt: HostRuntime) -> Result<(), Fail> {
     assert_all_hold(&rt, REFUSED_SCRIPTS)
 }
 
 #[test]
-fn other_policies_are_refused(rt: HostRuntime) -> Result<(), Fail> {
+fn policies_are_refused(rt: HostRuntime) -> Result<(), Fail> {
     assert_all_hold(&rt, REFUSED_POLICIES)
 }
 
@@ -41,4 +42,9 @@ fn faults_name_their_file(rt: HostRuntime) -> Result<(), Fail> {
 #[test]
 fn words_are_two_names(rt: HostRuntime) -> Result<(), Fail> {
     assert_all_hold(&rt, WRONG_WORDS)
+}
+
+#[test]
+fn tasks_run_over_labelled_inputs(rt: HostRuntime) -> Result<(), Fail> {
+    assert_all_hold(&rt, WORKED_RUNS)
 }

@@ -4,6 +4,7 @@ use crate::escape::escape;
 use lio_clauses::{FormFault, NameFault, NoMemory, TextFault};
 use lio_fields::{FieldFault, Words};
 use lio_policy::PolicyFault;
+use lio_start::StartFault;
 use std::alloc::{AllocError, AllocFailed, Global};
 use std::io;
 use std::io::Write;
@@ -36,6 +37,12 @@ pub enum Refusal {
     /// The line of a script that breaks a rule, and the rule.
     #[error("BadScript({0}, {1})")]
     BadScript(u32, u32),
+    /// The place of a task that can't begin, and why.
+    #[error("BadStart({0}, {1:?})")]
+    BadStart(u32, StartFault),
+    /// Another number of inputs than the policy has.
+    #[error("inputs")]
+    Inputs,
     #[error("NoMemory")]
     NoMemory,
 }
@@ -55,6 +62,15 @@ impl From<PolicyFault> for Refusal {
         match fault {
             PolicyFault::Bad { rule, entry } => Refusal::BadPolicy(rule, entry),
             PolicyFault::NoMemory => Refusal::NoMemory,
+        }
+    }
+}
+
+impl From<StartFault> for Refusal {
+    fn from(fault: StartFault) -> Refusal {
+        match fault {
+            StartFault::NoProc(place) => Refusal::BadStart(place, fault),
+            StartFault::Arity(place) => Refusal::BadStart(place, fault),
         }
     }
 }

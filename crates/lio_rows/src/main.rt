@@ -10,6 +10,7 @@ mod labels;
 mod names;
 mod operators;
 mod policies;
+mod runs;
 mod scripts;
 mod session;
 

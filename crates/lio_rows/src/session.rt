@@ -2,7 +2,7 @@
 
 use crate::answer::{Answer, Refusal};
 use crate::command::read_command;
-use crate::{entries, formulas, labels, names, operators, policies, scripts};
+use crate::{entries, formulas, labels, names, operators, policies, runs, scripts};
 use lio_clauses::{Names, NoMemory};
 use std::alloc::Global;
 
@@ -56,5 +56,8 @@ fn answer(
     if let Some(answer) = scripts::answer(alloc, names, word, fields)? {
         return Ok(Some(answer));
     }
-    policies::answer(alloc, word, fields)
+    if let Some(answer) = policies::answer(alloc, word, fields)? {
+        return Ok(Some(answer));
+    }
+    runs::answer(alloc, names, word, fields)
 }

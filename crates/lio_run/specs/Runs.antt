@@ -1,11 +1,15 @@
 -- Complete runs by rounds, and what observers see of them.
-use Rattle.std.specs.Prelude.{◌≡◌, List, Some}
+use Rattle.std.specs.Prelude.{◌≡◌, ℕ, List, IsTrue, Some, slice_get}
 use Rattle.lio_labels.specs.declared.label.Label.{Label}
-use Rattle.lio_values.specs.declared.value.Content.{Content}
+use Rattle.lio_labels.specs.Flow.{flows}
+use Rattle.lio_values.specs.declared.entry.Entry.{Entry}
+use Rattle.lio_events.specs.ChannelBytes.{channel_bytes}
+use Rattle.lio_policy.specs.Policy.{PolicyParts}
+use Rattle.lio_policy.specs.declared.policy.FileEntry.{FileEntry}
 use Rattle.lio_syntax.specs.Statements.{Procedure}
 use Rattle.lio_calculus.specs.Step.{Configuration}
 use Rattle.lio_calculus.specs.Run as calculus
-use Rattle.lio_calculus.specs.Run.{releases, run}
+use Rattle.lio_calculus.specs.Run.{run, view}
 use Rattle.lio_calculus.specs.Laws.{RunSeenAs}
 use Rattle.lio_calculus.specs.Sound.{IsSound}
 use Rattle.lio_schedule.specs.Rounds.{IsComplete, rounds}
@@ -29,3 +33,8 @@ pub record RunsByRounds (c : Configuration) (ran : calculus.Ran) : Type 0 where
 pub record IsSeen (observer : Label) (c : Configuration) (ran : calculus.Ran) : Type 0 where
   pub run : RunSeenAs observer c ran
   pub rounds : RoundsSeenAs observer c ran
+
+-- An observer sees all that is sent to each channel of the policy whose label flows to the observer's: the bytes that a channel receives by a journal are those that it receives by the view.
+abbrev pub SeesChannels : Label → PolicyParts → List Entry → Type 0
+SeesChannels observer policy journal =
+    (number : ℕ) (channel : FileEntry) → slice_get policy.channels number ≡ Some channel → IsTrue (flows channel.label observer) → channel_bytes (view observer 0 journal) number ≡ channel_bytes journal number

@@ -1,9 +1,13 @@
 //! A run by rounds.
-ghost use Rattle.std.specs.Prelude.{◌≡◌, IfOk, None, length};
+ghost use Rattle.std.specs.Prelude.{◌≡◌, All, IfOk, None, length};
 ghost use Rattle.lio_labels.specs.declared.label.Label.{Label};
+ghost use Rattle.lio_events.specs.Printable.{IsPrintable};
+ghost use Rattle.lio_syntax.specs.Verdict.{IsOver};
 ghost use Rattle.lio_start.specs.Fits.{fits};
 ghost use Rattle.lio_start.specs.Start.{start_of};
-ghost use Rattle.lio_run.specs.Runs.{IsSeen, RunsByRounds, ran_of};
+ghost use Rattle.lio_powers.specs.Given.{powers_of};
+ghost use Rattle.lio_powers.specs.Laws.{ReleasesByPowers};
+ghost use Rattle.lio_run.specs.Runs.{IsSeen, RunsByRounds, SeesChannels, ran_of};
 
 use lio_clauses::NoMemory;
 use lio_events::Journal;
@@ -46,9 +50,15 @@ fn run_to_the_end(
 /// Runs a script by rounds from the first configuration of a policy, over the texts of the inputs, until no task can take a turn.
 pub fn run(alloc: Global, policy: &Policy, script: Script, texts: &[Text]) -> Result<Ran, NoMemory>
     requires fits { fits policy.now.tasks script ≡ None }
+    requires over { IsOver policy.now.names script }
     requires inputs { length texts.now ≡ length policy.now.inputs }
     ensures run { IfOk result (λ ran. RunsByRounds (start_of policy.now script texts.now) (ran_of script ran)) }
     ensures seen { IfOk result (λ ran. (observer : Label) → IsSeen observer (start_of policy.now script texts.now) (ran_of script ran)) }
+    ensures channels { IfOk result (λ ran. (observer : Label) → SeesChannels observer policy.now ran.journal) }
+    ensures powers { IfOk result (λ ran. ReleasesByPowers (powers_of policy.now) (ran_of script ran)) }
+    ensures printable { IfOk result (λ ran. All (IsPrintable policy.now.names) ran.journal) }
 {
+    policy_keeps_rules(policy);
+    let _ = script.lines();
     run_to_the_end(alloc, policy, script, texts)
 }

@@ -1,17 +1,16 @@
-use Rattle.std.proofs.Common.{◌∙◌, ap, subst, sym, refl, List, ℕ, Option, arith, Ok}
+use Rattle.std.proofs.Common.{◌∙◌, ◌≡◌, ap, subst, sym, refl, List, ℕ, Option, Some, arith, Ok, inl, inr}
 use Rattle.lio_outside.specs.FileMap.{FileMap}
-use Rattle.lio_outside.specs.Keep.{told_with, PartlyKept}
 use Rattle.lio_outside.proofs.CountLemmas.{Rose-in_part}
-use Rattle.lio_events.specs.ChannelBytes.{channel_bytes}
-use Rattle.lio_policy.specs.declared.policy.FileEntry.{FileEntry}
-use Rattle.lio_policy.specs.declared.policy.Policy.{Policy}
-use Rattle.lio_host.specs.declared.load.Job.{Job}
-use Rattle.lio_host.specs.declared.status.HostStatus.TheVariants.{BadWords}
+use Rattle.lio_values.specs.declared.entry.Entry.{Entry}
+use Rattle.lio_front.specs.Outputs.{Output, kept, outputs, KeepsFirst, StopsAt}
+use Rattle.lio_front.proofs.LawLemmas.{outputs_hold_each_channel}
+use Rattle.lio_host.specs.declared.job.Job.{Job}
+use Rattle.lio_host.specs.declared.status.HostStatus.TheVariants.{BadWords, NoMemory}
 use Rattle.lio_host.specs.Command.{bytes_of_words}
-use Rattle.lio_host.specs.Headline.{file_of}
-use Rattle.lio_host.specs.Answers.{Call, Ran}
-use Rattle.lio_host.specs.Loading.{named, status_of}
-use Rattle.lio_host.proofs.Says.{says-bad_words, verdict-loaded, says-load, says-same}
+use Rattle.lio_host.specs.Headline.{IsRunOf}
+use Rattle.lio_host.specs.Answers.{Call, RunsJob}
+use Rattle.lio_host.specs.Preparing.{named}
+use Rattle.lio_host.proofs.Says.{run-of, says-bad_words, verdict-prepared, says-prepare, says-same}
 use Rattle.lio_host.proofs.host.answer.Goals as goal
 
 pub returns-in_default : goal.returns-in_default
@@ -30,58 +29,73 @@ returns-in-Err g c =
     let call : Call = record {
       words = bytes_of_words c.args.words.now;
       told_before = g.S.Store.holds c.args.store.now;
-      told_after = g.S.Store.holds c.load.new.store;
+      told_after = g.S.Store.holds c.prepare.new.store;
       faults_before = g.S.Store.faults c.args.store.now;
-      faults_after = g.S.Store.faults c.load.new.store;
+      faults_after = g.S.Store.faults c.prepare.new.store;
       journal = c.refused-in-Err.result.journal;
     } in record {
-      says = says-same call (status_of c.in-Err.fault) c.refused-in-Err.result.status (c.refused-in-Err.ensures.status ∙ c.from.ensures)
-          (says-load call (named c.in-Some.command) c.in-Err.fault c.in-Some.ensures (record { files = c.in-Err.ensures.files; journal = c.refused-in-Err.ensures.journal }) c.in-Err.ensures.err);
+      says = says-same call c.in-Err.status c.refused-in-Err.result.status c.refused-in-Err.ensures.status
+          (says-prepare call (named c.in-Some.command) c.in-Err.status c.in-Some.ensures (record { files = c.in-Err.ensures.files; journal = c.refused-in-Err.ensures.journal }) c.in-Err.ensures.err);
     }
 
 pub returns-in-Ok-write_out : goal.returns-in-Ok-write_out
 returns-in-Ok-write_out g c =
-    let call : Call = record {
-      words = bytes_of_words c.args.words.now;
-      told_before = g.S.Store.holds c.args.store.now;
-      told_after = g.S.Store.holds c.write_out.new.store;
-      faults_before = g.S.Store.faults c.args.store.now;
-      faults_after = g.S.Store.faults c.write_out.new.store;
-      journal = c.in-Ok-run.journal;
-    } in
+    let told = g.S.Store.holds c.args.store.now in
+    let now = g.S.Store.holds c.write_out.new.store in
     let job : Job = c.in-Ok.job in
-    let bytes : List ℕ = channel_bytes c.in-Ok-run.journal 0 in
-    let ran : Ran call job = record { verdict = verdict-loaded call.told_before call.words (named c.in-Some.command) (Ok job) c.in-Some.ensures c.in-Ok.ensures.ok; is_run = c.in-Ok-run.ensures } in
+    let journal : List Entry = c.in-Ok-run.ran.journal in
+    let files : List Output = outputs job.policy journal in
+    let is_run : IsRunOf job journal = run-of job c.as_slice.result.now c.in-Ok-run.ran c.as_slice.ensures c.in-Ok-run.ensures.run c.in-Ok-run.ensures.seen c.in-Ok-run.ensures.channels c.in-Ok-run.ensures.powers in
+    let kept_is : now ≡ kept told files = c.in-Ok-write_out.ensures.ok ∙ ap (λ (t : Option FileMap). kept t files) c.in-Ok.ensures.files in
     record {
       says = record {
         job = job;
-        ran = ran;
-        files = c.in-Ok-write_out.ensures.ok ∙ ap (λ (told : Option FileMap). told_with told (file_of c.as_slice.result.now) bytes) c.in-Ok.ensures.files
-            ∙ ap (λ (channels : List FileEntry). told_with call.told_before (file_of channels) bytes) (c.as_slice.ensures ∙ ap (λ (p : Policy). p.channels) c.policy.view_is);
+        ran = record { verdict = verdict-prepared told (bytes_of_words c.args.words.now) (named c.in-Some.command) (Ok job) c.in-Some.ensures c.in-Ok.ensures.ok; is_run = is_run };
+        files = kept_is;
+        channels = λ before after told_is now_is.
+            outputs_hold_each_channel job.policy journal before after c.policy_keeps_rules.ensures (sym (ap (λ (t : Option FileMap). kept t files) told_is) ∙ sym kept_is ∙ now_is);
       };
     }
 
 pub returns-in-Err-WriteFault : goal.returns-in-Err-WriteFault
 returns-in-Err-WriteFault g c =
-    let call : Call = record {
-      words = bytes_of_words c.args.words.now;
-      told_before = g.S.Store.holds c.args.store.now;
-      told_after = g.S.Store.holds c.write_out.new.store;
-      faults_before = g.S.Store.faults c.args.store.now;
-      faults_after = g.S.Store.faults c.write_out.new.store;
-      journal = c.in-Ok-run.journal;
-    } in
+    let told = g.S.Store.holds c.args.store.now in
+    let now = g.S.Store.holds c.write_out.new.store in
     let job : Job = c.in-Ok.job in
-    let bytes : List ℕ = channel_bytes c.in-Ok-run.journal 0 in
-    let ran : Ran call job = record { verdict = verdict-loaded call.told_before call.words (named c.in-Some.command) (Ok job) c.in-Some.ensures c.in-Ok.ensures.ok; is_run = c.in-Ok-run.ensures } in
+    let journal : List Entry = c.in-Ok-run.ran.journal in
+    let files : List Output = outputs job.policy journal in
+    let is_run : IsRunOf job journal = run-of job c.as_slice.result.now c.in-Ok-run.ran c.as_slice.ensures c.in-Ok-run.ensures.run c.in-Ok-run.ensures.seen c.in-Ok-run.ensures.channels c.in-Ok-run.ensures.powers in
     let says = rw c.in-Err-WriteFault.field-0-is at c.in-Err-WriteFault.ensures.err in
-    let name_is = says.0 ∙ ap file_of (c.as_slice.ensures ∙ ap (λ (p : Policy). p.channels) c.policy.view_is) in
     record {
       says = record {
         job = job;
-        ran = ran;
-        name_is = name_is;
-        files = subst (λ (name : List ℕ). PartlyKept call.told_before call.told_after name bytes) (sym says.0) (subst (λ (told : Option FileMap). PartlyKept told call.told_after (file_of c.as_slice.result.now) bytes) c.in-Ok.ensures.files says.1);
-        rose = Rose-in_part (g.S.Store.faults c.args.store.now) (g.S.Store.faults c.load.new.store) (g.S.Store.faults c.write_out.new.store) (g.S.Store.faults c.write_out.new.store) c.in-Ok.ensures.count c.in-Err-WriteFault.ensures.count (omega arith) says.2;
+        ran = record { verdict = verdict-prepared told (bytes_of_words c.args.words.now) (named c.in-Some.command) (Ok job) c.in-Some.ensures c.in-Ok.ensures.ok; is_run = is_run };
+        stops = subst (λ (t : Option FileMap). StopsAt t now files c.in-Err-WriteFault.name) c.in-Ok.ensures.files says.0;
+        rose = Rose-in_part (g.S.Store.faults c.args.store.now) (g.S.Store.faults c.prepare.new.store) (g.S.Store.faults c.write_out.new.store) (g.S.Store.faults c.write_out.new.store)
+            c.in-Ok.ensures.count c.in-Err-WriteFault.ensures.count (omega arith) says.1;
       };
+    }
+
+pub returns : goal.returns
+returns g c =
+    let told = g.S.Store.holds c.args.store.now in
+    let now = g.S.Store.holds c.write_out.new.store in
+    let call : Call = record {
+      words = bytes_of_words c.args.words.now;
+      told_before = told;
+      told_after = now;
+      faults_before = g.S.Store.faults c.args.store.now;
+      faults_after = g.S.Store.faults c.write_out.new.store;
+      journal = c.refused-in-Err-NoMemory.result.journal;
+    } in
+    let job : Job = c.in-Ok.job in
+    let journal : List Entry = c.in-Ok-run.ran.journal in
+    let files : List Output = outputs job.policy journal in
+    let is_run : IsRunOf job journal = run-of job c.as_slice.result.now c.in-Ok-run.ran c.as_slice.ensures c.in-Ok-run.ensures.run c.in-Ok-run.ensures.seen c.in-Ok-run.ensures.channels c.in-Ok-run.ensures.powers in
+    let keeps = rw c.in-Err-NoMemory.field-0-is at c.in-Err-NoMemory.ensures.err in
+    let first : KeepsFirst told now files = subst (λ (t : Option FileMap). KeepsFirst t now files) c.in-Ok.ensures.files keeps in
+    let ran : RunsJob call job journal = record { verdict = verdict-prepared told (bytes_of_words c.args.words.now) (named c.in-Some.command) (Ok job) c.in-Some.ensures c.in-Ok.ensures.ok; is_run = is_run } in
+    record {
+      says = says-same call NoMemory c.refused-in-Err-NoMemory.result.status c.refused-in-Err-NoMemory.ensures.status
+          (record { command = named c.in-Some.command; words = c.in-Some.ensures; files = inr (record { job = job; journal = journal; ran = ran; files = first }); journal = c.refused-in-Err-NoMemory.ensures.journal });
     }

@@ -1,0 +1,31 @@
+//! The inputs.
+
+ghost use Rattle.std.specs.Prelude.{◌≡◌, ◌≤◌, Ok, IfOk, IfErr, length};
+ghost use Rattle.lio_front.specs.Causes.{AreInputs, InputsSay};
+
+use crate::fault::FrontFault;
+use crate::loading::fetch;
+use lio_outside::Store;
+use lio_policy::Policy;
+use lio_values::{List, Text};
+use std::alloc::Global;
+
+/// Fetches the inputs of a policy in their order, of each at most one byte more than `longest`. The store's files stay.
+pub fn load_inputs<S: Store>(
+    alloc: Global,
+    store: &mut S,
+    policy: &Policy,
+) -> Result<List<Text>, FrontFault>
+    ensures files { S.holds store.new ≡ S.holds store.old }
+    ensures count { S.faults store.old ≤ S.faults store.new }
+    ensures ok { IfOk result (λ texts. AreInputs (S.holds store.old) policy.now.longest policy.now.inputs (Ok texts)) }
+    ensures each { IfOk result (λ texts. length texts ≡ length policy.now.inputs) }
+    ensures err { IfErr result (InputsSay (S.holds store.old) policy.now.longest policy.now.inputs (S.faults store.old) (S.faults store.new)) }
+{
+    let mut texts = List::new(alloc);
+    for input in policy.inputs.as_slice() {
+        let bytes = fetch(alloc, store, input.file.bytes(), policy.longest)?;
+        texts.push(Text::of(alloc, bytes.as_slice())?)?;
+    }
+    Ok(texts)
+}

@@ -1,0 +1,40 @@
+-- The laws of names: where only principals with names are named, turns and runs name no other one, and their entries can be printed.
+use Rattle.std.specs.Prelude.{◌≡◌, ℕ, List, All, Some}
+use Rattle.lio_events.specs.Printable.{IsPrintable}
+use Rattle.lio_syntax.specs.Statements.{Procedure}
+use Rattle.lio_syntax.specs.Verdict.{IsOver}
+use Rattle.lio_calculus.specs.Step.{Configuration, Turn, step}
+use Rattle.lio_calculus.specs.Run.{Ran, run}
+use Rattle.lio_policy.specs.Policy.{PolicyParts, IsPolicy}
+use Rattle.lio_start.specs.Start.{start_of}
+use Rattle.lio_named.specs.Configuration.{NamesOnly}
+
+-- what a turn shows can be printed, and the configuration after it names only principals that have names
+pub record IsTurnNamed (names : List (List ℕ)) (turn : Turn) : Type 0 where
+  pub entry : IsPrintable names turn.entry
+  pub next : NamesOnly names turn.next
+
+-- a turn of a configuration that names only principals that have names, well-formed or not
+abbrev pub TurnNamesOnly : Type 0
+TurnNamesOnly = (names : List (List ℕ)) (ticket : ℕ) (c : Configuration) (k : ℕ) (turn : Turn)
+    → NamesOnly names c → step ticket c k ≡ Some turn → IsTurnNamed names turn
+
+-- each entry of a run can be printed, and its last configuration names only principals that have names
+pub record IsRunNamed (names : List (List ℕ)) (ran : Ran) : Type 0 where
+  pub entries : All (IsPrintable names) ran.entries
+  pub last : NamesOnly names ran.last
+
+-- a run from a configuration that names only principals that have names
+abbrev pub RunNamesOnly : Type 0
+RunNamesOnly = (names : List (List ℕ)) (ticket : ℕ) (c : Configuration) (ks : List ℕ) (ran : Ran)
+    → NamesOnly names c → run ticket c ks ≡ Some ran → IsRunNamed names ran
+
+-- the first configuration of a policy and a script over its principals, over any texts of the inputs
+abbrev pub StartNamesOnly : Type 0
+StartNamesOnly = (policy : PolicyParts) (script : List Procedure) (texts : List (List ℕ))
+    → IsPolicy policy → IsOver policy.names script → NamesOnly policy.names (start_of policy script texts)
+
+-- each entry of a run from there can be printed over the policy's principals
+abbrev pub RunsArePrintable : Type 0
+RunsArePrintable = (policy : PolicyParts) (script : List Procedure) (texts : List (List ℕ)) (ks : List ℕ) (ran : Ran)
+    → IsPolicy policy → IsOver policy.names script → run 0 (start_of policy script texts) ks ≡ Some ran → All (IsPrintable policy.names) ran.entries

@@ -1,0 +1,3 @@
+pub mod FlowLemmas
+pub mod StartLemmas
+pub mod LawLemmas

@@ -1,0 +1,104 @@
+-- The privileges in the first configuration of a policy are those that the policy gives its tasks.
+use Rattle.std.proofs.Common.{◌≡◌, refl, sym, subst, ℕ, zero, suc, Bool, true, false, List, [], ◌∷◌, length, map, All, Some, arith}
+use Rattle.std.specs.Prelude.{nat_le, slice_get, slice_index_or}
+use Rattle.std.specs.List.{Contains, flat_map}
+use Rattle.std.proofs.lemmas.List.Elements.{All-nil, All-head, All-tail, All-cons, Contains-append_left, Contains-append_right}
+use Rattle.lio_labels.specs.declared.label.Label.{Label}
+use Rattle.lio_labels.specs.declared.privilege.Priv.{Priv}
+use Rattle.lio_values.specs.declared.value.Plain.{Plain}
+use Rattle.lio_values.specs.declared.value.Plain.TheVariants.{Unit as unit, Power}
+use Rattle.lio_values.specs.declared.value.Value.{Value}
+use Rattle.lio_values.specs.declared.value.Value.TheVariants.{Bare, Sealed}
+use Rattle.lio_syntax.specs.Statements.{Procedure}
+use Rattle.lio_control.specs.declared.binding.Binding.{Binding}
+use Rattle.lio_calculus.specs.Step.{Cell, cell_at, body_of, parameters_of}
+use Rattle.lio_calculus.specs.Sound.{EachInItem, EachInTask, EachInState}
+use Rattle.lio_calculus.specs.Powers.{PlainIsAmong, ContentIsAmong, ValueIsAmong, PowersAreAmong}
+use Rattle.lio_calculus.proofs.PlanEach.{bind_all-each}
+use Rattle.lio_calculus.proofs.PlacesKept.{enter-all}
+use Rattle.lio_policy.specs.Policy.{PolicyParts}
+use Rattle.lio_policy.specs.declared.policy.FileEntry.{FileEntry}
+use Rattle.lio_policy.specs.declared.policy.TaskEntry.{TaskEntry}
+use Rattle.lio_policy.specs.declared.policy.Arg.{Arg}
+use Rattle.lio_policy.specs.declared.policy.Arg.TheVariants.{Input, Fixed}
+use Rattle.lio_start.specs.Fits.{procedure_of}
+use Rattle.lio_start.specs.Start.{content_by, input_content, sealed_inputs, inputs_of, argument_of, task_of, start_of}
+use Rattle.lio_start.proofs.PlaceLemmas.{Stands, Channel as channel, Task as job, Nothing as nothing, stands, begun}
+use Rattle.lio_powers.specs.Given.{power_in, task_powers, powers_of}
+
+-- what one element of a list gives is among what all of them give
+flat_map-has : {X A : Type 0} (f : X → List A) (xs : List X) (i : ℕ) (x : X) (a : A) → slice_get xs i ≡ Some x → Contains (f x) a → Contains (flat_map f xs) a
+flat_map-has f [] i x a e has = absurd (cc)
+flat_map-has f (y ∷ xs) zero x a e has =
+    let same : x ≡ y = cc in
+    Contains-append_left (f y) (flat_map f xs) a (subst (λ z. Contains (f z) a) same has)
+flat_map-has f (y ∷ xs) (suc i) x a e has = Contains-append_right (f y) (flat_map f xs) a (flat_map-has f xs i x a e has)
+
+-- the texts of inputs are no privileges
+input-among : (powers : List Priv) (longest : ℕ) (label : Label) (text : List ℕ) → ValueIsAmong powers (Sealed label (input_content longest label text))
+input-among powers longest label text = by (nat_le (length text) longest)
+  where
+    by : (b : Bool) → ContentIsAmong powers (content_by b label text)
+    by true = tt
+    by false = tt
+
+inputs-among : (powers : List Priv) (longest : ℕ) (inputs : List FileEntry) (texts : List (List ℕ)) → All (ValueIsAmong powers) (sealed_inputs longest inputs texts)
+inputs-among powers longest [] texts = All-nil (ValueIsAmong powers)
+inputs-among powers longest (input ∷ inputs) [] = All-nil (ValueIsAmong powers)
+inputs-among powers longest (input ∷ inputs) (text ∷ texts) =
+    All-cons (ValueIsAmong powers) (Sealed input.label (input_content longest input.label text)) (sealed_inputs longest inputs texts) (input-among powers longest input.label text) (inputs-among powers longest inputs texts)
+
+placed-among : (powers : List Priv) (inputs : List Value) (place : ℕ) → All (ValueIsAmong powers) inputs → ValueIsAmong powers (slice_index_or inputs place (Bare unit))
+placed-among powers [] place all = tt
+placed-among powers (value ∷ inputs) zero all = All-head (ValueIsAmong powers) value inputs all
+placed-among powers (value ∷ inputs) (suc place) all = placed-among powers inputs place (All-tail (ValueIsAmong powers) value inputs all)
+
+-- a value of the policy, if it is a privilege, is one that the argument is
+plain-among : (powers : List Priv) (plain : Plain) → ((power : Priv) → Contains (power_in (Fixed plain)) power → Contains powers power) → PlainIsAmong powers plain
+plain-among powers (Power power) within = within power (0, omega arith, refl)
+plain-among powers plain within = tt
+
+argument-among : (powers : List Priv) (inputs : List Value) → All (ValueIsAmong powers) inputs → (argument : Arg) → ((power : Priv) → Contains (power_in argument) power → Contains powers power) → ValueIsAmong powers (argument_of inputs argument)
+argument-among powers inputs all (Input place) within = placed-among powers inputs place all
+argument-among powers inputs all (Fixed plain) within = plain-among powers plain within
+
+arguments-among : (powers : List Priv) (inputs : List Value) → All (ValueIsAmong powers) inputs → (arguments : List Arg) → ((power : Priv) → Contains (flat_map power_in arguments) power → Contains powers power)
+    → All (ValueIsAmong powers) (map (argument_of inputs) arguments)
+arguments-among powers inputs all [] within = All-nil (ValueIsAmong powers)
+arguments-among powers inputs all (argument ∷ arguments) within =
+    All-cons (ValueIsAmong powers) (argument_of inputs argument) (map (argument_of inputs) arguments)
+    (argument-among powers inputs all argument (λ power has. within power (Contains-append_left (power_in argument) (flat_map power_in arguments) power has)))
+    (arguments-among powers inputs all arguments (λ power has. within power (Contains-append_right (power_in argument) (flat_map power_in arguments) power has)))
+
+-- a task as it begins
+task-among : (policy : PolicyParts) (script : List Procedure) (texts : List (List ℕ)) (first place : ℕ) (entry : TaskEntry) → slice_get policy.tasks place ≡ Some entry
+    → EachInTask (ValueIsAmong (powers_of policy)) (task_of script (inputs_of policy texts) first entry)
+unfolding task_of
+task-among policy script texts first place entry e =
+    let P : Value → Type 0 = ValueIsAmong (powers_of policy) in
+    let procedure = procedure_of script entry.proc_name in
+    record {
+      environment = bind_all-each P [] (parameters_of procedure) (map (argument_of (inputs_of policy texts)) entry.args) (All-nil (λ (b : Binding). P b.value))
+          (arguments-among (powers_of policy) (inputs_of policy texts) (inputs-among (powers_of policy) policy.longest policy.inputs texts) entry.args
+          (λ power has. flat_map-has task_powers policy.tasks place entry power e has));
+      items = enter-all (EachInItem P) (λ s. tt) (body_of procedure) [] (All-nil (EachInItem P));
+    }
+
+-- no node holds a privilege
+node-among : (powers : List Priv) (policy : PolicyParts) (script : List Procedure) (texts : List (List ℕ)) (n : ℕ) → EachInState (ValueIsAmong powers) (cell_at (start_of policy script texts) n).state
+node-among powers policy script texts n = by (stands policy script texts n)
+  where
+    P : Value → Type 0
+    P = ValueIsAmong powers
+
+    by : Stands policy script texts (start_of policy script texts) n → EachInState P (cell_at (start_of policy script texts) n).state
+    by (channel is) = subst (λ (cell : Cell). EachInState P cell.state) (sym is.cell) tt
+    by (job is) = subst (λ (cell : Cell). EachInState P cell.state) (sym is.cell) tt
+    by (nothing is) = subst (λ (cell : Cell). EachInState P cell.state) (sym is) tt
+
+pub start-among : (policy : PolicyParts) (script : List Procedure) (texts : List (List ℕ)) → PowersAreAmong (powers_of policy) (start_of policy script texts)
+start-among policy script texts = record {
+  tasks = λ k task is. let b = begun policy script texts k task is in
+      subst (EachInTask (ValueIsAmong (powers_of policy))) b.is (task-among policy script texts _ b.job.place b.job.entry b.job.is);
+  nodes = node-among (powers_of policy) policy script texts;
+}

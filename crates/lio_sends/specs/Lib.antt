@@ -1,2 +1,0 @@
-pub mod ScriptText
-pub mod Refusal
