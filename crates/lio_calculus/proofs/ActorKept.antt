@@ -1,5 +1,5 @@
 -- The actor's cell after a turn of a well-formed configuration.
-use Rattle.std.proofs.Common.{◌≡◌, ◌∙◌, refl, sym, ap, subst, ℕ, ◌+◌, ◌-◌, ◌<◌, ◌≤◌, Bool, true, false, IsTrue, List, [], ◌∷◌, length, All, Option, Some, None, is_some, true≢false, arith}
+use Rattle.std.proofs.Common.{◌≡◌, ◌∙◌, refl, sym, ap, subst, ℕ, ◌+◌, ◌-◌, ◌≤◌, true, false, IsTrue, length, Option, is_some, true≢false, arith}
 use Rattle.lio_labels.specs.declared.label.Label.{Label}
 use Rattle.lio_labels.specs.Flow.{flows}
 use Rattle.lio_labels.proofs.FlowLemmas.{flow_is_transitive}
@@ -7,19 +7,18 @@ use Rattle.lio_values.specs.declared.value.Content.{Content}
 use Rattle.lio_values.specs.declared.value.Value.{Value}
 use Rattle.lio_values.specs.declared.act.Act.{Act}
 use Rattle.lio_values.specs.declared.act.Act.TheVariants as act
-use Rattle.lio_values.specs.declared.act.Birth.{Birth}
 use Rattle.lio_values.specs.declared.act.Reply.{Reply}
 use Rattle.lio_values.specs.declared.act.Reply.TheVariants.{Done, Got, Told, Refused}
 use Rattle.lio_cells.specs.declared.state.State.{State}
 use Rattle.lio_cells.specs.declared.state.State.TheVariants.{Absent, Ref, Var, Chan, Job}
 use Rattle.lio_cells.specs.State.{Result, is_job, label_of, result_of, state_after}
-use Rattle.lio_control.specs.Items.{Item, rest_of, open_calls}
+use Rattle.lio_control.specs.Items.{rest_of}
 use Rattle.lio_calculus.specs.Task.{TaskState}
 use Rattle.lio_calculus.specs.Going.{Onward, Advance, Bind, Seal, Enter, Repeat, Try, Call, Return, Leave, Raise, RaiseTo, Unlabel, Lower, Release, HoldReference, HoldVariable, Fork, Spawn, BindReply, Throw, End, gone, gone_on}
 use Rattle.lio_calculus.specs.Guarded.{label_after}
-use Rattle.lio_calculus.specs.Step.{Cell, Configuration, blank, cell_at}
-use Rattle.lio_calculus.specs.Sound.{ValueNames, IsOpen, EachBound, EachInTask, EachInState, EachInItem, ItemSays, IsNoAccess, IsTaskOf, IsInRange, IsSound}
-use Rattle.lio_calculus.proofs.Closed.{IsClosed, names-closed, open-closed}
+use Rattle.lio_calculus.specs.Step.{Configuration, cell_at}
+use Rattle.lio_calculus.specs.Sound.{ValueNames, IsOpen, EachInTask, EachInState, EachInItem, ItemSays, IsTaskOf, IsInRange, IsSound}
+use Rattle.lio_calculus.proofs.Closed.{names-closed, open-closed}
 use Rattle.lio_calculus.proofs.PlanEach.{EachInOnward, EachInAct}
 use Rattle.lio_calculus.proofs.PlanKept.{Suits, Kept, clearance_after, is_ended, is_end, is_silent}
 use Rattle.lio_calculus.proofs.PlacesKept.{rest-all, rest-calls}

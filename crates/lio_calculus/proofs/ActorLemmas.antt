@@ -1,7 +1,7 @@
 -- The actor's cell after a turn, as an observer sees it.
-use Rattle.std.proofs.Common.{◌≡◌, ◌∙◌, refl, sym, ap, subst, ℕ, ◌-◌, Bool, true, false, if◌then◌else◌, List, map, Option, Some, None}
+use Rattle.std.proofs.Common.{◌≡◌, ◌∙◌, refl, sym, ap, ◌-◌, Bool, true, false, List, Option, Some, None}
 use Rattle.std.specs.Prelude.{IsTrue}
-use Rattle.std.specs.Option.{option_map, option_map_or}
+use Rattle.std.specs.Option.{option_map}
 use Rattle.lio_labels.specs.declared.label.Label.{Label}
 use Rattle.lio_labels.specs.declared.privilege.Priv.{Priv}
 use Rattle.lio_labels.specs.Flow.{flows}
@@ -19,9 +19,9 @@ use Rattle.lio_cells.specs.State.{state_after}
 use Rattle.lio_calculus.specs.Task.{TaskState}
 use Rattle.lio_control.specs.Items.{Item, rest_of}
 use Rattle.lio_calculus.specs.Going.{Onward, Advance, Bind, Seal, Enter, Repeat, Try, Call, Return, Leave, Raise, RaiseTo, Unlabel, Lower, Release, HoldReference, HoldVariable, Fork, Spawn, BindReply, Throw, End, released, gone, gone_on}
-use Rattle.lio_calculus.specs.Hiding.{hide_environment, hide_item, hide_task, hide_onward}
-use Rattle.lio_calculus.specs.Step.{Cell, blank, Move, actor_after}
-use Rattle.lio_calculus.specs.Erased.{sees, hide_state, hide_cell, erase_cell}
+use Rattle.lio_calculus.specs.Hiding.{hide_task, hide_onward}
+use Rattle.lio_calculus.specs.Step.{Cell, Move, actor_after}
+use Rattle.lio_calculus.specs.Erased.{hide_state, hide_cell, erase_cell}
 use Rattle.lio_calculus.specs.Guarded.{label_after, IsReleaseOf, IsAllowed}
 use Rattle.lio_calculus.proofs.GoingLemmas.{rest_of-hidden}
 use Rattle.lio_calculus.proofs.TwiceLemmas.{hide_task-twice}

@@ -1,5 +1,5 @@
 -- What a cell that is seen with hidden values becomes.
-use Rattle.std.proofs.Common.{◌≡◌, ◌∙◌, refl, sym, ap, subst, ℕ, Bool, true, false, ◌&&◌, if◌then◌else◌, List, [], ◌++◌, map, Option, Some, None, is_some}
+use Rattle.std.proofs.Common.{◌≡◌, refl, ap, ℕ, false, ◌&&◌, List, [], map, Option, Some, None}
 use Rattle.std.specs.Prelude.{slice_get}
 use Rattle.std.specs.Option.{option_map, option_map_or}
 use Rattle.lio_labels.specs.declared.label.Label.{Label}
@@ -10,21 +10,22 @@ use Rattle.lio_values.specs.declared.value.Value.{Value}
 use Rattle.lio_values.specs.declared.act.Act.{Act}
 use Rattle.lio_values.specs.declared.act.Act.TheVariants as act
 use Rattle.lio_values.specs.declared.act.Birth.{Birth}
-use Rattle.lio_values.specs.Erasure.{erase_content, erase_value, erase_birth, erase_act}
+use Rattle.lio_values.specs.Erasure.{erase_value, erase_birth}
 use Rattle.lio_syntax.specs.Statements.{Procedure}
 use Rattle.lio_cells.specs.declared.state.State.{State}
 use Rattle.lio_cells.specs.declared.state.State.TheVariants.{Absent, Ref, Var, Chan, Job}
 use Rattle.lio_cells.specs.State.{is_of, label_of, written, filled, received, ended, placed, state_after}
-use Rattle.lio_control.specs.Environment.{Environment, bind_all}
+use Rattle.lio_control.specs.Environment.{bind_all}
 use Rattle.lio_calculus.specs.Task.{TaskState}
-use Rattle.lio_control.specs.Items.{Item, enter}
+use Rattle.lio_control.specs.Items.{enter}
 use Rattle.lio_calculus.specs.Plan.{Program, Target, Node, New}
-use Rattle.lio_calculus.specs.Hiding.{hide_environment, hide_item, hide_task, hide_asked}
-use Rattle.lio_calculus.specs.Step.{Cell, blank, has_label, is_named, is_met, met, body_of, parameters_of, child_of, born, task_after, met_after}
-use Rattle.lio_calculus.specs.Erased.{label_of_cell, sees, hide_state, hide_cell, erase_cell}
+use Rattle.lio_control.specs.Hiding.{hide_environment, hide_item}
+use Rattle.lio_control.proofs.HidingLemmas.{enter-hidden}
+use Rattle.lio_calculus.specs.Hiding.{hide_task, hide_asked}
+use Rattle.lio_calculus.specs.Step.{Cell, is_met, body_of, parameters_of, child_of, born, task_after, met_after}
+use Rattle.lio_calculus.specs.Erased.{label_of_cell, sees, hide_state, hide_cell}
 use Rattle.lio_calculus.proofs.HidingLemmas.{bind_all-hidden}
-use Rattle.lio_calculus.proofs.GoingLemmas.{enter-hidden}
-use Rattle.lio_calculus.proofs.StateLemmas.{is_of-hidden, label_of-hidden}
+use Rattle.lio_calculus.proofs.StateLemmas.{is_absent-hidden, is_of-hidden, label_of-hidden}
 
 written-hidden : (observer : Label) (state : State) (value : Value) → written (hide_state observer state) (erase_value observer value) ≡ hide_state observer (written state value)
 written-hidden observer Absent value = refl
@@ -85,7 +86,7 @@ state_after-hidden observer state (act.Release source target power content) = re
 pub is_met-hidden : (observer : Label) (target : Target) (state : State) → is_met target (hide_state observer state) ≡ is_met target state
 is_met-hidden observer (Node kind handle) state =
     rw (is_of-hidden observer kind state) (ap (λ (l : Option Label). is_of kind state && option_map_or (λ k. same_label k handle.label) l false) (label_of-hidden observer state))
-is_met-hidden observer (New number) state = refl
+is_met-hidden observer (New number) state = is_absent-hidden observer state
 
 -- a child that is given hidden arguments
 child_of-hidden : (observer : Label) (program : Program) (label : Label) (birth : Birth) → child_of program label (erase_birth observer birth) ≡ hide_task observer (child_of program label birth)

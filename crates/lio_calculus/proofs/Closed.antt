@@ -1,5 +1,5 @@
 -- Properties of values that a turn keeps: that a handle names a cell, and that a content isn't hidden.
-use Rattle.std.proofs.Common.{◌≡◌, ◌∙◌, refl, sym, ap, subst, ℕ, Bool, true, false, IsTrue, List, [], ◌∷◌, All, Option, Some, None, true≢false}
+use Rattle.std.proofs.Common.{◌≡◌, IsTrue}
 use Rattle.lio_labels.specs.declared.label.Label.{Label}
 use Rattle.lio_values.specs.declared.fault.Fault.{Fault}
 use Rattle.lio_values.specs.declared.fault.FaultKind.{FaultKind}
@@ -14,7 +14,7 @@ use Rattle.lio_lines.specs.Literal.{can_be_said}
 use Rattle.lio_operators.specs.Laws.{IsSimple, IsUnthrown}
 use Rattle.lio_control.specs.Throwing.{payload_of}
 use Rattle.lio_calculus.specs.Step.{Configuration}
-use Rattle.lio_calculus.specs.Sound.{PlainNames, KindNames, ContentNames, ValueNames, IsOpen}
+use Rattle.lio_calculus.specs.Sound.{PlainNames, KindNames, ValueNames, IsOpen}
 use Rattle.lio_calculus.proofs.SoundLemmas.{said-names}
 
 -- the property holds of what turns make of values that have it

@@ -1,11 +1,9 @@
 -- Configurations as an observer sees them.
-use Rattle.std.proofs.Common.{◌≡◌, ◌∙◌, refl, sym, ap, subst, ℕ, Bool, true, false, if◌then◌else◌, List, [], ◌∷◌, map, Option, Some, None}
+use Rattle.std.proofs.Common.{◌≡◌, ◌∙◌, refl, sym, ap, ℕ, Bool, true, false, List, [], ◌∷◌, map}
 use Rattle.std.specs.List.{slice_set, slice_index_or}
 use Rattle.std.proofs.Math.ListN.{get_or-map}
 use Rattle.std.proofs.Math.Seq.{map-set}
 use Rattle.lio_labels.specs.declared.label.Label.{Label}
-use Rattle.lio_labels.specs.Flow.{flows}
-use Rattle.lio_calculus.specs.Task.{TaskState}
 use Rattle.lio_calculus.specs.Step.{Cell, Configuration, blank, cell_at, with_cell}
 use Rattle.lio_calculus.specs.Erased.{sees, hide_cell, erase_cell, erase}
 use Rattle.lio_calculus.proofs.CellLemmas.{sees-hidden}

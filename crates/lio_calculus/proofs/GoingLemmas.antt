@@ -1,39 +1,30 @@
 -- How a task that is seen with hidden values goes on.
-use Rattle.std.proofs.Common.{◌≡◌, ◌∙◌, refl, sym, ap, subst, ℕ, ◌+◌, ◌-◌, Bool, true, false, if◌then◌else◌, List, [], ◌∷◌, map, Option, Some, None}
-use Rattle.std.specs.Prelude.{pos, IsTrue}
+use Rattle.std.proofs.Common.{◌≡◌, refl, ℕ, List, [], ◌∷◌, map}
+use Rattle.std.specs.Prelude.{pos}
 use Rattle.lio_labels.specs.declared.label.Label.{Label}
-use Rattle.lio_labels.specs.Flow.{flows}
 use Rattle.lio_values.specs.declared.fault.Fault.{Fault}
 use Rattle.lio_values.specs.declared.value.Plain.TheVariants.{Unit as unit, Whole}
 use Rattle.lio_values.specs.declared.value.Content.{Content}
 use Rattle.lio_values.specs.declared.value.Content.TheVariants.{Kept, Faulted, Hidden}
 use Rattle.lio_values.specs.declared.value.Value.{Value}
-use Rattle.lio_values.specs.declared.value.Value.TheVariants.{Bare, Sealed}
+use Rattle.lio_values.specs.declared.value.Value.TheVariants.{Bare}
 use Rattle.lio_values.specs.declared.act.Reply.{Reply}
 use Rattle.lio_values.specs.declared.act.Reply.TheVariants.{Done, Got, Told, Refused}
-use Rattle.lio_values.specs.Erasure.{erase_content, erase_value, erase_reply}
-use Rattle.lio_syntax.specs.Statements.{Statement, Statements, Nothing, Then}
+use Rattle.lio_values.specs.Erasure.{erase_value, erase_reply}
+use Rattle.lio_syntax.specs.Statements.{Statements}
 use Rattle.lio_control.specs.Environment.{Environment, bind}
 use Rattle.lio_calculus.specs.Task.{TaskState}
-use Rattle.lio_control.specs.Items.{Item, Do, Access, Mark, Back, Fail, enter, rest_of}
+use Rattle.lio_control.specs.Items.{Item, Do, Access, Mark, Back, Fail, rest_of}
 use Rattle.lio_calculus.specs.Going.{at, binding, throwing, given, replied}
 use Rattle.lio_control.specs.Throwing.{Place, caught, code_of, payload_of, thrown, returned}
-use Rattle.lio_calculus.specs.Hiding.{hide_environment, hide_item, hide_task}
+use Rattle.lio_control.specs.Hiding.{hide_environment, hide_item, hide_place}
+use Rattle.lio_control.proofs.HidingLemmas.{enter-hidden}
+use Rattle.lio_calculus.specs.Hiding.{hide_task}
 use Rattle.lio_calculus.proofs.HidingLemmas.{bind-hidden}
-
--- a block holds no values
-pub enter-hidden : (observer : Label) (block : Statements) (items : List Item) → enter block (map (hide_item observer) items) ≡ map (hide_item observer) (enter block items)
-unfolding enter
-enter-hidden observer Nothing items = refl
-enter-hidden observer (Then statement block) items = ap (λ (rest : List Item). Do statement ∷ rest) (enter-hidden observer block items)
 
 pub rest_of-hidden : (observer : Label) (items : List Item) → rest_of (map (hide_item observer) items) ≡ map (hide_item observer) (rest_of items)
 rest_of-hidden observer [] = refl
 rest_of-hidden observer (item ∷ items) = refl
-
--- a place, with its values hidden
-pub hide_place : Label → Place → Place
-hide_place observer place = record { environment = hide_environment observer place.environment; items = map (hide_item observer) place.items }
 
 caught-hidden : (observer : Label) (fault : Fault) (environment : Environment) (code payload : List ℕ) (handler : Statements) (items : List Item)
     → caught fault (hide_environment observer environment) code payload handler (map (hide_item observer) items) ≡ hide_place observer (caught fault environment code payload handler items)

@@ -1,6 +1,6 @@
 -- What a task keeps as it goes on.
-use Rattle.std.proofs.Common.{◌≡◌, ◌∙◌, refl, sym, ap, subst, ℕ, ◌+◌, ◌-◌, ◌<◌, ◌≤◌, Bool, true, false, ◌&&◌, IsTrue, List, [], ◌∷◌, All, Option, Some, None, arith}
-use Rattle.std.proofs.lemmas.List.Elements.{All-nil, All-head, All-tail, All-cons}
+use Rattle.std.proofs.Common.{◌≡◌, ◌∙◌, refl, subst, ℕ, ◌+◌, ◌-◌, ◌<◌, ◌≤◌, Bool, true, false, ◌&&◌, IsTrue, List, [], ◌∷◌, All, arith}
+use Rattle.std.proofs.lemmas.List.Elements.{All-nil, All-head, All-cons}
 use Rattle.lio_labels.specs.declared.label.Label.{Label}
 use Rattle.lio_values.specs.declared.fault.Fault.{Fault}
 use Rattle.lio_values.specs.declared.value.Plain.TheVariants.{Unit as unit, RefOf, VarOf, ResultOf}
@@ -11,15 +11,14 @@ use Rattle.lio_values.specs.declared.value.Value.TheVariants.{Bare, Sealed}
 use Rattle.lio_values.specs.declared.act.Act.{Act}
 use Rattle.lio_values.specs.declared.act.Reply.{Reply}
 use Rattle.lio_values.specs.declared.act.Reply.TheVariants.{Done, Got, Told, Refused}
-use Rattle.lio_lines.specs.declared.line.Simple.{Simple}
-use Rattle.lio_syntax.specs.Statements.{Statement, Statements, While}
-use Rattle.lio_control.specs.Environment.{Environment, bind}
-use Rattle.lio_control.specs.Items.{Item, Do, Access, Mark, Back, Fail, enter, rest_of, open_calls}
-use Rattle.lio_control.specs.Throwing.{thrown, returned}
+use Rattle.lio_syntax.specs.Statements.{While}
+use Rattle.lio_control.specs.Environment.{Environment}
+use Rattle.lio_control.specs.Items.{Item, Do, Access, Mark, Back, Fail, open_calls}
+use Rattle.lio_control.specs.Throwing.{thrown}
 use Rattle.lio_calculus.specs.Task.{TaskState}
 use Rattle.lio_calculus.specs.Going.{Onward, Advance, Bind, Seal, Enter, Repeat, Try, Call, Return, Leave, Raise, RaiseTo, Unlabel, Lower, Release, HoldReference, HoldVariable, Fork, Spawn, BindReply, Throw, End, released, given, newest, gone}
 use Rattle.lio_calculus.specs.Guarded.{label_after}
-use Rattle.lio_calculus.specs.Sound.{EachBound, EachInItem, EachInTask, ItemSays, IsRaised, IsNoAccess, FrontIsRaised, AccessIsRaised, IsInRange, statement_says, block_says}
+use Rattle.lio_calculus.specs.Sound.{EachBound, EachInItem, EachInTask, ItemSays, IsRaised, IsNoAccess, FrontIsRaised, AccessIsRaised, statement_says}
 use Rattle.lio_calculus.proofs.Closed.{IsClosed}
 use Rattle.lio_calculus.proofs.PlanEach.{EachInOnward, bind-each}
 use Rattle.lio_calculus.proofs.PlanKept.{Suits, clearance_after, is_end}

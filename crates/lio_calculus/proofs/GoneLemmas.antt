@@ -1,5 +1,5 @@
 -- A task that is seen with hidden values goes on as the task does, where it stays visible.
-use Rattle.std.proofs.Common.{◌≡◌, ◌∙◌, refl, sym, ap, subst, ℕ, ◌+◌, ◌-◌, Bool, true, false, if◌then◌else◌, List, [], ◌∷◌, map, Option, Some, None}
+use Rattle.std.proofs.Common.{◌≡◌, ◌∙◌, refl, sym, ap, ℕ, ◌-◌, List, ◌∷◌}
 use Rattle.std.specs.Prelude.{IsTrue}
 use Rattle.lio_labels.specs.declared.label.Label.{Label}
 use Rattle.lio_labels.specs.Flow.{flows}
@@ -8,17 +8,16 @@ use Rattle.lio_values.specs.declared.value.Plain.TheVariants.{RefOf, VarOf, Resu
 use Rattle.lio_values.specs.declared.value.Value.{Value}
 use Rattle.lio_values.specs.declared.value.Value.TheVariants.{Bare, Sealed}
 use Rattle.lio_values.specs.declared.act.Act.{Act}
-use Rattle.lio_values.specs.declared.act.Act.TheVariants as act
 use Rattle.lio_values.specs.declared.act.Reply.{Reply}
 use Rattle.lio_values.specs.Erasure.{erase_content, erase_value, erase_reply}
-use Rattle.lio_syntax.specs.Statements.{Statement, Statements, While}
-use Rattle.lio_control.specs.Environment.{Environment, bind}
+use Rattle.lio_syntax.specs.Statements.{While}
 use Rattle.lio_calculus.specs.Task.{TaskState}
-use Rattle.lio_control.specs.Items.{Item, Do, Access, Mark, Back, Fail, enter, rest_of}
-use Rattle.lio_calculus.specs.Going.{Onward, Advance, Bind, Seal, Enter, Repeat, Try, Call, Return, Leave, Raise, RaiseTo, Unlabel, Lower, Release, HoldReference, HoldVariable, Fork, Spawn, BindReply, Throw, End, binding, throwing, given, replied, released, taking, newest, gone, gone_on}
-use Rattle.lio_calculus.specs.Hiding.{hide_environment, hide_item, hide_task, hide_onward}
-use Rattle.lio_calculus.proofs.HidingLemmas.{bind-hidden}
-use Rattle.lio_calculus.proofs.GoingLemmas.{hide_place, enter-hidden, rest_of-hidden, returned-hidden, at-hidden, binding-hidden, throwing-hidden, given-hidden, replied-hidden}
+use Rattle.lio_control.specs.Items.{Item, Do, Access, Mark, Back, enter}
+use Rattle.lio_calculus.specs.Going.{Onward, Advance, Bind, Seal, Enter, Repeat, Try, Call, Return, Leave, Raise, RaiseTo, Unlabel, Lower, Release, HoldReference, HoldVariable, Fork, Spawn, BindReply, Throw, End, binding, throwing, given, replied, released, taking, newest, gone}
+use Rattle.lio_control.specs.Hiding.{hide_environment}
+use Rattle.lio_control.proofs.HidingLemmas.{enter-hidden}
+use Rattle.lio_calculus.specs.Hiding.{hide_task, hide_onward}
+use Rattle.lio_calculus.proofs.GoingLemmas.{returned-hidden, at-hidden, binding-hidden, throwing-hidden, given-hidden, replied-hidden}
 use Rattle.lio_calculus.proofs.TwiceLemmas.{hide_task-twice}
 
 -- what a way of going on asks of the task's act and of what the observer may learn: an unlabelled content is one that it may learn, since the task is seen at

@@ -1,41 +1,29 @@
 -- A turn of a well-formed configuration is guarded.
-use Rattle.std.proofs.Common.{◌≡◌, ◌∙◌, refl, sym, ap, subst, ℕ, ◌+◌, ◌-◌, ◌<◌, ◌≤◌, Bool, true, false, ◌&&◌, not, if◌then◌else◌, nat_le, IsTrue, List, [], ◌∷◌, Option, Some, None, is_some, true≢false, arith, Result, Ok, Err}
-use Rattle.std.specs.Prelude.{option_and_then, slice_get, ◌==◌}
+use Rattle.std.proofs.Common.{◌≡◌, ◌∙◌, refl, sym, ℕ, ◌-◌, ◌≤◌, Bool, true, false, if◌then◌else◌, nat_le, IsTrue, Option, Some, None, is_some, true≢false, arith}
 use Rattle.std.specs.Option.{option_map_or}
-use Rattle.std.proofs.lemmas.Bool.{and_parts}
 use Rattle.std.proofs.lemmas.Bool.Decides.{nat_tests}
 use Rattle.lio_labels.specs.declared.label.Label.{Label}
-use Rattle.lio_labels.specs.declared.privilege.Priv.{Priv}
 use Rattle.lio_labels.specs.Flow.{flows}
-use Rattle.lio_labels.proofs.FlowLemmas.{flow_is_reflexive, flow_is_transitive}
+use Rattle.lio_labels.proofs.FlowLemmas.{flow_is_reflexive}
 use Rattle.lio_values.specs.declared.fault.Fault.{Fault}
 use Rattle.lio_values.specs.declared.fault.FaultKind.{FaultKind}
-use Rattle.lio_values.specs.declared.value.Handle.{Handle}
-use Rattle.lio_values.specs.declared.value.Plain.{Plain}
-use Rattle.lio_values.specs.declared.value.Content.{Content}
-use Rattle.lio_values.specs.declared.value.Content.TheVariants.{Hidden}
-use Rattle.lio_values.specs.declared.value.Value.{Value}
 use Rattle.lio_values.specs.declared.act.Act.{Act}
 use Rattle.lio_values.specs.declared.act.Act.TheVariants as act
-use Rattle.lio_values.specs.declared.act.Op.{Op}
-use Rattle.lio_values.specs.declared.act.Op.TheVariants as op
-use Rattle.lio_values.specs.declared.act.Birth.{Birth}
 use Rattle.lio_values.specs.declared.act.Reply.{Reply}
-use Rattle.lio_values.specs.declared.act.Reply.TheVariants.{Done, Refused}
+use Rattle.lio_values.specs.declared.act.Reply.TheVariants.{Refused}
 use Rattle.lio_cells.specs.declared.state.State.{State}
 use Rattle.lio_cells.specs.declared.state.State.TheVariants.{Absent, Ref, Var, Chan, Job}
-use Rattle.lio_cells.specs.State.{Kind, Reference, Variable, Channel, Result as result, is_reference, is_variable, is_channel, is_job, is_of, label_of}
+use Rattle.lio_cells.specs.State.{is_reference, is_variable, is_channel, is_job, label_of}
 use Rattle.lio_guards.specs.declared.verdict.Verdict.{Verdict}
 use Rattle.lio_guards.specs.declared.verdict.Verdict.TheVariants.{Go, No}
 use Rattle.lio_guards.specs.Guard.{guarded}
 use Rattle.lio_calculus.specs.Task.{TaskState}
 use Rattle.lio_calculus.specs.Going.{Onward, Throw}
-use Rattle.lio_calculus.specs.Plan.{Program, Plan, Over, Own, Visit, Target, Node, New, stepping, fault_at, refused, bad_type, ending, with_seen, with_verdict, verdict_on, with_cells, with_turns}
-use Rattle.lio_calculus.specs.Step.{Cell, Configuration, blank, cell_at, number_of, Move, move_of, is_met, waits, met_after}
+use Rattle.lio_calculus.specs.Plan.{Plan, Own, Visit, Target, fault_at, refused, bad_type, with_seen, with_verdict, with_cells, with_turns}
+use Rattle.lio_calculus.specs.Step.{Configuration, cell_at, Move, move_of}
 use Rattle.lio_calculus.specs.Erased.{label_of_cell}
-use Rattle.lio_calculus.specs.Guarded.{label_after, IsShown, IsAllowed, IsOwnGuarded, IsVisitGuarded, IsGuarded}
-use Rattle.lio_calculus.specs.Sound.{Names, IsTaskOf, IsInRange, IsSound}
-use Rattle.lio_calculus.proofs.SoundLemmas.{named-label, named-kind, task-job}
+use Rattle.lio_calculus.specs.Guarded.{label_after, IsShown, IsAllowed, IsVisitGuarded, IsGuarded}
+use Rattle.lio_calculus.specs.Sound.{IsSound}
 
 -- a plan is guarded where the task can move by it
 unfoldable pub GuardedBy : Configuration → ℕ → TaskState → Plan → Type 0

@@ -1,8 +1,7 @@
 -- A turn of a task above the observer changes nothing below.
-use Rattle.std.proofs.Common.{◌≡◌, ◌≢◌, ◌∙◌, refl, sym, ap, subst, ℕ, Bool, true, false, ◌&&◌, not, if◌then◌else◌, List, [], map, Option, Some, None, is_some, option_and_then, inl, inr}
-use Rattle.std.specs.Prelude.{IsTrue, ◌⊎◌}
+use Rattle.std.proofs.Common.{◌≡◌, ◌∙◌, refl, sym, ap, subst, ℕ, Bool, true, false, ◌&&◌, not, if◌then◌else◌, List, Option, Some, None, option_and_then}
+use Rattle.std.specs.Prelude.{IsTrue}
 use Rattle.std.specs.Option.{option_map, option_map_or}
-use Rattle.std.specs.List.{slice_set, slice_index_or}
 use Rattle.std.proofs.Common.{get_or-set_other}
 use Rattle.std.proofs.Math.Seq.{map-set_same}
 use Rattle.lio_labels.specs.declared.label.Label.{Label}
@@ -14,14 +13,13 @@ use Rattle.lio_values.specs.declared.act.Act.{Act}
 use Rattle.lio_values.specs.declared.act.Reply.{Reply}
 use Rattle.lio_values.specs.declared.act.Reply.TheVariants.{Done, Got, Told, Refused}
 use Rattle.lio_calculus.specs.Task.{TaskState}
-use Rattle.lio_control.specs.Items.{rest_of}
 use Rattle.lio_calculus.specs.Going.{Onward, Advance, Bind, Seal, Enter, Repeat, Try, Call, Return, Leave, Raise, RaiseTo, Unlabel, Lower, Release, HoldReference, HoldVariable, Fork, Spawn, BindReply, Throw, End, given, replied, gone, gone_on}
 use Rattle.lio_values.specs.declared.act.Act.TheVariants as act
 use Rattle.lio_cells.specs.State.{label_of, ready, answer, state_after}
 use Rattle.lio_calculus.specs.Plan.{Program, Plan, Over, Own, Visit, Target, Node, New, plan}
-use Rattle.lio_calculus.specs.Step.{Cell, Configuration, blank, cell_at, with_cell, number_of, is_met, met, waits, visit, move_of, met_after, task_after, target_after, actor_after, after, Move, Turn, entry_of, turn_of, step}
+use Rattle.lio_calculus.specs.Step.{Cell, Configuration, blank, cell_at, with_cell, number_of, is_met, met, waits, move_of, met_after, task_after, target_after, actor_after, after, Move, Turn, entry_of, turn_of, step}
 use Rattle.lio_calculus.specs.Erased.{label_of_cell, sees, hide_cell, erase_cell, erase}
-use Rattle.lio_calculus.specs.Guarded.{label_after, changes, IsBefore, IsOwnGuarded, IsVisitGuarded, IsGuarded}
+use Rattle.lio_calculus.specs.Guarded.{label_after, changes, IsBefore, IsVisitGuarded, IsGuarded}
 
 given-label : (task : TaskState) (name : List ℕ) (content : Content) → (given task name content).label ≡ task.label
 given-label task name (Kept plain) = refl

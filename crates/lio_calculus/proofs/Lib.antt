@@ -37,3 +37,4 @@ pub mod TurnParts
 pub mod LocalityLemmas
 pub mod WaitingLemmas
 pub mod PowerLemmas
+pub mod HandleLemmas

@@ -20,7 +20,7 @@ use Rattle.lio_syntax.specs.Statements.{Statement, Statements}
 use Rattle.lio_syntax.specs.Statements as statement
 use Rattle.lio_cells.specs.declared.state.State.{State}
 use Rattle.lio_cells.specs.declared.state.State.TheVariants.{Absent, Job}
-use Rattle.lio_cells.specs.State.{Kind, Reference, Variable, Channel, Result as result, is_of, result_of, ready as is_ready, state_after}
+use Rattle.lio_cells.specs.State.{is_absent, Kind, Reference, Variable, Channel, Result as result, is_of, result_of, ready as is_ready, state_after}
 use Rattle.lio_control.specs.Items.{Item, Do, Access, Mark, Back, Fail}
 use Rattle.lio_calculus.specs.Operands.{bound, seen_as, flag_of, reference_of, variable_of, result_of as result_handle}
 use Rattle.lio_calculus.specs.Task.{TaskState}
@@ -205,7 +205,7 @@ visit_meets_node c k task asked target onward sound is visits =
     }
     by (New number) meets range = record {
       within = omega (arith, range.below, sound.ranges k task is);
-      met = refl;
+      met = ap (λ (cell : Cell). is_absent cell.state) (sound.free k number task is range);
       ready = λ w. ap (λ (cell : Cell). is_ready cell.state asked) (sound.free k number task is range) ∙ new-ready asked meets.1;
       other = other number;
       own = actor-unchanged c k task asked sound is (meets-unended task asked (New number) meets);

@@ -1,24 +1,21 @@
 -- What a node keeps as acts meet it.
-use Rattle.std.proofs.Common.{◌≡◌, ◌∙◌, refl, sym, ap, subst, ℕ, Bool, true, false, ◌&&◌, IsTrue, List, All, Option, Some, None, is_some, true≢false}
+use Rattle.std.proofs.Common.{◌≡◌, ◌∙◌, refl, sym, ap, ℕ, Bool, true, false, ◌&&◌, IsTrue, List, Option, Some, None, true≢false}
 use Rattle.std.specs.Option.{option_map_or}
-use Rattle.std.proofs.lemmas.Bool.{and_parts}
 use Rattle.lio_labels.specs.declared.label.Label.{Label}
 use Rattle.lio_labels.specs.Equality.{same_label}
 use Rattle.lio_values.specs.declared.value.Handle.{Handle}
 use Rattle.lio_values.specs.declared.value.Content.{Content}
 use Rattle.lio_values.specs.declared.value.Value.{Value}
-use Rattle.lio_values.specs.declared.value.Value.TheVariants.{Sealed}
 use Rattle.lio_values.specs.declared.act.Act.{Act}
 use Rattle.lio_values.specs.declared.act.Act.TheVariants as act
-use Rattle.lio_values.specs.declared.act.Reply.TheVariants.{Done, Got, Told}
 use Rattle.lio_cells.specs.declared.state.State.{State}
 use Rattle.lio_cells.specs.declared.state.State.TheVariants.{Absent, Ref, Var, Chan, Job}
-use Rattle.lio_cells.specs.State.{Kind, Reference, Variable, Channel, Result, is_of, is_job, label_of, result_of, answer, state_after}
+use Rattle.lio_cells.specs.State.{Kind, Reference, Variable, Channel, Result, is_of, label_of, answer, state_after}
 use Rattle.lio_calculus.specs.Step.{is_named, has_label}
 use Rattle.lio_calculus.specs.Sound.{EachInState}
 use Rattle.lio_calculus.proofs.Closed.{IsClosed}
 use Rattle.lio_calculus.proofs.PlanEach.{EachInAct}
-use Rattle.lio_calculus.proofs.PlanKept.{is_ended, is_visit}
+use Rattle.lio_calculus.proofs.PlanKept.{is_visit}
 use Rattle.lio_calculus.proofs.GoneKept.{EachInReply}
 
 -- nodes of one kind with one label

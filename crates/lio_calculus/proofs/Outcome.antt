@@ -1,5 +1,5 @@
 -- What the plan of a statement can be, case by case: the statement with what it looked up, and the plan.
-use Rattle.std.specs.Prelude.{◌≡◌, ℕ, ◌+◌, ◌-◌, ◌==◌, Bool, true, false, nat_le, List, [], Option, Some, None, option_and_then, slice_get, Result, Ok, Err}
+use Rattle.std.specs.Prelude.{◌≡◌, ℕ, ◌+◌, ◌-◌, true, false, nat_le, List, [], Option, Some, None, option_and_then, slice_get, Ok, Err}
 use Rattle.lio_labels.specs.declared.label.Label.{Label}
 use Rattle.lio_labels.specs.declared.privilege.Priv.{Priv}
 use Rattle.lio_values.specs.declared.fault.FaultKind.{FaultKind}
@@ -7,7 +7,6 @@ use Rattle.lio_values.specs.declared.fault.FaultKind.TheVariants.{NoCells, Child
 use Rattle.lio_values.specs.declared.value.Handle.{Handle}
 use Rattle.lio_values.specs.declared.value.Plain.{Plain}
 use Rattle.lio_values.specs.declared.value.Plain.TheVariants.{Unit as unit}
-use Rattle.lio_values.specs.declared.value.Content.{Content}
 use Rattle.lio_values.specs.declared.value.Content.TheVariants.{Kept, Hidden}
 use Rattle.lio_values.specs.declared.value.Value.{Value}
 use Rattle.lio_values.specs.declared.value.Value.TheVariants.{Bare}
@@ -29,7 +28,7 @@ use Rattle.lio_operators.specs.Operators.{operate1, operate2}
 use Rattle.lio_cells.specs.State.{Reference, Channel}
 use Rattle.lio_control.specs.Environment.{bind_all}
 use Rattle.lio_control.specs.Items.{open_calls}
-use Rattle.lio_calculus.specs.Operands.{bound, all_bound, Labelled, sealed_of, seen_as, label_of, power_of, text_of, count_of, reference_of, variable_of, result_of, channel_of}
+use Rattle.lio_calculus.specs.Operands.{bound, all_bound, Labelled, sealed_of, seen_as, label_of, reference_of, variable_of, result_of, channel_of}
 use Rattle.lio_calculus.specs.Task.{TaskState}
 use Rattle.lio_calculus.specs.Going.{Bind, Seal, Call, Return, Raise, RaiseTo, Unlabel, Lower, Release, HoldReference, HoldVariable, Fork, Spawn, Advance}
 use Rattle.lio_calculus.specs.Plan.{Program, Plan, Own, Visit, Node, New, stepping, refused, bad_type, ending, verdict_on, procedure_at, birth_of}

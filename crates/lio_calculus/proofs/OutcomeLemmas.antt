@@ -1,13 +1,11 @@
 -- The plan of a statement is one of its outcomes.
-use Rattle.std.proofs.Common.{◌≡◌, ◌∙◌, refl, sym, ap, subst, ℕ, ◌+◌, ◌-◌, Bool, true, false, if◌then◌else◌, nat_le, List, [], ◌∷◌, Option, Some, None, Result, Ok, Err}
+use Rattle.std.proofs.Common.{◌≡◌, ◌∙◌, refl, ap, ℕ, ◌+◌, ◌-◌, Bool, true, false, if◌then◌else◌, nat_le, List, [], Option, Some, None, Result, Ok, Err}
 use Rattle.std.specs.Prelude.{option_and_then, slice_get, ◌==◌}
 use Rattle.lio_labels.specs.declared.label.Label.{Label}
-use Rattle.lio_labels.specs.declared.privilege.Priv.{Priv}
 use Rattle.lio_values.specs.declared.fault.FaultKind.{FaultKind}
 use Rattle.lio_values.specs.declared.fault.FaultKind.TheVariants.{User}
 use Rattle.lio_values.specs.declared.value.Handle.{Handle}
 use Rattle.lio_values.specs.declared.value.Plain.{Plain}
-use Rattle.lio_values.specs.declared.value.Plain.TheVariants.{Unit as unit}
 use Rattle.lio_values.specs.declared.value.Content.TheVariants.{Kept, Hidden}
 use Rattle.lio_values.specs.declared.value.Value.{Value}
 use Rattle.lio_values.specs.declared.value.Value.TheVariants.{Bare, Sealed}
@@ -31,7 +29,7 @@ use Rattle.lio_control.specs.Items.{open_calls}
 use Rattle.lio_calculus.specs.Operands.{bound, all_bound, Labelled, sealed_of, seen_as, label_of, power_of, text_of, count_of, reference_of, variable_of, result_of, channel_of}
 use Rattle.lio_calculus.specs.Task.{TaskState}
 use Rattle.lio_calculus.specs.Going.{Bind, Seal, Call, Return, Raise, RaiseTo, Unlabel, Lower, Release, HoldReference, HoldVariable, Fork, Spawn, Advance}
-use Rattle.lio_calculus.specs.Plan.{Program, Plan, Own, Visit, Node, New, stepping, refused, bad_type, ending, with_seen, with_verdict, verdict_on, with_cells, with_turns, with_room, computed, calling, returning, ending_with, raising, releasing, new_reference, new_variable, forking, spawning, procedure_at, birth_of, plan_simple}
+use Rattle.lio_calculus.specs.Plan.{Program, Plan, Own, Visit, Node, New, stepping, refused, bad_type, ending, with_seen, with_verdict, verdict_on, with_cells, with_turns, with_room, computed, calling, returning, raising, releasing, new_reference, new_variable, forking, spawning, procedure_at, birth_of, plan_simple}
 use Rattle.lio_calculus.proofs.SoundLemmas.{seen-plain}
 use Rattle.lio_calculus.proofs.Outcome.{Raises, Reads, Takes, Puts, Waits, Fills, Empty, Full, Forks, Forked, Spawns, Spawned, Tests, OfSeal, OfRaise, OfLower, OfSend, Outcome}
 use Rattle.lio_calculus.proofs.Outcome as out

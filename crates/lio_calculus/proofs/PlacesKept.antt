@@ -1,17 +1,17 @@
 -- What throwing, returning and entering keep.
-use Rattle.std.proofs.Common.{◌≡◌, ◌∙◌, refl, sym, ap, subst, ℕ, ◌+◌, ◌≤◌, pos, Bool, true, false, ◌&&◌, IsTrue, List, [], ◌∷◌, All, Option, Some, None, arith}
+use Rattle.std.proofs.Common.{◌≡◌, refl, ℕ, ◌≤◌, pos, IsTrue, List, [], ◌∷◌, All, arith}
 use Rattle.std.proofs.lemmas.Bool.{and_parts}
 use Rattle.std.proofs.lemmas.List.Elements.{All-nil, All-head, All-tail, All-cons}
 use Rattle.lio_values.specs.declared.fault.Fault.{Fault}
 use Rattle.lio_values.specs.declared.value.Plain.TheVariants.{Whole}
 use Rattle.lio_values.specs.declared.value.Content.TheVariants.{Faulted}
 use Rattle.lio_values.specs.declared.value.Value.{Value}
-use Rattle.lio_values.specs.declared.value.Value.TheVariants.{Bare, Sealed}
+use Rattle.lio_values.specs.declared.value.Value.TheVariants.{Sealed}
 use Rattle.lio_syntax.specs.Statements.{Statement, Statements, Nothing, Then}
-use Rattle.lio_control.specs.Environment.{Environment, bind}
+use Rattle.lio_control.specs.Environment.{Environment}
 use Rattle.lio_control.specs.Items.{Item, Do, Access, Mark, Back, Fail, enter, rest_of, open_calls}
-use Rattle.lio_control.specs.Throwing.{code_of, payload_of, Place, thrown, returned}
-use Rattle.lio_calculus.specs.Sound.{EachBound, EachInItem, ItemSays, IsNoAccess, statement_says, block_says}
+use Rattle.lio_control.specs.Throwing.{code_of, thrown, returned}
+use Rattle.lio_calculus.specs.Sound.{EachBound, EachInItem, ItemSays, statement_says, block_says}
 use Rattle.lio_calculus.proofs.Closed.{IsClosed}
 use Rattle.lio_calculus.proofs.PlanEach.{bind-each}
 

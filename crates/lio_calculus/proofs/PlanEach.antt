@@ -1,20 +1,16 @@
 -- The values in a plan have what the values of the task have.
-use Rattle.std.proofs.Common.{◌≡◌, ◌∙◌, refl, sym, ap, subst, ℕ, ◌+◌, ◌==◌, Bool, true, false, ◌&&◌, if◌then◌else◌, IsTrue, List, [], ◌∷◌, All, Option, Some, None, true≢false, Result, Ok, Err, pos}
+use Rattle.std.proofs.Common.{◌≡◌, refl, subst, ℕ, ◌==◌, Bool, true, false, if◌then◌else◌, IsTrue, List, [], ◌∷◌, All, Option, Some, None, Result, Ok, Err}
 use Rattle.std.specs.Prelude.{option_and_then}
 use Rattle.std.specs.Option.{option_map}
 use Rattle.std.specs.List.{list_all}
 use Rattle.std.proofs.lemmas.Bool.{and_parts}
 use Rattle.std.proofs.lemmas.List.Elements.{All-nil, All-head, All-tail, All-cons}
 use Rattle.lio_labels.specs.declared.label.Label.{Label}
-use Rattle.lio_labels.specs.declared.privilege.Priv.{Priv}
-use Rattle.lio_values.specs.declared.fault.Fault.{Fault}
 use Rattle.lio_values.specs.declared.fault.FaultKind.{FaultKind}
 use Rattle.lio_values.specs.declared.fault.FaultKind.TheVariants.{FlowCurrent, FlowClearance, FlowRaise, FlowPrivilege, BadType, Overflow, DivZero, TooLong, NoTurns, NoCells, ChildTurns, Depth, LabelWide, User}
 use Rattle.lio_values.specs.declared.value.Handle.{Handle}
-use Rattle.lio_values.specs.declared.value.Plain.{Plain}
 use Rattle.lio_values.specs.declared.value.Plain.TheVariants.{Unit as unit}
-use Rattle.lio_values.specs.declared.value.Content.{Content}
-use Rattle.lio_values.specs.declared.value.Content.TheVariants.{Kept, Faulted, Hidden}
+use Rattle.lio_values.specs.declared.value.Content.TheVariants.{Faulted}
 use Rattle.lio_values.specs.declared.value.Value.{Value}
 use Rattle.lio_values.specs.declared.value.Value.TheVariants.{Bare, Sealed}
 use Rattle.lio_values.specs.declared.act.Act.{Act}
@@ -25,15 +21,15 @@ use Rattle.lio_values.specs.declared.act.Op.TheVariants as op
 use Rattle.lio_lines.specs.declared.line.Operand.{Operand}
 use Rattle.lio_lines.specs.declared.line.Simple.{Simple}
 use Rattle.lio_lines.specs.declared.line.Simple.TheVariants as line
-use Rattle.lio_lines.specs.Literal.{is_said, simple_operands}
+use Rattle.lio_lines.specs.Literal.{is_said}
 use Rattle.lio_syntax.specs.Statements.{Statement, Statements}
 use Rattle.lio_syntax.specs.Statements as statement
-use Rattle.lio_guards.specs.declared.verdict.Verdict.TheVariants.{Go, No}
-use Rattle.lio_guards.specs.Guard.{guarded, guarded_relabel}
+use Rattle.lio_guards.specs.declared.verdict.Verdict.TheVariants.{No}
+use Rattle.lio_guards.specs.Guard.{guarded}
 use Rattle.lio_guards.specs.Laws.{Fails}
 use Rattle.lio_guards.proofs.GuardLemmas.{refused_where_test_fails, release_refused_where_test_fails}
 use Rattle.lio_operators.specs.Operators.{operate1, operate2}
-use Rattle.lio_operators.specs.Laws.{IsSimple, IsUnthrown, IsPublic}
+use Rattle.lio_operators.specs.Laws.{IsUnthrown, IsPublic}
 use Rattle.lio_operators.proofs.OperatorLemmas.{one_gives_simple, two_give_simple}
 use Rattle.lio_control.specs.declared.binding.Binding.{Binding}
 use Rattle.std.specs.declared.cmp.Ordering.{Ordering}
@@ -42,9 +38,9 @@ use Rattle.lio_control.specs.Environment.{Environment, bind_before, bind, bind_a
 use Rattle.lio_control.specs.Items.{Item, Do, Access, Mark, Back, Fail}
 use Rattle.lio_calculus.specs.Operands.{bound, all_bound, Labelled, sealed_of, seen_as, flag_of, reference_of, variable_of, result_of}
 use Rattle.lio_calculus.specs.Task.{TaskState}
-use Rattle.lio_calculus.specs.Going.{Onward, Advance, Bind, Seal, Enter, Repeat, Try, Call, Return, Leave, Raise, RaiseTo, Unlabel, Lower, Release, HoldReference, HoldVariable, Fork, Spawn, BindReply, Throw, End, released}
+use Rattle.lio_calculus.specs.Going.{Onward, Advance, Bind, Seal, Call, Return, Leave, Unlabel, Release, BindReply, Throw, released}
 use Rattle.lio_cells.specs.State.{Reference, Variable, Result as result}
-use Rattle.lio_calculus.specs.Plan.{Program, Plan, Over, Own, Visit, Node, stepping, fault_at, refused, bad_type, ending, with_seen, choosing, looping, plan_statement, plan_access, plan_items, plan}
+use Rattle.lio_calculus.specs.Plan.{Program, Plan, Over, Own, Visit, Node, fault_at, ending, with_seen, choosing, looping, plan_statement, plan_access, plan_items, plan}
 use Rattle.lio_calculus.specs.Sound.{EachBound, EachInItem, EachInTask, says, statement_says, ItemSays}
 use Rattle.lio_calculus.proofs.SoundLemmas.{bound-each}
 use Rattle.lio_calculus.proofs.Outcome.{Raises, Fills, Empty, Full, Forks, Forked, Spawns, Spawned, Tests, OfSeal, OfRaise, OfLower, OfSend, Outcome}

@@ -1,25 +1,18 @@
 -- The plan of a task that is seen with hidden values is its plan with hidden values: statement by statement.
-use Rattle.std.proofs.Common.{◌≡◌, ◌∙◌, refl, sym, ap, subst, ℕ, ◌+◌, ◌-◌, Bool, true, false, if◌then◌else◌, nat_le, nat_eq, ◌==◌, List, [], ◌∷◌, map, Option, Some, None, Result, Ok, Err, option_and_then}
-use Rattle.std.specs.Prelude.{bytes_eq, option_map, slice_get}
+use Rattle.std.proofs.Common.{◌≡◌, refl, ℕ, ◌+◌, Bool, true, false, if◌then◌else◌, nat_le, ◌==◌, List, [], ◌∷◌, map, Option, Some, None, Result, Ok, Err, option_and_then}
+use Rattle.std.specs.Prelude.{option_map, slice_get}
 use Rattle.lio_labels.specs.declared.label.Label.{Label}
-use Rattle.lio_labels.specs.declared.privilege.Priv.{Priv}
-use Rattle.lio_values.specs.declared.fault.Fault.{Fault}
 use Rattle.lio_values.specs.declared.fault.FaultKind.{FaultKind}
 use Rattle.lio_values.specs.declared.fault.FaultKind.TheVariants.{Depth, User, NoTurns}
 use Rattle.lio_values.specs.declared.value.Handle.{Handle}
-use Rattle.lio_values.specs.declared.value.Content.{Content}
 use Rattle.lio_values.specs.declared.value.Content.TheVariants.{Kept, Faulted}
 use Rattle.lio_values.specs.declared.value.Value.{Value}
 use Rattle.lio_values.specs.declared.value.Value.TheVariants.{Bare, Sealed}
 use Rattle.lio_values.specs.declared.value.Plain.{Plain}
-use Rattle.lio_values.specs.declared.value.Plain.TheVariants.{Unit as unit}
 use Rattle.lio_values.specs.declared.act.Act.TheVariants as act
 use Rattle.lio_values.specs.declared.act.Reply.TheVariants.{Done}
-use Rattle.lio_values.specs.declared.act.Op.{Op}
 use Rattle.lio_values.specs.declared.act.Op.TheVariants as op
 use Rattle.lio_values.specs.Erasure.{erase_content, erase_value}
-use Rattle.lio_words.specs.declared.operators.One.{One}
-use Rattle.lio_words.specs.declared.operators.Two.{Two}
 use Rattle.lio_lines.specs.declared.line.Operand.{Operand}
 use Rattle.lio_lines.specs.declared.line.Simple.{Simple}
 use Rattle.lio_lines.specs.declared.line.Simple.TheVariants as line
@@ -29,15 +22,16 @@ use Rattle.lio_operators.specs.Operators.{operate1, operate2}
 use Rattle.lio_operators.specs.Laws.{hide_result}
 use Rattle.lio_operators.proofs.OperatorLemmas.{hidden_from_one, hidden_from_two}
 use Rattle.lio_cells.specs.State.{Reference, Variable, Channel, Result as result}
-use Rattle.lio_control.specs.Environment.{Environment, bind_all}
-use Rattle.lio_calculus.specs.Operands.{bound, all_bound, bare_of, Labelled, sealed_of, flag_of, label_of, power_of, text_of, count_of, reference_of, variable_of, result_of, channel_of, seen_as}
+use Rattle.lio_control.specs.Environment.{bind_all}
+use Rattle.lio_calculus.specs.Operands.{bound, all_bound, Labelled, sealed_of, flag_of, label_of, power_of, text_of, count_of, reference_of, variable_of, result_of, channel_of, seen_as}
 use Rattle.lio_calculus.specs.Task.{TaskState}
 use Rattle.lio_control.specs.Items.{Item, Do, Access, Mark, Back, Fail, open_calls}
-use Rattle.lio_calculus.specs.Going.{Onward, Advance, Bind, Seal, Unlabel, Raise, Lower, Call, Return, BindReply}
-use Rattle.lio_calculus.specs.Plan.{Program, Plan, Over, Own, Visit, Node, fault_at, bad_type, refused, stepping, ending, ending_with, computed, calling, returning, choosing, looping, with_seen, with_verdict, verdict_on, raising, releasing, new_reference, new_variable, birth_of, forking, spawning, procedure_at, plan_simple, plan_statement, plan_access, plan_items, plan}
-use Rattle.lio_calculus.specs.Hiding.{hide_environment, hide_item, hide_task, hide_asked, hide_onward, hide_plan}
+use Rattle.lio_calculus.specs.Going.{Advance, Bind, Seal, Unlabel, Raise, Lower, Call, Return, BindReply}
+use Rattle.lio_calculus.specs.Plan.{Program, Plan, Over, Own, Visit, Node, fault_at, bad_type, refused, stepping, ending, computed, calling, returning, choosing, looping, with_seen, with_verdict, verdict_on, raising, releasing, new_reference, new_variable, birth_of, forking, spawning, procedure_at, plan_simple, plan_statement, plan_access, plan_items, plan}
+use Rattle.lio_control.specs.Hiding.{hide_environment, hide_item}
+use Rattle.lio_calculus.specs.Hiding.{hide_task, hide_asked, hide_onward, hide_plan}
 use Rattle.lio_calculus.proofs.HidingLemmas.{bound-hidden, seen_as-hidden, open_calls-hidden, all_bound-hidden, bind_all-hidden}
-use Rattle.lio_calculus.proofs.PlanLemmas.{refused-hidden, bad_type-hidden, with_seen-same, with_seen-mapped, with_verdict-hidden, raising-hidden, sealing-hidden, releasing-hidden, new_reference-hidden, new_variable-hidden, writing-hidden, sending-hidden, forking-hidden, spawning-hidden, unlabelling-hidden}
+use Rattle.lio_calculus.proofs.PlanLemmas.{bad_type-hidden, with_seen-same, with_seen-mapped, with_verdict-hidden, raising-hidden, sealing-hidden, releasing-hidden, new_reference-hidden, new_variable-hidden, writing-hidden, sending-hidden, forking-hidden, spawning-hidden, unlabelling-hidden}
 
 -- a view of an operand
 seen : {X : Type 0} (view : Plain → Option X) (observer : Label) (task : TaskState) (operand : Operand) (next hidden : X → Plan) → ((x : X) → hidden x ≡ hide_plan observer (next x))

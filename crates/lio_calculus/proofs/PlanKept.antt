@@ -1,5 +1,5 @@
 -- What a plan does to a task's labels, numbers, blocks and calls.
-use Rattle.std.proofs.Common.{◌≡◌, ◌∙◌, refl, sym, ap, subst, ℕ, ◌+◌, ◌-◌, ◌<◌, ◌≤◌, ◌==◌, Bool, true, false, ◌&&◌, if◌then◌else◌, nat_le, IsTrue, List, [], ◌∷◌, All, Option, Some, None, is_some, true≢false, arith}
+use Rattle.std.proofs.Common.{◌≡◌, refl, sym, ap, ℕ, ◌+◌, ◌<◌, ◌≤◌, ◌==◌, Bool, true, false, ◌&&◌, if◌then◌else◌, nat_le, IsTrue, List, [], ◌∷◌, All, Option, Some, None, is_some, arith}
 use Rattle.std.specs.Prelude.{option_and_then, slice_get}
 use Rattle.std.proofs.lemmas.Bool.{and_parts}
 use Rattle.std.proofs.lemmas.Bool.Decides.{nat_tests}
@@ -30,7 +30,7 @@ use Rattle.lio_control.specs.Items.{Item, Do, Access, Mark, Back, Fail, open_cal
 use Rattle.lio_calculus.specs.Operands.{bound, seen_as, flag_of, reference_of, variable_of, result_of}
 use Rattle.lio_calculus.specs.Task.{TaskState}
 use Rattle.lio_calculus.specs.Going.{Onward, Advance, Bind, Seal, Enter, Repeat, Try, Call, Return, Leave, Raise, RaiseTo, Unlabel, Lower, Release, HoldReference, HoldVariable, Fork, Spawn, BindReply, Throw, End}
-use Rattle.lio_calculus.specs.Plan.{Program, Plan, Over, Own, Visit, Target, Node, New, stepping, fault_at, refused, bad_type, ending, with_seen, choosing, looping, plan_statement, plan_access, plan_items, plan, procedure_at, birth_of}
+use Rattle.lio_calculus.specs.Plan.{Program, Plan, Over, Own, Visit, Target, Node, New, fault_at, ending, with_seen, choosing, looping, plan_statement, plan_access, plan_items, plan, procedure_at}
 use Rattle.lio_calculus.specs.Guarded.{label_after}
 use Rattle.lio_calculus.specs.Sound.{IsRaised, ItemSays, says, statement_says, block_says}
 use Rattle.lio_calculus.proofs.Outcome.{Raises, Reads, Takes, Puts, Waits, Fills, Forks, Forked, Spawns, Spawned, Tests, OfSeal, OfRaise, OfLower, OfSend, Outcome}

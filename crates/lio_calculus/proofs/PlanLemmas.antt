@@ -1,36 +1,31 @@
 -- The plan of a task that is seen with hidden values: what each part of a plan is then.
-use Rattle.std.proofs.Common.{◌≡◌, ◌∙◌, refl, sym, ap, subst, ℕ, ◌+◌, ◌-◌, Bool, true, false, if◌then◌else◌, nat_le, ◌==◌, List, [], ◌∷◌, map, Option, Some, None, Result, Ok, Err, option_and_then}
-use Rattle.std.specs.Prelude.{bytes_eq, option_map, slice_get}
+use Rattle.std.proofs.Common.{◌≡◌, refl, ap, subst, ℕ, ◌+◌, ◌-◌, Bool, true, false, if◌then◌else◌, nat_le, List, map, Option, Some, None}
+use Rattle.std.specs.Prelude.{option_map}
 use Rattle.lio_labels.specs.declared.label.Label.{Label}
 use Rattle.lio_labels.specs.declared.privilege.Priv.{Priv}
 use Rattle.lio_values.specs.declared.fault.FaultKind.{FaultKind}
-use Rattle.lio_values.specs.declared.fault.FaultKind.TheVariants.{User}
 use Rattle.lio_values.specs.declared.value.Handle.{Handle}
 use Rattle.lio_values.specs.declared.value.Content.{Content}
 use Rattle.lio_values.specs.declared.value.Content.TheVariants.{Hidden}
 use Rattle.lio_labels.specs.Flow.{flows}
 use Rattle.lio_values.specs.declared.value.Value.{Value}
-use Rattle.lio_values.specs.declared.value.Value.TheVariants.{Bare, Sealed}
 use Rattle.lio_values.specs.declared.value.Plain.{Plain}
 use Rattle.lio_values.specs.declared.act.Act.{Act}
 use Rattle.lio_values.specs.declared.act.Act.TheVariants as act
 use Rattle.lio_values.specs.declared.act.Op.{Op}
 use Rattle.lio_values.specs.declared.act.Op.TheVariants as op
 use Rattle.lio_values.specs.declared.act.Birth.{Birth}
-use Rattle.lio_values.specs.Erasure.{erase_content, erase_value, erase_birth, erase_act}
-use Rattle.lio_lines.specs.declared.line.Operand.{Operand}
+use Rattle.lio_values.specs.Erasure.{erase_content, erase_value, erase_birth}
 use Rattle.lio_lines.specs.declared.line.Simple.{Simple}
-use Rattle.lio_lines.specs.declared.line.Simple.TheVariants as line
 use Rattle.lio_guards.specs.declared.verdict.Verdict.{Verdict}
 use Rattle.lio_guards.specs.declared.verdict.Verdict.TheVariants.{Go, No}
-use Rattle.lio_calculus.specs.Operands.{bound, all_bound, bare_of, Labelled, sealed_of, seen_as}
+use Rattle.lio_calculus.specs.Operands.{Labelled}
 use Rattle.lio_calculus.specs.Task.{TaskState}
-use Rattle.lio_control.specs.Items.{open_calls}
 use Rattle.lio_values.specs.declared.act.Reply.TheVariants.{Done}
 use Rattle.lio_guards.specs.Guard.{guarded_relabel}
 use Rattle.lio_cells.specs.State.{Reference, Channel}
 use Rattle.lio_calculus.specs.Going.{Advance, Seal, RaiseTo, Unlabel, Release, HoldReference, HoldVariable, Fork, Spawn}
-use Rattle.lio_calculus.specs.Plan.{Program, Plan, Own, Visit, Node, New, bad_type, refused, with_seen, with_verdict, verdict_on, with_cells, with_turns, with_room, raising, releasing, new_reference, new_variable, birth_of, forking, spawning}
+use Rattle.lio_calculus.specs.Plan.{Plan, Own, Visit, Node, New, bad_type, refused, with_seen, with_verdict, verdict_on, with_cells, with_turns, with_room, raising, releasing, new_reference, new_variable, birth_of, forking, spawning}
 use Rattle.lio_calculus.specs.Hiding.{hide_task, hide_asked, hide_onward, hide_plan}
 
 -- a refusal looks at the label alone

@@ -1,9 +1,8 @@
 -- A run, seen by an observer, is the run of the erased calculus.
-use Rattle.std.proofs.Common.{◌≡◌, ◌∙◌, refl, sym, ap, subst, ℕ, ◌+◌, ◌==◌, Bool, true, false, ◌&&◌, not, if◌then◌else◌, IsTrue, IsFalse, List, [], ◌∷◌, ◌++◌, All, Option, Some, None, true≢false, append_assoc}
+use Rattle.std.proofs.Common.{◌≡◌, ◌∙◌, refl, sym, ap, subst, ℕ, ◌+◌, ◌==◌, Bool, true, false, ◌&&◌, not, if◌then◌else◌, IsTrue, List, [], ◌∷◌, ◌++◌, All, Option, Some, None, true≢false, append_assoc}
 use Rattle.std.specs.Prelude.{option_and_then, option_map}
 use Rattle.std.proofs.lemmas.List.Elements.{All-nil, All-cons, All-append}
 use Rattle.lio_labels.specs.declared.label.Label.{Label}
-use Rattle.lio_labels.specs.declared.privilege.Priv.{Priv}
 use Rattle.lio_labels.specs.Flow.{flows}
 use Rattle.lio_labels.proofs.FlowLemmas.{flow_is_transitive}
 use Rattle.lio_values.specs.declared.fault.FaultKind.TheVariants.{NoTurns}
@@ -27,13 +26,13 @@ use Rattle.lio_cells.specs.State.{Reference, Variable, Result as result, ready, 
 use Rattle.lio_control.specs.Items.{Item, Do, Access, Mark, Back, Fail}
 use Rattle.lio_calculus.specs.Operands.{bound, seen_as, flag_of, reference_of, variable_of, result_of}
 use Rattle.lio_calculus.specs.Task.{TaskState}
-use Rattle.lio_calculus.specs.Going.{Onward, Advance, BindReply}
-use Rattle.lio_calculus.specs.Plan.{Program, Plan, Over, Own, Visit, Target, Node, New, fault_at, ending, with_seen, choosing, looping, plan_statement, plan_access, plan_items, plan}
+use Rattle.lio_calculus.specs.Going.{Advance, BindReply}
+use Rattle.lio_calculus.specs.Plan.{Program, Plan, Over, Own, Visit, Node, fault_at, ending, with_seen, choosing, looping, plan_statement, plan_access, plan_items, plan}
 use Rattle.lio_calculus.specs.Step.{Configuration, cell_at, Move, move_of, number_of, met, waits, Turn, entry_of, turn_of, after, step}
-use Rattle.lio_calculus.specs.Erased.{erase, low, LowTurn, released_to}
-use Rattle.lio_calculus.specs.Guarded.{IsShown, IsGuarded, IsVisitGuarded, IsNoRelease}
+use Rattle.lio_calculus.specs.Erased.{erase, LowTurn, released_to}
+use Rattle.lio_calculus.specs.Guarded.{IsShown, IsGuarded, IsNoRelease}
 use Rattle.lio_calculus.specs.Laws.{IsShownContent}
-use Rattle.lio_calculus.specs.Run.{Ran, ran_after, run, is_visible, view, who, releases, LowRan, low_ran_after, low_run}
+use Rattle.lio_calculus.specs.Run.{Ran, ran_after, run, is_visible, view, who, releases, low_ran_after, low_run}
 use Rattle.lio_calculus.specs.Sound.{IsTaskOf, IsSound}
 use Rattle.lio_calculus.proofs.InvisibleLemmas.{visit-move, step-unseen}
 use Rattle.lio_calculus.proofs.VisibleStep.{step-visible}

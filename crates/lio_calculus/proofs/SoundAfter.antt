@@ -1,5 +1,5 @@
 -- A configuration that differs from a well-formed one in a task's cell and at most in one other is well-formed, where these two cells are fine.
-use Rattle.std.proofs.Common.{◌≡◌, ◌≢◌, ◌∙◌, refl, sym, ap, subst, ℕ, ◌+◌, ◌<◌, ◌≤◌, ◌^◌, ◌⊎◌, inl, inr, Bool, true, false, IsTrue, List, [], ◌∷◌, length, All, Option, Some, None, is_some, true≢false, arith}
+use Rattle.std.proofs.Common.{◌≡◌, ◌≢◌, ◌∙◌, refl, sym, ap, subst, ℕ, ◌+◌, ◌≤◌, ◌⊎◌, inl, inr, true, false, IsTrue, List, length, All, Some, None, is_some, arith}
 use Rattle.std.proofs.Math.Dec.{eqb}
 use Rattle.std.proofs.lemmas.Bool.Decides.{eqb_tells}
 use Rattle.lio_labels.specs.declared.label.Label.{Label}
@@ -9,22 +9,20 @@ use Rattle.lio_values.specs.declared.fault.FaultKind.TheVariants.{FlowCurrent, F
 use Rattle.lio_values.specs.declared.value.Handle.{Handle}
 use Rattle.lio_values.specs.declared.value.Plain.{Plain}
 use Rattle.lio_values.specs.declared.value.Plain.TheVariants.{Unit as unit, Flag, Whole, Bytes, Lab, Power, RefOf, VarOf, ResultOf, ChanOf}
-use Rattle.lio_values.specs.declared.value.Content.{Content}
 use Rattle.lio_values.specs.declared.value.Content.TheVariants.{Kept, Faulted, Hidden}
 use Rattle.lio_values.specs.declared.value.Value.{Value}
 use Rattle.lio_values.specs.declared.value.Value.TheVariants.{Bare, Sealed}
 use Rattle.lio_syntax.specs.Statements.{Procedure}
 use Rattle.lio_cells.specs.declared.state.State.{State}
 use Rattle.lio_cells.specs.declared.state.State.TheVariants.{Absent, Ref, Var, Chan, Job}
-use Rattle.lio_cells.specs.State.{Kind, Reference, Variable, Channel, Result, is_job, is_of, label_of, result_of}
+use Rattle.lio_cells.specs.State.{Kind, Reference, Variable, Channel, Result, is_job, label_of, result_of}
 use Rattle.lio_control.specs.declared.binding.Binding.{Binding}
 use Rattle.lio_control.specs.Environment.{Environment}
 use Rattle.lio_control.specs.Items.{Item, Do, Access, Mark, Back, Fail, open_calls}
 use Rattle.lio_calculus.specs.Task.{TaskState}
 use Rattle.lio_calculus.specs.Plan.{Program}
 use Rattle.lio_calculus.specs.Step.{Cell, Configuration, blank, cell_at}
-use Rattle.lio_calculus.specs.Sound.{Names, PlainNames, KindNames, ContentNames, ValueNames, IsOpen, EachBound, EachInItem, EachInTask, EachInState, ItemSays, block_says, AccessIsRaised, IsTaskOf, IsInRange, IsSound}
-use Rattle.lio_calculus.proofs.NodeKept.{Alike}
+use Rattle.lio_calculus.specs.Sound.{Names, PlainNames, KindNames, ValueNames, IsOpen, EachBound, EachInItem, EachInTask, EachInState, ItemSays, block_says, AccessIsRaised, IsTaskOf, IsInRange, IsSound}
 
 -- a property of values that follows from another
 all-map : {X : Type 0} (P Q : X → Type 0) → ((x : X) → P x → Q x) → (xs : List X) → All P xs → All Q xs

@@ -1,6 +1,6 @@
 -- What the parts of a well-formed configuration give: of looked-up values, and of the cells that handles name.
-use Rattle.std.proofs.Common.{◌≡◌, ◌∙◌, refl, sym, ap, subst, ℕ, zero, suc, ◌+◌, ◌<◌, ◌≤◌, ◌⊎◌, inl, inr, Bool, true, false, ◌&&◌, if◌then◌else◌, IsTrue, List, [], ◌∷◌, length, bytes_eq, All, Option, Some, None, is_some, true≢false, arith}
-use Rattle.std.specs.Prelude.{option_and_then, nat_eq, nat_lt}
+use Rattle.std.proofs.Common.{◌≡◌, ◌∙◌, refl, sym, ap, subst, ℕ, ◌<◌, ◌≤◌, ◌⊎◌, inl, inr, Bool, true, false, if◌then◌else◌, IsTrue, List, [], ◌∷◌, length, bytes_eq, Option, Some, None, is_some, true≢false, arith}
+use Rattle.std.specs.Prelude.{option_and_then, nat_lt}
 use Rattle.std.specs.Option.{option_map_or}
 use Rattle.std.proofs.lemmas.Bool.{and_parts}
 use Rattle.std.proofs.lemmas.Bool.Decides.{Decides-eqb, nat_tests}
@@ -9,27 +9,24 @@ use Rattle.std.proofs.lemmas.List.Elements.{All-head, All-tail}
 use Rattle.std.proofs.lemmas.Slice.Eq.{slice_eq-Decides}
 use Rattle.lio_labels.specs.declared.label.Label.{Label}
 use Rattle.lio_labels.specs.Equality.{same_formula, same_label}
-use Rattle.lio_labels.specs.Flow.{flows}
-use Rattle.lio_labels.proofs.FlowLemmas.{same-label, flow_is_transitive}
+use Rattle.lio_labels.proofs.FlowLemmas.{same-label}
 use Rattle.lio_values.specs.declared.value.Handle.{Handle}
 use Rattle.lio_values.specs.declared.value.Plain.{Plain}
 use Rattle.lio_values.specs.declared.value.Plain.TheVariants.{Unit as unit, Flag, Whole, Bytes, Lab, Power, RefOf, VarOf, ResultOf, ChanOf}
-use Rattle.lio_values.specs.declared.value.Content.{Content}
 use Rattle.lio_values.specs.declared.value.Value.{Value}
 use Rattle.lio_values.specs.declared.value.Value.TheVariants.{Bare, Sealed}
 use Rattle.lio_lines.specs.declared.line.Operand.{Operand}
 use Rattle.lio_lines.specs.declared.line.Operand.TheVariants.{Name, Literal}
 use Rattle.lio_lines.specs.Literal.{is_said, can_be_said}
 use Rattle.lio_cells.specs.declared.state.State.{State}
-use Rattle.lio_cells.specs.declared.state.State.TheVariants.{Absent, Ref, Var, Chan, Job}
-use Rattle.lio_cells.specs.State.{Kind, Reference, Variable, Channel, Result, is_reference, is_variable, is_channel, is_job, is_of, label_of}
+use Rattle.lio_cells.specs.declared.state.State.TheVariants.{Absent}
+use Rattle.lio_cells.specs.State.{Kind, Reference, Variable, Channel, Result, is_job, is_of, label_of}
 use Rattle.lio_control.specs.declared.binding.Binding.{Binding}
 use Rattle.lio_control.specs.Environment.{Environment, value_of}
-use Rattle.lio_calculus.specs.Operands.{bound, bare_of, Labelled, sealed_of, seen_as, reference_of, variable_of, result_of, channel_of}
+use Rattle.lio_calculus.specs.Operands.{bound, bare_of, seen_as, reference_of, variable_of, result_of, channel_of}
 use Rattle.lio_calculus.specs.Task.{TaskState}
 use Rattle.lio_calculus.specs.Step.{Cell, Configuration, blank, cell_at, has_label, is_named}
-use Rattle.lio_calculus.specs.Erased.{label_of_cell}
-use Rattle.lio_calculus.specs.Sound.{Names, PlainNames, ValueNames, IsOpen, EachBound, IsTaskOf, IsInRange, IsSound}
+use Rattle.lio_calculus.specs.Sound.{Names, PlainNames, ValueNames, IsOpen, EachBound, IsTaskOf, IsSound}
 
 -- labels that are the same by the test
 pub same_label-same : (a b : Label) → same_label a b ≡ true → a ≡ b

@@ -1,21 +1,20 @@
 -- What a node that is seen with hidden values is ready for, answers, and becomes.
-use Rattle.std.proofs.Common.{◌≡◌, ◌∙◌, refl, sym, ap, subst, ℕ, Bool, true, false, List, ◌++◌, Option, Some, None, is_some, is_none}
+use Rattle.std.proofs.Common.{◌≡◌, ◌∙◌, refl, ap, Option, Some, None, is_some}
 use Rattle.std.specs.Option.{option_map, option_map_or}
 use Rattle.lio_labels.specs.declared.label.Label.{Label}
 use Rattle.lio_values.specs.declared.value.Content.{Content}
 use Rattle.lio_values.specs.declared.value.Value.{Value}
 use Rattle.lio_values.specs.declared.act.Act.{Act}
 use Rattle.lio_values.specs.declared.act.Act.TheVariants as act
-use Rattle.lio_values.specs.declared.act.Reply.{Reply}
 use Rattle.lio_values.specs.declared.act.Reply.TheVariants.{Done, Got, Told}
-use Rattle.lio_values.specs.Erasure.{erase_content, erase_value, erase_act, erase_reply}
+use Rattle.lio_values.specs.Erasure.{erase_value, erase_reply}
 use Rattle.lio_cells.specs.declared.state.State.{State}
 use Rattle.lio_cells.specs.declared.state.State.TheVariants.{Absent, Ref, Var, Chan, Job}
-use Rattle.lio_cells.specs.State.{Kind, Reference, Variable, Channel, Result, is_absent, is_reference, is_variable, is_channel, is_job, is_of, label_of, held, full_with, is_empty, result_of, ready, answer, written, filled, received, ended, placed, state_after}
+use Rattle.lio_cells.specs.State.{Kind, Reference, Variable, Channel, Result, is_absent, is_reference, is_channel, is_of, label_of, held, full_with, is_empty, result_of, ready, answer}
 use Rattle.lio_calculus.specs.Hiding.{hide_asked}
 use Rattle.lio_calculus.specs.Erased.{hide_state}
 
-is_absent-hidden : (observer : Label) (state : State) → is_absent (hide_state observer state) ≡ is_absent state
+pub is_absent-hidden : (observer : Label) (state : State) → is_absent (hide_state observer state) ≡ is_absent state
 is_absent-hidden observer Absent = refl
 is_absent-hidden observer (Ref label value) = refl
 is_absent-hidden observer (Var label value) = refl

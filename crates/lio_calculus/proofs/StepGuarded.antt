@@ -1,12 +1,11 @@
 -- Each turn of a well-formed configuration is guarded.
-use Rattle.std.proofs.Common.{◌≡◌, ◌∙◌, refl, sym, ap, subst, ℕ, ◌+◌, ◌-◌, ◌<◌, ◌≤◌, Bool, true, false, ◌&&◌, if◌then◌else◌, IsTrue, List, [], ◌∷◌, All, Option, Some, None, true≢false, arith, Result, Ok, Err, IsFalse}
+use Rattle.std.proofs.Common.{◌≡◌, ◌∙◌, refl, sym, ap, subst, ℕ, ◌+◌, Bool, true, false, if◌then◌else◌, IsTrue, List, [], ◌∷◌, All, Option, Some, None, arith, Result, Ok, Err}
 use Rattle.std.specs.Prelude.{option_and_then, option_map, slice_get, ◌==◌, nat_le}
 use Rattle.std.proofs.lemmas.Bool.{and_parts}
 use Rattle.std.proofs.lemmas.List.Elements.{All-head}
 use Rattle.lio_labels.specs.declared.label.Label.{Label}
 use Rattle.lio_labels.specs.declared.privilege.Priv.{Priv}
 use Rattle.lio_labels.specs.Flow.{flows}
-use Rattle.lio_values.specs.declared.fault.Fault.{Fault}
 use Rattle.lio_values.specs.declared.fault.FaultKind.{FaultKind}
 use Rattle.lio_values.specs.declared.value.Handle.{Handle}
 use Rattle.lio_values.specs.declared.value.Plain.{Plain}
@@ -15,7 +14,6 @@ use Rattle.lio_values.specs.declared.fault.FaultKind.TheVariants.{NoTurns, User}
 use Rattle.lio_values.specs.declared.value.Content.TheVariants.{Kept, Faulted, Hidden}
 use Rattle.lio_values.specs.declared.value.Value.{Value}
 use Rattle.lio_values.specs.declared.value.Value.TheVariants.{Bare, Sealed}
-use Rattle.lio_values.specs.declared.act.Act.{Act}
 use Rattle.lio_values.specs.declared.act.Act.TheVariants as act
 use Rattle.lio_values.specs.declared.act.Op.{Op}
 use Rattle.lio_values.specs.declared.act.Op.TheVariants as op
@@ -23,12 +21,10 @@ use Rattle.lio_values.specs.declared.act.Birth.{Birth}
 use Rattle.lio_lines.specs.declared.line.Operand.{Operand}
 use Rattle.lio_lines.specs.declared.line.Simple.{Simple}
 use Rattle.lio_lines.specs.declared.line.Simple.TheVariants as line
-use Rattle.lio_lines.specs.Literal.{is_said, simple_operands}
+use Rattle.lio_lines.specs.Literal.{is_said}
 use Rattle.std.specs.List.{list_all}
 use Rattle.lio_syntax.specs.Statements.{Statement, Statements, Procedure}
 use Rattle.lio_syntax.specs.Statements as statement
-use Rattle.lio_guards.specs.Class.{class_of}
-use Rattle.lio_guards.specs.declared.verdict.Verdict.TheVariants.{Go}
 use Rattle.lio_guards.specs.Guard.{guarded_relabel}
 use Rattle.lio_guards.proofs.GuardLemmas.{current_flows_to_written, learnt_flows_to_label, current_flows_to_label}
 use Rattle.lio_control.specs.Items.{Item, Do, Access, Mark, Back, Fail, open_calls}
@@ -38,11 +34,11 @@ use Rattle.lio_cells.specs.State.{Reference, Variable, Channel, Result as result
 use Rattle.lio_values.specs.declared.act.Reply.TheVariants.{Done}
 use Rattle.lio_values.specs.declared.value.Plain.TheVariants.{Unit as unit}
 use Rattle.lio_calculus.specs.Task.{TaskState}
-use Rattle.lio_calculus.specs.Going.{Bind, Seal, Call, Enter, Repeat, Try, Advance, Return, Leave, RaiseTo, Raise, Unlabel, Lower, Release, BindReply}
-use Rattle.lio_calculus.specs.Plan.{Program, Plan, Over, Own, Visit, Node, fault_at, refused, stepping, with_seen, with_verdict, birth_of, procedure_at, ending, computed, calling, returning, ending_with, choosing, looping, raising, releasing, new_reference, new_variable, forking, spawning, verdict_on, plan_simple, plan_statement, plan_access, plan_items, plan}
+use Rattle.lio_calculus.specs.Going.{Bind, Seal, Enter, Repeat, Try, Advance, Leave, RaiseTo, Raise, Unlabel, Lower, Release, BindReply}
+use Rattle.lio_calculus.specs.Plan.{Plan, Over, Own, Visit, Node, fault_at, refused, stepping, with_seen, with_verdict, birth_of, procedure_at, ending, computed, calling, returning, choosing, looping, raising, releasing, new_reference, new_variable, forking, spawning, verdict_on, plan_simple, plan_statement, plan_access, plan_items, plan}
 use Rattle.lio_calculus.specs.Step.{Configuration, cell_at, Move, move_of, Turn, step, turn_of, entry_of, after}
 use Rattle.lio_calculus.specs.Guarded.{IsGuarded}
-use Rattle.lio_calculus.specs.Sound.{IsOpen, EachBound, EachInTask, IsTaskOf, IsSound, ItemSays, says, statement_says, FrontIsRaised, IsRaised}
+use Rattle.lio_calculus.specs.Sound.{IsOpen, IsTaskOf, IsSound, ItemSays, says, statement_says, FrontIsRaised, IsRaised}
 use Rattle.lio_calculus.proofs.SoundLemmas.{bound-each, said-open, reference-names, variable-names, result-names, channel-names}
 use Rattle.lio_calculus.proofs.GuardedLemmas.{GuardedBy, own-guarded, raise-guarded, visit-guarded, refused-guarded, bad_type-guarded, with_seen-guarded, with_verdict-guarded, if-guarded, with_cells-guarded, with_turns-guarded}
 use Rattle.lio_calculus.proofs.VisitGuarded.{write-guarded, read-guarded, send-guarded, take-guarded, put-guarded, wait-guarded, new_reference-guarded, new_variable-guarded, fork-guarded, spawn-guarded}

@@ -1,8 +1,7 @@
 -- Each turn keeps a configuration well-formed.
-use Rattle.std.proofs.Common.{◌≡◌, ◌≢◌, ◌∙◌, refl, sym, ap, subst, ℕ, zero, ◌+◌, ◌-◌, ◌<◌, ◌≤◌, ◌⊎◌, inl, inr, Bool, true, false, ◌&&◌, not, if◌then◌else◌, IsTrue, List, [], ◌∷◌, length, All, Option, Some, None, is_some, true≢false, arith}
+use Rattle.std.proofs.Common.{◌≡◌, ◌≢◌, ◌∙◌, refl, sym, ap, subst, ℕ, ◌+◌, ◌<◌, ◌≤◌, ◌⊎◌, inl, inr, Bool, true, false, ◌&&◌, not, if◌then◌else◌, IsTrue, List, [], length, All, Option, Some, None, is_some, true≢false, arith}
 use Rattle.std.specs.Prelude.{option_and_then, option_map, slice_get, slice_set}
 use Rattle.std.specs.Option.{option_map_or}
-use Rattle.std.proofs.lemmas.Bool.{and_parts}
 use Rattle.std.proofs.lemmas.Bool.Decides.{Decides-eqb, eqb_tells}
 use Rattle.std.proofs.lemmas.List.{get_or_past, length-set, get_or-set_same, get_or-set_other}
 use Rattle.std.proofs.lemmas.List.Elements.{All-nil}
@@ -12,37 +11,32 @@ use Rattle.lio_labels.specs.declared.label.Label.{Label}
 use Rattle.lio_labels.specs.Equality.{same_formula, same_label}
 use Rattle.lio_labels.specs.Flow.{flows}
 use Rattle.lio_values.specs.declared.value.Handle.{Handle}
-use Rattle.lio_values.specs.declared.value.Plain.TheVariants.{RefOf, VarOf, ResultOf}
-use Rattle.lio_values.specs.declared.value.Content.{Content}
 use Rattle.lio_values.specs.declared.value.Value.{Value}
-use Rattle.lio_values.specs.declared.value.Value.TheVariants.{Bare, Sealed}
 use Rattle.lio_values.specs.declared.act.Act.{Act}
 use Rattle.lio_values.specs.declared.act.Act.TheVariants as act
 use Rattle.lio_values.specs.declared.act.Birth.{Birth}
 use Rattle.lio_values.specs.declared.act.Reply.{Reply}
-use Rattle.lio_values.specs.declared.act.Reply.TheVariants.{Done}
-use Rattle.lio_syntax.specs.Statements.{Statements, Nothing, Procedure}
+use Rattle.lio_syntax.specs.Statements.{Procedure}
 use Rattle.lio_cells.specs.declared.state.State.{State}
 use Rattle.lio_cells.specs.declared.state.State.TheVariants.{Absent, Ref, Var, Chan, Job}
-use Rattle.lio_cells.specs.State.{Kind, Reference, Variable, Channel, Result, is_of, is_job, label_of, result_of, ready, answer, state_after}
-use Rattle.lio_control.specs.Environment.{bind_all}
-use Rattle.lio_control.specs.Items.{Item, enter, open_calls}
+use Rattle.lio_cells.specs.State.{Kind, Reference, Variable, Result, is_of, is_job, label_of, result_of, ready, answer, state_after}
+use Rattle.lio_control.specs.Items.{open_calls}
 use Rattle.lio_calculus.specs.Task.{TaskState}
 use Rattle.lio_calculus.specs.Going.{Onward, HoldReference, HoldVariable, Fork, Spawn, End, gone_on}
 use Rattle.lio_calculus.specs.Plan.{Program, Plan, Over, Own, Visit, Target, Node, New, plan}
-use Rattle.lio_calculus.specs.Step.{Cell, Configuration, blank, cell_at, with_cell, number_of, is_named, has_label, is_met, met, waits, Move, move_of, visit, body_of, parameters_of, child_of, born, task_after, met_after, actor_after, target_after, after, Turn, entry_of, turn_of, step}
-use Rattle.lio_calculus.specs.Guarded.{IsGuarded, IsVisitGuarded}
-use Rattle.lio_calculus.specs.Sound.{Names, ValueNames, IsOpen, EachBound, EachInTask, EachInItem, EachInState, ItemSays, IsNoAccess, block_says, IsTaskOf, IsInRange, IsSound}
-use Rattle.lio_calculus.proofs.Closed.{IsClosed, names-closed, open-closed}
+use Rattle.lio_calculus.specs.Step.{Cell, Configuration, blank, cell_at, with_cell, is_named, has_label, is_met, met, waits, Move, move_of, visit, body_of, parameters_of, child_of, born, task_after, met_after, after, Turn, entry_of, turn_of, step}
+use Rattle.lio_calculus.specs.Guarded.{IsGuarded}
+use Rattle.lio_calculus.specs.Sound.{Names, ValueNames, IsOpen, EachInItem, EachInState, IsNoAccess, block_says, IsTaskOf, IsInRange, IsSound}
+use Rattle.lio_calculus.proofs.Closed.{names-closed, open-closed}
 use Rattle.lio_calculus.proofs.Lists.{All-slice_get}
 use Rattle.lio_calculus.proofs.PlanEach.{EachInOnward, EachInAct, EachInPlan, bind_all-each, plan-each}
-use Rattle.lio_calculus.proofs.PlanKept.{Suits, Kept, KeptPlan, VisitKept, NewSuits, IsBorn, is_ended, is_end, is_quiet, is_visit, is_taking, is_silent, plan-kept}
+use Rattle.lio_calculus.proofs.PlanKept.{Suits, Kept, KeptPlan, NewSuits, IsBorn, is_ended, is_end, is_quiet, is_visit, is_taking, plan-kept}
 use Rattle.lio_calculus.proofs.PlacesKept.{enter-all, enter-says, enter-calls}
 use Rattle.lio_calculus.proofs.GoneKept.{EachInReply, EachHandle, taken, none-raised}
 use Rattle.lio_calculus.proofs.NodeKept.{Alike, named-after, reference-after, variable-after, channel-after, job-after, each-after, answer-each}
 use Rattle.lio_calculus.proofs.SoundLemmas.{task-job, inside, task-there, absent-unnamed, named-there}
-use Rattle.lio_calculus.proofs.SoundAfter.{task-map, state-map, Extends, value-extends, Fine, fine-of, fine-extends, Changes, IsChild, Suitable, sound-after}
-use Rattle.lio_calculus.proofs.ActorKept.{onward-map, reply-map, silent-each, taken-fits, job-stays, job-holds, range-inside, actor-fine}
+use Rattle.lio_calculus.proofs.SoundAfter.{state-map, Extends, value-extends, Fine, fine-of, fine-extends, Changes, IsChild, sound-after}
+use Rattle.lio_calculus.proofs.ActorKept.{silent-each, taken-fits, job-stays, job-holds, range-inside, actor-fine}
 use Rattle.lio_calculus.proofs.StepGuarded.{turn-guarded}
 use Rattle.lio_calculus.proofs.InvisibleLemmas.{visit-move}
 
@@ -467,12 +461,18 @@ after-kept c k task (Own asked reply onward) move sound is going guarded kept na
     (own-kept c k task asked onward reply sound is going kept.0 kept.1 names.0 names.1 shown.0 shown.1 (silent-each (ValueNames c) reply kept.2) (silent-each IsOpen reply kept.2) kept.3)
 after-kept c k task (Visit asked (New number) onward) move sound is going guarded kept names shown moves =
     let s : State = (cell_at c number).state in
-    let made : Move = record { act = asked; target = Some (New number); reply = answer s asked; onward = onward } in
-    let equal : made ≡ move = visit-move asked (New number) onward (waits asked && not (ready s asked)) made move moves in
+    let made : Move = record { act = asked; target = Some (New number); reply = answer (met (New number) s) asked; onward = onward } in
+    let equal : made ≡ move = visit-move asked (New number) onward (waits asked && not (ready (met (New number) s) asked)) made move moves in
     subst (λ (m : Move). IsSound (after c k task m)) equal
-    (subst (λ (n : ℕ). let between : Configuration = with_cell c n (met_after c.program task.label asked (cell_at c n)) in IsSound (with_cell between k (actor between k task asked onward (answer (cell_at c n).state asked)))) (sym kept.1.0)
-    (made-kept c k task asked onward (answer (cell_at c task.first).state asked) sound is going kept.1.1 kept.0 names.0 names.1 shown.0 shown.1
-    (answer-each (ValueNames c) (names-closed c) (cell_at c task.first).state asked (sound.node_names task.first)) (answer-each IsOpen open-closed (cell_at c task.first).state asked (sound.node_shown task.first))))
+    (subst (λ (x : State). IsSound (made_at x)) (sym (ap (λ (cell : Cell). cell.state) guarded.before))
+    (subst (λ (n : ℕ). let between : Configuration = with_cell c n (met_after c.program task.label asked (cell_at c n)) in IsSound (with_cell between k (actor between k task asked onward (answer Absent asked)))) (sym kept.1.0)
+    (made-kept c k task asked onward (answer Absent asked) sound is going kept.1.1 kept.0 names.0 names.1 shown.0 shown.1
+    (answer-each (ValueNames c) (names-closed c) Absent asked tt) (answer-each IsOpen open-closed Absent asked tt))))
+  where
+    made_at : State → Configuration
+    made_at x =
+        let between : Configuration = if is_met (New number) x then with_cell c number (met_after c.program task.label asked (cell_at c number)) else c in
+        with_cell between k (actor between k task asked onward (answer (met (New number) x) asked))
 after-kept c k task (Visit asked (Node kind handle) onward) move sound is going guarded kept names shown moves =
     let target : Target = Node kind handle in
     let s : State = (cell_at c handle.number).state in

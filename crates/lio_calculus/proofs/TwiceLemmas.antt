@@ -1,13 +1,12 @@
 -- Hiding twice at one label is hiding once.
-use Rattle.std.proofs.Common.{◌≡◌, ◌∙◌, refl, sym, ap, subst, ℕ, List, [], ◌∷◌, map}
+use Rattle.std.proofs.Common.{◌≡◌, refl, ap, List, [], ◌∷◌, map}
 use Rattle.lio_labels.specs.declared.label.Label.{Label}
-use Rattle.lio_values.specs.Erasure.{erase_value}
 use Rattle.lio_values.proofs.ErasureLemmas.{value_erased_twice}
-use Rattle.lio_control.specs.declared.binding.Binding.{Binding}
 use Rattle.lio_control.specs.Environment.{Environment}
 use Rattle.lio_calculus.specs.Task.{TaskState}
 use Rattle.lio_control.specs.Items.{Item, Do, Access, Mark, Back, Fail}
-use Rattle.lio_calculus.specs.Hiding.{hide_binding, hide_environment, hide_item, hide_task}
+use Rattle.lio_control.specs.Hiding.{hide_environment, hide_item}
+use Rattle.lio_calculus.specs.Hiding.{hide_task}
 
 pub hide_environment-twice : (observer : Label) (environment : Environment) → hide_environment observer (hide_environment observer environment) ≡ hide_environment observer environment
 hide_environment-twice observer [] = refl

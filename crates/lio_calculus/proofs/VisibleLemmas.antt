@@ -1,11 +1,8 @@
 -- A turn of a task below the observer is the erased turn.
-use Rattle.std.proofs.Common.{◌≡◌, ◌≢◌, ◌∙◌, refl, sym, ap, subst, ℕ, Bool, true, false, ◌&&◌, not, if◌then◌else◌, List, [], ◌∷◌, ◌++◌, map, Option, Some, None, is_some, option_and_then, inl, inr, get_or-set_other}
-use Rattle.std.specs.Prelude.{IsTrue, ◌⊎◌}
-use Rattle.std.specs.Option.{option_map, option_map_or}
+use Rattle.std.proofs.Common.{◌≡◌, ◌∙◌, refl, sym, ap, Bool, true, false, List, ◌++◌, Some, None}
 use Rattle.lio_labels.specs.declared.label.Label.{Label}
 use Rattle.lio_labels.specs.declared.privilege.Priv.{Priv}
 use Rattle.lio_labels.specs.Flow.{flows}
-use Rattle.lio_labels.proofs.FlowLemmas.{flow_is_reflexive, flow_is_transitive}
 use Rattle.lio_values.specs.declared.value.Content.{Content}
 use Rattle.lio_values.specs.declared.value.Content.TheVariants.{Kept, Faulted, Hidden}
 use Rattle.lio_values.specs.declared.act.Act.{Act}
@@ -13,17 +10,15 @@ use Rattle.lio_values.specs.declared.act.Act.TheVariants as act
 use Rattle.lio_values.specs.declared.act.Reply.{Reply}
 use Rattle.lio_values.specs.declared.act.Reply.TheVariants.{Done, Got, Told, Refused}
 use Rattle.lio_values.specs.declared.entry.Entry.{Entry}
-use Rattle.lio_values.proofs.ErasureLemmas.{value_erased_twice, entry_erased_twice}
-use Rattle.lio_values.specs.Erasure.{erase_content, erase_value, erase_act, erase_reply, erase_entry}
+use Rattle.lio_values.proofs.ErasureLemmas.{entry_erased_twice}
+use Rattle.lio_values.specs.Erasure.{erase_content, erase_act, erase_reply}
 use Rattle.lio_cells.specs.declared.state.State.{State}
 use Rattle.lio_cells.specs.State.{state_after}
-use Rattle.lio_calculus.specs.Task.{TaskState}
-use Rattle.lio_calculus.specs.Going.{released}
 use Rattle.lio_calculus.specs.Hiding.{hide_asked}
 use Rattle.lio_calculus.proofs.PlanLemmas.{hidden-twice}
 use Rattle.lio_calculus.proofs.CellLemmas.{state_after-hidden}
 use Rattle.lio_calculus.specs.Guarded.{IsShown, IsNoRelease}
-use Rattle.lio_calculus.specs.Erased.{hide_state, Opened, taking_front, opened_release, opened, released_to}
+use Rattle.lio_calculus.specs.Erased.{hide_state, opened_release, opened, released_to}
 
 -- an act as the erased calculus takes it: to the observer it is the act, and it does to a seen state what the act does
 pub record Appears (observer : Label) (asked seen : Act) : Type 0 where

@@ -1,6 +1,5 @@
 -- A turn of a task below the observer is the erased turn, with the released content threaded.
-use Rattle.std.proofs.Common.{◌≡◌, ◌∙◌, refl, sym, ap, subst, ℕ, Bool, true, false, ◌&&◌, not, if◌then◌else◌, List, [], ◌++◌, map, Option, Some, None, option_and_then}
-use Rattle.std.specs.Prelude.{IsTrue}
+use Rattle.std.proofs.Common.{◌≡◌, ◌∙◌, refl, sym, ap, subst, ℕ, Bool, true, false, ◌&&◌, not, if◌then◌else◌, List, ◌++◌, Option, Some, None, option_and_then}
 use Rattle.std.specs.Option.{option_map, option_map_or}
 use Rattle.std.proofs.Math.Seq.{map-set_same}
 use Rattle.lio_labels.specs.declared.label.Label.{Label}
@@ -10,16 +9,14 @@ use Rattle.lio_values.specs.declared.value.Handle.{Handle}
 use Rattle.lio_values.specs.declared.act.Act.{Act}
 use Rattle.lio_values.specs.declared.act.Act.TheVariants as act
 use Rattle.lio_values.specs.declared.act.Reply.{Reply}
-use Rattle.lio_values.specs.declared.entry.Entry.{Entry}
-use Rattle.lio_values.specs.Erasure.{erase_act, erase_reply, erase_entry}
+use Rattle.lio_values.specs.Erasure.{erase_reply, erase_entry}
 use Rattle.lio_cells.specs.State.{Kind, Reference, Variable, Channel, Result, ready, answer}
 use Rattle.lio_calculus.specs.Task.{TaskState}
-use Rattle.lio_calculus.specs.Going.{Onward}
 use Rattle.lio_calculus.specs.Plan.{Program, Plan, Over, Own, Visit, Target, Node, New, plan}
-use Rattle.lio_calculus.specs.Hiding.{hide_task, hide_asked, hide_onward, hide_plan}
+use Rattle.lio_calculus.specs.Hiding.{hide_task, hide_asked, hide_onward}
 use Rattle.lio_calculus.specs.Step.{Cell, Configuration, blank, cell_at, with_cell, number_of, is_met, met, waits, Move, move_of, met_after, target_after, actor_after, after, Turn, entry_of, turn_of, step}
-use Rattle.lio_calculus.specs.Erased.{label_of_cell, sees, hide_cell, erase_cell, erase, LowTurn, Opened, opened, released_to, low_with, low_turn, low}
-use Rattle.lio_calculus.specs.Guarded.{IsBefore, IsShown, IsAllowed, IsNoRelease, IsOwnGuarded, IsVisitGuarded, IsGuarded}
+use Rattle.lio_calculus.specs.Erased.{label_of_cell, sees, hide_cell, erase_cell, erase, opened, released_to, low_with, low_turn, low}
+use Rattle.lio_calculus.specs.Guarded.{IsBefore, IsShown, IsAllowed, IsNoRelease, IsVisitGuarded, IsGuarded}
 use Rattle.lio_calculus.proofs.PlanHidden.{plan-hidden}
 use Rattle.lio_calculus.proofs.CellLemmas.{is_met-hidden, met_after-hidden}
 use Rattle.lio_calculus.proofs.InvisibleLemmas.{sees-task, erase_cell-unseen, erase_cell-seen, other-cell, visit-move}
@@ -47,10 +44,16 @@ met-alike observer program label asked cell = ap (erase_cell observer) (met_afte
 new-alike : (observer : Label) (c : Configuration) (label : Label) (asked : Act) (n : ℕ) → cell_at c n ≡ blank
     → erase observer (target_after (erase observer c) label (hide_asked observer asked) (Some (New n))) ≡ erase observer (target_after c label asked (Some (New n)))
 new-alike observer c label asked n empty =
-    let low : cell_at (erase observer c) n ≡ hide_cell observer blank = cell_at-erased observer c n ∙ ap (erase_cell observer) empty ∙ erase_cell-blank observer in
-    with_cell-alike observer (erase observer c) c n (met_after c.program label (hide_asked observer asked) (cell_at (erase observer c) n)) (met_after c.program label asked (cell_at c n)) (erase-twice observer c)
-    (ap (λ (x : Cell). erase_cell observer (met_after c.program label (hide_asked observer asked) x)) low ∙ met-alike observer c.program label asked blank
-    ∙ ap (λ (x : Cell). erase_cell observer (met_after c.program label asked x)) (sym empty))
+    let low : cell_at (erase observer c) n ≡ blank = cell_at-erased observer c n ∙ ap (erase_cell observer) empty ∙ erase_cell-blank observer in
+    ap (λ (x : Cell). erase observer (low_after x)) low
+    ∙ with_cell-alike observer (erase observer c) c n (met_after c.program label (hide_asked observer asked) blank) (met_after c.program label asked blank) (erase-twice observer c) (met-alike observer c.program label asked blank)
+    ∙ ap (λ (x : Cell). erase observer (real_after x)) (sym empty)
+  where
+    low_after : Cell → Configuration
+    low_after x = if is_met (New n) x.state then with_cell (erase observer c) n (met_after c.program label (hide_asked observer asked) x) else erase observer c
+
+    real_after : Cell → Configuration
+    real_after x = if is_met (New n) x.state then with_cell c n (met_after c.program label asked x) else c
 
 -- a visit of a node
 node-alike : (observer : Label) (c : Configuration) (label : Label) (asked : Act) (kind : Kind) (handle : Handle) → label_of_cell (cell_at c handle.number) ≡ label_of_cell (met_after c.program label asked (cell_at c handle.number))

@@ -1,5 +1,5 @@
 -- The visits of nodes in a well-formed configuration are guarded.
-use Rattle.std.proofs.Common.{◌≡◌, ◌∙◌, refl, sym, ap, subst, ℕ, ◌+◌, ◌<◌, ◌≤◌, Bool, true, false, ◌&&◌, not, if◌then◌else◌, IsTrue, List, [], Option, Some, None, is_some, true≢false, arith}
+use Rattle.std.proofs.Common.{◌≡◌, ◌∙◌, refl, sym, ap, subst, ℕ, ◌≤◌, Bool, true, false, not, if◌then◌else◌, IsTrue, List, Option, Some, None, is_some, true≢false, arith}
 use Rattle.std.specs.Option.{option_map_or}
 use Rattle.lio_labels.specs.declared.label.Label.{Label}
 use Rattle.lio_labels.specs.Flow.{flows}
@@ -11,14 +11,14 @@ use Rattle.lio_values.specs.declared.act.Act.TheVariants as act
 use Rattle.lio_values.specs.declared.act.Birth.{Birth}
 use Rattle.lio_cells.specs.declared.state.State.{State}
 use Rattle.lio_cells.specs.declared.state.State.TheVariants.{Absent, Ref, Var, Chan, Job}
-use Rattle.lio_cells.specs.State.{Kind, Reference, Variable, Channel, Result as result, is_job, is_of, label_of, result_of, ready, answer, state_after}
+use Rattle.lio_cells.specs.State.{Kind, Reference, Variable, Channel, Result as result, is_job, label_of, result_of, ready, answer, state_after}
 use Rattle.lio_calculus.specs.Task.{TaskState}
 use Rattle.lio_calculus.specs.Going.{Onward, Advance, HoldReference, HoldVariable, Fork, Spawn, BindReply}
-use Rattle.lio_calculus.specs.Plan.{Program, Plan, Visit, Target, Node, New}
-use Rattle.lio_calculus.specs.Step.{Cell, Configuration, blank, cell_at, number_of, Move, move_of, is_met, met, visit, waits, born, child_of, task_after, met_after}
+use Rattle.lio_calculus.specs.Plan.{Program, Visit, Node, New}
+use Rattle.lio_calculus.specs.Step.{Cell, Configuration, blank, cell_at, Move, move_of, is_met, visit, waits, born, child_of, task_after, met_after}
 use Rattle.lio_calculus.specs.Erased.{label_of_cell}
 use Rattle.lio_calculus.specs.Guarded.{label_after, changes, IsNoRelease, IsAllowed, IsVisitGuarded}
-use Rattle.lio_calculus.specs.Sound.{Names, IsTaskOf, IsInRange, IsSound}
+use Rattle.lio_calculus.specs.Sound.{Names, IsTaskOf, IsSound}
 use Rattle.lio_calculus.proofs.SoundLemmas.{named-label, named-kind, task-job}
 use Rattle.lio_calculus.proofs.GuardedLemmas.{GuardedBy, reference-no_job, variable-no_job, channel-no_job, taskless}
 

@@ -1,7 +1,6 @@
 -- A visit in the erased calculus.
-use Rattle.std.proofs.Common.{◌≡◌, ◌∙◌, refl, sym, ap, subst, ℕ, Bool, true, false, ◌&&◌, not, if◌then◌else◌, List, map, Option, Some, None}
-use Rattle.std.specs.Prelude.{IsTrue}
-use Rattle.std.specs.Option.{option_map, option_map_or}
+use Rattle.std.proofs.Common.{◌≡◌, ◌∙◌, refl, ap, ℕ, Bool, true, false, ◌&&◌, not, if◌then◌else◌, Option, Some, None}
+use Rattle.std.specs.Option.{option_map_or}
 use Rattle.lio_labels.specs.declared.label.Label.{Label}
 use Rattle.lio_labels.specs.Flow.{flows}
 use Rattle.lio_labels.proofs.FlowLemmas.{flow_is_transitive}
@@ -15,11 +14,11 @@ use Rattle.lio_cells.specs.declared.state.State.TheVariants.{Absent}
 use Rattle.lio_cells.specs.State.{Reference, Variable, Channel, Result, ready, answer}
 use Rattle.lio_calculus.specs.Task.{TaskState}
 use Rattle.lio_calculus.specs.Going.{Onward}
-use Rattle.lio_calculus.specs.Plan.{Program, Plan, Over, Own, Visit, Target, Node, New}
+use Rattle.lio_calculus.specs.Plan.{Plan, Over, Own, Visit, Target, Node, New}
 use Rattle.lio_calculus.specs.Hiding.{hide_asked, hide_onward, hide_plan}
-use Rattle.lio_calculus.specs.Step.{Cell, Configuration, blank, cell_at, number_of, is_met, met, waits, visit, Move, move_of}
-use Rattle.lio_calculus.specs.Erased.{label_of_cell, sees, hide_state, hide_cell, erase_cell, erase}
-use Rattle.lio_calculus.specs.Guarded.{IsOwnGuarded, IsVisitGuarded, IsGuarded}
+use Rattle.lio_calculus.specs.Step.{Cell, Configuration, cell_at, number_of, is_met, met, waits, visit, Move, move_of}
+use Rattle.lio_calculus.specs.Erased.{sees, hide_state, erase_cell, erase}
+use Rattle.lio_calculus.specs.Guarded.{IsGuarded}
 use Rattle.lio_calculus.proofs.StateLemmas.{ready-hidden, answer-hidden}
 use Rattle.lio_calculus.proofs.CellLemmas.{is_met-hidden}
 use Rattle.lio_calculus.proofs.InvisibleLemmas.{erase_cell-unseen, erase_cell-seen}
@@ -57,7 +56,7 @@ waits-hidden observer (act.Raise op label) = refl
 waits-hidden observer (act.Lower label) = refl
 
 -- what doesn't wait is answered alike by each node
-answer-done : (state : State) (asked : Act) → waits asked ≡ false → answer state asked ≡ Done
+pub answer-done : (state : State) (asked : Act) → waits asked ≡ false → answer state asked ≡ Done
 unfolding answer
 answer-done state act.Read is = absurd (cc)
 answer-done state act.Take is = absurd (cc)

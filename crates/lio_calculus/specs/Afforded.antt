@@ -1,7 +1,6 @@
 -- What a plan may count on: that the task it is made for has the labels, the numbers of its range and the node in front of it that its next turn needs
 -- (the guards are those of LIO, ICFP 2012; ranges of numbers are this calculus's own).
-use Rattle.std.specs.Prelude.{◌≡◌, ℕ, ◌+◌, ◌<◌, ◌≤◌, Bool, true, false, IsTrue, List, ◌∷◌, length, Option, Some, None}
-use Rattle.lio_labels.specs.declared.label.Label.{Label}
+use Rattle.std.specs.Prelude.{◌≡◌, ◌+◌, ◌<◌, ◌≤◌, Bool, true, false, IsTrue, ◌∷◌, length, Option, Some, None}
 use Rattle.lio_labels.specs.Flow.{flows}
 use Rattle.lio_values.specs.declared.act.Act.{Act}
 use Rattle.lio_values.specs.declared.act.Act.TheVariants as act

@@ -1,10 +1,10 @@
 -- How a task goes on after a turn: the ways in which a plan says it, and what the task is then.
-use Rattle.std.specs.Prelude.{ℕ, ◌+◌, ◌-◌, ℤ, pos, Bool, true, false, List, [], ◌∷◌, Option, Some, None, if◌then◌else◌}
+use Rattle.std.specs.Prelude.{ℕ, ◌+◌, ◌-◌, true, List, [], ◌∷◌}
 use Rattle.lio_labels.specs.declared.label.Label.{Label}
 use Rattle.lio_values.specs.declared.fault.Fault.{Fault}
 use Rattle.lio_values.specs.declared.value.Handle.{Handle}
 use Rattle.lio_values.specs.declared.value.Plain.{Plain}
-use Rattle.lio_values.specs.declared.value.Plain.TheVariants.{Unit as unit, Whole, RefOf, VarOf, ResultOf}
+use Rattle.lio_values.specs.declared.value.Plain.TheVariants.{Unit as unit, RefOf, VarOf, ResultOf}
 use Rattle.lio_values.specs.declared.value.Content.{Content}
 use Rattle.lio_values.specs.declared.value.Content.TheVariants.{Kept, Faulted, Hidden}
 use Rattle.lio_values.specs.declared.value.Value.{Value}
@@ -15,11 +15,11 @@ use Rattle.lio_values.specs.declared.act.Reply.{Reply}
 use Rattle.lio_values.specs.declared.act.Reply.TheVariants.{Done, Got, Told, Refused}
 use Rattle.lio_lines.specs.declared.line.Operand.{Operand}
 use Rattle.lio_lines.specs.declared.line.Simple.{Simple}
-use Rattle.lio_syntax.specs.Statements.{Statement, Statements, While}
+use Rattle.lio_syntax.specs.Statements.{Statements, While}
 use Rattle.lio_control.specs.Environment.{Environment, bind}
 use Rattle.lio_control.specs.Throwing.{Place, thrown, returned}
 use Rattle.lio_calculus.specs.Task.{TaskState}
-use Rattle.lio_control.specs.Items.{Item, Do, Access, Mark, Back, Fail, enter, rest_of}
+use Rattle.lio_control.specs.Items.{Do, Access, Mark, Back, enter, rest_of}
 
 -- how a task goes on after its turn
 pub data Onward : Type 0 where

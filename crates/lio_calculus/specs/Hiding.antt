@@ -1,31 +1,14 @@
 -- What an observer sees of a task, and of the plan of its next turn: each value with its content hidden where its label doesn't flow to the observer's
 -- (the erasure of the concurrent calculus of LIO, ICFP 2012).
-use Rattle.std.specs.Prelude.{◌≡◌, ℕ, List, map, Option, Some, None}
+use Rattle.std.specs.Prelude.{◌≡◌, map}
 use Rattle.lio_labels.specs.declared.label.Label.{Label}
 use Rattle.lio_values.specs.declared.act.Act.{Act}
 use Rattle.lio_values.specs.declared.act.Act.TheVariants as act
 use Rattle.lio_values.specs.Erasure.{erase_content, erase_value, erase_act, erase_reply}
-use Rattle.lio_control.specs.declared.binding.Binding.{Binding}
-use Rattle.lio_control.specs.Environment.{Environment}
+use Rattle.lio_control.specs.Hiding.{hide_environment, hide_item}
 use Rattle.lio_calculus.specs.Task.{TaskState}
-use Rattle.lio_control.specs.Items.{Item, Do, Access, Mark, Back, Fail}
 use Rattle.lio_calculus.specs.Going.{Onward, Advance, Bind, Seal, Enter, Repeat, Try, Call, Return, Leave, Raise, RaiseTo, Unlabel, Lower, Release, HoldReference, HoldVariable, Fork, Spawn, BindReply, Throw, End}
 use Rattle.lio_calculus.specs.Plan.{Program, Plan, Over, Own, Visit, plan}
-
-abbrev pub hide_binding : Label → Binding → Binding
-hide_binding observer binding = record binding { value = erase_value observer binding.value }
-
--- an environment, with its values hidden
-abbrev pub hide_environment : Label → Environment → Environment
-hide_environment observer environment = map (hide_binding observer) environment
-
--- an item; callers' environments alone hold values
-abbrev pub hide_item : Label → Item → Item
-hide_item observer (Back caller name) = Back (hide_environment observer caller) name
-hide_item observer (Do statement) = Do statement
-hide_item observer (Access statement) = Access statement
-hide_item observer (Mark code payload handler) = Mark code payload handler
-hide_item observer (Fail fault) = Fail fault
 
 -- a task, with its values hidden
 abbrev pub hide_task : Label → TaskState → TaskState

@@ -1,5 +1,5 @@
 -- The laws of the calculus: what a turn of a well-formed configuration shows to an observer (the noninterference of the concurrent calculus of LIO, ICFP 2012).
-use Rattle.std.specs.Prelude.{◌≡◌, ℕ, IsTrue, IsFalse, List, [], ◌++◌, All, Option, Some}
+use Rattle.std.specs.Prelude.{◌≡◌, ℕ, IsTrue, IsFalse, List, [], ◌++◌, All, Some}
 use Rattle.lio_labels.specs.declared.label.Label.{Label}
 use Rattle.lio_labels.specs.Flow.{flows}
 use Rattle.lio_values.specs.declared.value.Content.{Content}

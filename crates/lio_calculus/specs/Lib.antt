@@ -15,3 +15,4 @@ pub mod Meeting
 pub mod Locality
 pub mod Waiting
 pub mod Powers
+pub mod Handles

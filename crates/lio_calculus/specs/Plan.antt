@@ -1,7 +1,6 @@
 -- What a task's next turn does: the plan of each statement, over what its operands stand for. Where an operand isn't bound or isn't of the needed
 -- kind, the turn is refused, before all else (LIO, ICFP 2012).
-use Rattle.std.specs.Prelude.{ℕ, ◌+◌, ◌-◌, ◌==◌, Bool, true, false, nat_lt, nat_le, if◌then◌else◌, List, [], ◌∷◌, length, map, Option, Some, None, Result, Ok, Err, option_and_then, slice_get}
-use Rattle.std.specs.Option.{option_map}
+use Rattle.std.specs.Prelude.{ℕ, ◌+◌, ◌-◌, ◌==◌, Bool, true, false, nat_le, if◌then◌else◌, List, [], ◌∷◌, Option, Some, None, Result, Ok, Err, option_and_then, slice_get}
 use Rattle.lio_labels.specs.declared.label.Label.{Label}
 use Rattle.lio_labels.specs.declared.privilege.Priv.{Priv}
 use Rattle.lio_values.specs.declared.fault.Fault.{Fault}
@@ -13,7 +12,6 @@ use Rattle.lio_values.specs.declared.value.Plain.TheVariants.{Unit as unit}
 use Rattle.lio_values.specs.declared.value.Content.{Content}
 use Rattle.lio_values.specs.declared.value.Content.TheVariants.{Kept, Faulted, Hidden}
 use Rattle.lio_values.specs.declared.value.Value.{Value}
-use Rattle.lio_values.specs.declared.value.Value.TheVariants.{Bare}
 use Rattle.lio_values.specs.declared.act.Act.{Act}
 use Rattle.lio_values.specs.declared.act.Act.TheVariants as act
 use Rattle.lio_values.specs.declared.act.Birth.{Birth}
@@ -32,7 +30,7 @@ use Rattle.lio_guards.specs.declared.verdict.Verdict.{Verdict}
 use Rattle.lio_guards.specs.declared.verdict.Verdict.TheVariants.{Go, No}
 use Rattle.lio_operators.specs.Operators.{operate1, operate2}
 use Rattle.lio_cells.specs.State.{Kind, Reference, Variable, Channel, Result as result}
-use Rattle.lio_control.specs.Environment.{Environment, bind_all}
+use Rattle.lio_control.specs.Environment.{bind_all}
 use Rattle.lio_calculus.specs.Operands.{bound, all_bound, bare_of, Labelled, sealed_of, flag_of, label_of, power_of, text_of, count_of, reference_of, variable_of, result_of, channel_of, seen_as}
 use Rattle.lio_calculus.specs.Task.{TaskState}
 use Rattle.lio_control.specs.Items.{Item, Do, Access, Mark, Back, Fail, open_calls}

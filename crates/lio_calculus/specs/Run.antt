@@ -6,8 +6,8 @@ use Rattle.lio_labels.specs.Flow.{flows}
 use Rattle.lio_values.specs.declared.value.Content.{Content}
 use Rattle.lio_values.specs.declared.entry.Entry.{Entry}
 use Rattle.lio_values.specs.Erasure.{erase_entry}
-use Rattle.lio_calculus.specs.Step.{Configuration, Turn, step}
-use Rattle.lio_calculus.specs.Erased.{LowTurn, low, released_to}
+use Rattle.lio_calculus.specs.Step.{Configuration, step}
+use Rattle.lio_calculus.specs.Erased.{low, released_to}
 
 -- what a run gives: its journal, and its last configuration
 pub record Ran : Type 0 where

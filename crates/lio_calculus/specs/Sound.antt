@@ -1,11 +1,11 @@
 -- Well-formed configurations: what the first configuration of a script has and each turn keeps, part by part.
-use Rattle.std.specs.Prelude.{◌≡◌, ℕ, ◌+◌, ◌<◌, ◌≤◌, ◌^◌, Bool, true, false, ◌&&◌, IsTrue, List, [], ◌∷◌, length, All, Option, Some, None, is_some, ◌⊎◌}
+use Rattle.std.specs.Prelude.{◌≡◌, ℕ, ◌+◌, ◌<◌, ◌≤◌, ◌^◌, Bool, true, ◌&&◌, IsTrue, List, [], ◌∷◌, length, All, Some, None, is_some}
 use Rattle.std.specs.List.{list_all}
 use Rattle.lio_labels.specs.declared.label.Label.{Label}
 use Rattle.lio_labels.specs.Flow.{flows}
 use Rattle.lio_values.specs.declared.value.Handle.{Handle}
 use Rattle.lio_values.specs.declared.value.Plain.{Plain}
-use Rattle.lio_values.specs.declared.value.Plain.TheVariants.{Unit as unit, Flag, Whole, Bytes, Lab, Power, RefOf, VarOf, ResultOf, ChanOf}
+use Rattle.lio_values.specs.declared.value.Plain.TheVariants.{RefOf, VarOf, ResultOf, ChanOf}
 use Rattle.lio_values.specs.declared.fault.FaultKind.{FaultKind}
 use Rattle.lio_values.specs.declared.fault.FaultKind.TheVariants.{User}
 use Rattle.lio_values.specs.declared.value.Content.{Content}

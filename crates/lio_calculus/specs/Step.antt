@@ -1,6 +1,6 @@
 -- Configurations, and the small step of one task (the concurrent calculus of LIO, ICFP 2012). A step is a move and its effect: the move looks at
 -- the actor's cell and at most at its target's, and the effect changes these two alone.
-use Rattle.std.specs.Prelude.{ℕ, Bool, true, false, ◌&&◌, not, List, [], ◌∷◌, Option, Some, None, is_some, slice_set, slice_index_or, if◌then◌else◌, option_and_then, slice_get}
+use Rattle.std.specs.Prelude.{ℕ, Bool, true, false, ◌&&◌, not, List, [], Option, Some, None, is_some, slice_set, slice_index_or, if◌then◌else◌, option_and_then, slice_get}
 use Rattle.std.specs.Option.{option_map, option_map_or}
 use Rattle.lio_labels.specs.declared.label.Label.{Label}
 use Rattle.lio_labels.specs.Equality.{same_label}
@@ -9,12 +9,11 @@ use Rattle.lio_values.specs.declared.act.Act.{Act}
 use Rattle.lio_values.specs.declared.act.Act.TheVariants as act
 use Rattle.lio_values.specs.declared.act.Birth.{Birth}
 use Rattle.lio_values.specs.declared.act.Reply.{Reply}
-use Rattle.lio_values.specs.declared.act.Reply.TheVariants.{Done}
 use Rattle.lio_values.specs.declared.entry.Entry.{Entry}
 use Rattle.lio_syntax.specs.Statements.{Statements, Nothing, Procedure}
 use Rattle.lio_cells.specs.declared.state.State.{State}
 use Rattle.lio_cells.specs.declared.state.State.TheVariants.{Absent}
-use Rattle.lio_cells.specs.State.{Kind, is_of, label_of, ready, answer, state_after}
+use Rattle.lio_cells.specs.State.{Kind, is_absent, is_of, label_of, ready, answer, state_after}
 use Rattle.lio_control.specs.Environment.{bind_all}
 use Rattle.lio_calculus.specs.Task.{TaskState}
 use Rattle.lio_control.specs.Items.{enter}
@@ -56,12 +55,12 @@ has_label state label = option_map_or (λ l. same_label l label) (label_of state
 abbrev pub is_named : Kind → Handle → State → Bool
 is_named kind handle state = is_of kind state && has_label state handle.label
 
--- whether a cell is the one that a turn is to meet
+-- whether a cell is the one that a turn is to meet: a new node is placed only where nothing is
 abbrev pub is_met : Target → State → Bool
 is_met (Node kind handle) state = is_named kind handle state
-is_met (New number) state = true
+is_met (New number) state = is_absent state
 
--- the state that a turn meets: a cell that isn't the one that a handle names counts as absent
+-- the state that a turn meets: a cell that isn't the one that the turn is to meet counts as absent
 abbrev pub met : Target → State → State
 met target state = if is_met target state then state else Absent
 
@@ -135,7 +134,7 @@ met_after program label act cell = record { state = state_after cell.state act; 
 abbrev pub actor_after : TaskState → Move → Cell → Cell
 actor_after task move cell = record { state = state_after cell.state move.act; task = Some (gone_on task move.onward move.act move.reply) }
 
--- the configuration after the target of an act has met it; a cell that isn't the one that a handle names stays as it is
+-- the configuration after the target of an act has met it; a cell that isn't the one that the turn is to meet stays as it is
 abbrev pub target_after : Configuration → Label → Act → Option Target → Configuration
 target_after c label act None = c
 target_after c label act (Some target) =

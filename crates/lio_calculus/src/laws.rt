@@ -1,6 +1,7 @@
 //! The laws of the calculus. Each function does nothing: its contract is the law.
 ghost use Rattle.lio_calculus.specs.Afforded.{PlanAfforded};
 ghost use Rattle.lio_calculus.specs.Enabled.{LowTurnsWhereEnabled, SeenTaskIsEnabledBelow};
+ghost use Rattle.lio_calculus.specs.Handles.{VisitMeetsHandle};
 ghost use Rattle.lio_calculus.specs.Hiding.{PlanHidden};
 ghost use Rattle.lio_calculus.specs.Laws.{RunIsErasedRun, SeenTurnIsErasedTurn, TurnKeepsSoundness, UnseenTurnChangesNothing, UnseenTurnReleasesNothing};
 ghost use Rattle.lio_calculus.specs.Locality.{RefusedTurnChangesActorAlone, StepChangesTwoCells, StepLooksAtTwoCells, StepMakesTheSameCells};
@@ -23,6 +24,11 @@ pub fn plan_can_be_carried_out()
 /// In a well-formed configuration each visit meets a node that is there.
 pub fn visit_meets_node()
     ensures { VisitMeetsNode }
+{}
+
+/// Each visit meets its node by the handle that the task names ahead.
+pub fn visit_meets_handle()
+    ensures { VisitMeetsHandle }
 {}
 
 /// Each turn keeps a configuration well-formed.

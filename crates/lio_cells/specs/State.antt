@@ -11,6 +11,8 @@ use Rattle.lio_values.specs.declared.act.Reply.{Reply}
 use Rattle.lio_values.specs.declared.act.Reply.TheVariants.{Done, Got, Told}
 use Rattle.lio_cells.specs.declared.state.State.{State}
 use Rattle.lio_cells.specs.declared.state.State.TheVariants.{Absent, Ref, Var, Chan, Job}
+use Rattle.lio_cells.specs.declared.wish.Wish.{Wish}
+use Rattle.lio_cells.specs.declared.wish.Wish.TheVariants as wish
 
 -- the kinds of nodes that a handle can name
 pub data Kind : Type 0 where
@@ -120,6 +122,12 @@ ready state (act.Raise op label) = false
 ready state (act.Lower label) = false
 ready state (act.Release source target power content) = false
 ready state (act.Ended content) = false
+
+-- whether a node gives what a task at its access wishes for: a full variable, an empty one, or the result of a task
+abbrev pub grants : State → Wish → Bool
+grants state wish.Take = is_some (full_with state)
+grants state wish.Put = is_empty state
+grants state wish.Wait = is_some (result_of state)
 
 -- what a node answers an act
 unfoldable pub answer : State → Act → Reply

@@ -9,6 +9,8 @@ mod reserve;
 mod room;
 mod served;
 mod state;
+mod wish;
 
 pub use node::Node;
 pub use state::State;
+pub use wish::Wish;

@@ -1,11 +1,12 @@
 //! Nodes.
 ghost use Rattle.std.specs.Prelude.{◌≡◌, IfOk, IsTrue, OnOk, OnErr};
-ghost use Rattle.lio_cells.specs.State.{answer, ready, state_after};
+ghost use Rattle.lio_cells.specs.State.{answer, grants, ready, state_after};
 ghost use Rattle.lio_cells.specs.Room.{room_for};
 ghost use Rattle.lio_cells.specs.Node.{NodeState, node_of, takes_part};
 
 use crate::room::Room;
 use crate::state::State;
+use crate::wish::Wish;
 use crate::{ready, reply, reserve, served};
 use lio_clauses::NoMemory;
 use lio_values::{Act, Reply, Text};
@@ -65,6 +66,13 @@ impl Node {
         ensures { result ≡ ready self.now.state act.now }
     {
         ready::ready(&self.state, act)
+    }
+
+    /// Whether it gives what a task at its access wishes for.
+    pub fn grants(&self, wish: Wish) -> bool
+        ensures { result ≡ grants self.now.state wish }
+    {
+        ready::grants(&self.state, wish)
     }
 
     /// What it answers the act.

@@ -1,8 +1,9 @@
 //! What a node is, and which acts it is ready for.
 ghost use Rattle.std.specs.Prelude.{◌≡◌, is_some};
-ghost use Rattle.lio_cells.specs.State.{full_with, is_absent, is_channel, is_empty, is_job, is_reference, is_variable, ready, result_of};
+ghost use Rattle.lio_cells.specs.State.{full_with, grants, is_absent, is_channel, is_empty, is_job, is_reference, is_variable, ready, result_of};
 
 use crate::state::State;
+use crate::wish::Wish;
 use lio_values::Act;
 
 /// Whether nothing is there.
@@ -101,5 +102,16 @@ pub fn ready(state: &State, act: &Act) -> bool
         Act::Lower(_) => false,
         Act::Release(_, _, _, _) => false,
         Act::Ended(_) => false,
+    }
+}
+
+/// Whether a node of this state gives what is wished for.
+pub fn grants(state: &State, wish: Wish) -> bool
+    ensures { result ≡ grants state.now wish }
+{
+    match wish {
+        Wish::Take => is_full(state),
+        Wish::Put => is_empty(state),
+        Wish::Wait => has_ended(state),
     }
 }

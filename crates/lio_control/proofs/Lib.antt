@@ -2,3 +2,4 @@ pub mod BlockLemmas
 pub mod PartLemmas
 pub mod EnvironmentLemmas
 pub mod ContinuationLemmas
+pub mod HidingLemmas

@@ -6,3 +6,4 @@ pub mod Continuation
 pub mod Front
 pub mod Places
 pub mod Parts
+pub mod Hiding

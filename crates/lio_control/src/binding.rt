@@ -2,6 +2,7 @@
 ghost use Rattle.std.specs.Prelude.{◌≡◌, IfOk};
 
 use lio_clauses::NoMemory;
+use lio_labels::Label;
 use lio_values::{Text, Value};
 use std::alloc::Global;
 
@@ -13,12 +14,23 @@ pub struct Binding {
 }
 
 impl Binding {
+    ghost use Rattle.lio_control.specs.Hiding.{hide_binding};
+
     /// An equal binding.
     pub(crate) fn copy(&self, alloc: Global) -> Result<Binding, NoMemory>
         ensures { IfOk result (λ binding. binding ≡ self.now) }
     {
         let name = self.name.copy(alloc)?;
         let value = self.value.copy(alloc)?;
+        Ok(Binding { name, value })
+    }
+
+    /// The binding as an observer sees it.
+    pub(crate) fn erase(&self, alloc: Global, observer: &Label) -> Result<Binding, NoMemory>
+        ensures { IfOk result (λ binding. binding ≡ hide_binding observer.now self.now) }
+    {
+        let name = self.name.copy(alloc)?;
+        let value = self.value.erase(alloc, observer)?;
         Ok(Binding { name, value })
     }
 }

@@ -5,11 +5,13 @@ ghost use Rattle.lio_syntax.specs.Lines.{script_lines};
 ghost use Rattle.lio_control.specs.Items.{enter, open_calls};
 ghost use Rattle.lio_control.specs.Continuation.{block_at, place_of};
 ghost use Rattle.lio_control.specs.Front.{IsFront};
+ghost use Rattle.lio_control.specs.Hiding.{hide_place};
 
 use crate::environment::Environment;
 use crate::frame::{Call, Frame};
 use crate::front::Front;
 use lio_clauses::NoMemory;
+use lio_labels::Label;
 use lio_syntax::Script;
 use std::alloc::Global;
 
@@ -83,6 +85,18 @@ impl Continuation {
             calls.push(call.copy(alloc)?)?;
         }
         let frame = self.frame.copy(alloc)?;
+        Ok(Continuation { calls, frame })
+    }
+
+    /// The continuation as an observer sees it: each value in it is erased. Source: the erasure of the concurrent calculus of LIO, ICFP 2012.
+    pub fn erase(&self, alloc: Global, observer: &Label) -> Result<Continuation, NoMemory>
+        ensures { IfOk result (λ continuation. (lines : List Line) → place_of lines continuation ≡ hide_place observer.now (place_of lines self.now)) }
+    {
+        let mut calls = Vec::new(alloc);
+        for call in &self.calls {
+            calls.push(call.erase(alloc, observer)?)?;
+        }
+        let frame = self.frame.erase(alloc, observer)?;
         Ok(Continuation { calls, frame })
     }
 }

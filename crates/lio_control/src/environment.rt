@@ -3,9 +3,11 @@ ghost use Rattle.std.specs.Prelude.{◌≡◌, [], length, IfOk, IsOk, OnOk, OnE
 ghost use Rattle.std.specs.Option.{option_copied};
 ghost use Rattle.lio_control.specs.Environment.{bind, bind_all, value_of};
 ghost use Rattle.lio_control.specs.Bound.{IsBoundAt, IsBoundBefore};
+ghost use Rattle.lio_control.specs.Hiding.{hide_environment};
 
 use crate::binding::Binding;
 use lio_clauses::NoMemory;
+use lio_labels::Label;
 use lio_values::{Text, Value};
 use std::alloc::Global;
 use std::cmp::Ordering;
@@ -126,6 +128,17 @@ impl Environment {
         let mut bindings = Vec::new(alloc);
         for binding in &self.bindings {
             bindings.push(binding.copy(alloc)?)?;
+        }
+        Ok(Environment { bindings })
+    }
+
+    /// The environment as an observer sees it: its values are erased.
+    pub(crate) fn erase(&self, alloc: Global, observer: &Label) -> Result<Environment, NoMemory>
+        ensures { IfOk result (λ environment. environment ≡ hide_environment observer.now self.now) }
+    {
+        let mut bindings = Vec::new(alloc);
+        for binding in &self.bindings {
+            bindings.push(binding.erase(alloc, observer)?)?;
         }
         Ok(Environment { bindings })
     }

@@ -1,5 +1,5 @@
 //! Frames: what a procedure's names are bound to, and what it still has to do.
-ghost use Rattle.std.specs.Prelude.{◌≡◌, ◌+◌, ◌<◌, ◌≤◌, ◌++◌, List, [], ◌∷◌, true, false, MatchOption, MatchBool, IfOk, IfErr, OnOk, OnErr, vec_len, vec_capacity};
+ghost use Rattle.std.specs.Prelude.{◌≡◌, ◌+◌, ◌<◌, ◌≤◌, ◌++◌, List, [], ◌∷◌, map, true, false, MatchOption, MatchBool, IfOk, IfErr, OnOk, OnErr, vec_len, vec_capacity};
 ghost use Rattle.lio_lines.specs.declared.line.Line.{Line};
 ghost use Rattle.lio_syntax.specs.Lines.{script_lines};
 ghost use Rattle.lio_control.specs.Environment.{Environment as Bindings};
@@ -7,6 +7,7 @@ ghost use Rattle.lio_control.specs.Items.{Item, rest_of};
 ghost use Rattle.lio_control.specs.Throwing.{thrown};
 ghost use Rattle.lio_control.specs.Continuation.{call_over, frame_over};
 ghost use Rattle.lio_control.specs.Front.{IsFront, IsOwn};
+ghost use Rattle.lio_control.specs.Hiding.{HidesFrame, hide_item};
 ghost use Rattle.lio_control.specs.Parts.{IsOutside, IsRest, SaysFirst, SameFrame};
 
 use crate::environment::Environment;
@@ -14,6 +15,7 @@ use crate::faults::{code_of, payload_of};
 use crate::front::Front;
 use crate::part::{Left, Part};
 use lio_clauses::NoMemory;
+use lio_labels::Label;
 use lio_syntax::Script;
 use lio_values::{Fault, Plain, Text, Value};
 use std::alloc::Global;
@@ -179,16 +181,29 @@ impl Frame {
         self.parts.clear();
     }
 
-    /// An equal frame.
-    pub(crate) fn copy(&self, alloc: Global) -> Result<Frame, NoMemory>
-        ensures { IfOk result (SameFrame self.now) }
+    /// A frame with equal parts, in another environment.
+    fn within(&self, alloc: Global, environment: Environment) -> Result<Frame, NoMemory>
+        ensures { IfOk result (λ frame. (frame.environment ≡ environment) × (frame.parts.items ≡ self.now.parts.items)) }
     {
-        let environment = self.environment.copy(alloc)?;
         let mut parts = Vec::new(alloc);
         for part in &self.parts {
             parts.push(part.copy(alloc)?)?;
         }
         Ok(Frame { environment, parts })
+    }
+
+    /// An equal frame.
+    pub(crate) fn copy(&self, alloc: Global) -> Result<Frame, NoMemory>
+        ensures { IfOk result (SameFrame self.now) }
+    {
+        self.within(alloc, self.environment.copy(alloc)?)
+    }
+
+    /// The frame as an observer sees it: its values are erased.
+    pub(crate) fn erase(&self, alloc: Global, observer: &Label) -> Result<Frame, NoMemory>
+        ensures { IfOk result (HidesFrame observer.now self.now) }
+    {
+        self.within(alloc, self.environment.erase(alloc, observer)?)
     }
 }
 
@@ -198,6 +213,15 @@ impl Call {
         ensures { IfOk result (λ call. (lines : List Line) (items : List Item) → call_over lines call items ≡ call_over lines self.now items) }
     {
         let caller = self.caller.copy(alloc)?;
+        let name = self.name.copy(alloc)?;
+        Ok(Call { caller, name })
+    }
+
+    /// The call as an observer sees it: the values of its frame are erased.
+    pub(crate) fn erase(&self, alloc: Global, observer: &Label) -> Result<Call, NoMemory>
+        ensures { IfOk result (λ call. (lines : List Line) (items : List Item) → call_over lines call (map (hide_item observer.now) items) ≡ map (hide_item observer.now) (call_over lines self.now items)) }
+    {
+        let caller = self.caller.erase(alloc, observer)?;
         let name = self.name.copy(alloc)?;
         Ok(Call { caller, name })
     }

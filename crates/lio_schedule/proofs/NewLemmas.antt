@@ -1,5 +1,5 @@
 -- Who is born in a turn of a well-formed configuration stands where nothing was, and tasks stay.
-use Rattle.std.proofs.Common.{◌≡◌, ◌∙◌, refl, sym, ap, subst, ℕ, ◌<◌, ◌≤◌, inl, inr, true, ◌&&◌, not, List, length, Option, Some, None, is_some, true≢false, arith}
+use Rattle.std.proofs.Common.{◌≡◌, ◌∙◌, refl, sym, ap, subst, ℕ, ◌<◌, ◌≤◌, inl, inr, true, ◌&&◌, not, if◌then◌else◌, List, length, Option, Some, None, is_some, true≢false, arith}
 use Rattle.std.specs.Option.{option_map}
 use Rattle.std.proofs.lemmas.List.{get_or-set_same, get_or-set_other}
 use Rattle.lio_values.specs.declared.act.Act.{Act}
@@ -9,7 +9,7 @@ use Rattle.lio_cells.specs.State.{ready, answer}
 use Rattle.lio_calculus.specs.Task.{TaskState}
 use Rattle.lio_calculus.specs.Going.{Onward, Fork, Spawn}
 use Rattle.lio_calculus.specs.Plan.{Plan, Over, Own, Visit, Target, Node, New, plan}
-use Rattle.lio_calculus.specs.Step.{Cell, Configuration, blank, cell_at, with_cell, number_of, met, waits, child_of, born, task_after, met_after, Move, move_of, actor_after, target_after, after, Turn, step}
+use Rattle.lio_calculus.specs.Step.{Cell, Configuration, blank, cell_at, with_cell, number_of, is_met, met, waits, child_of, born, task_after, met_after, Move, move_of, actor_after, target_after, after, Turn, step}
 use Rattle.lio_calculus.specs.Sound.{IsTaskOf, IsSound}
 use Rattle.lio_calculus.proofs.InvisibleLemmas.{visit-move}
 use Rattle.lio_calculus.proofs.PlanKept.{Suits, Kept, KeptPlan, NewSuits, is_visit, plan-kept}
@@ -34,7 +34,8 @@ child-new c k task asked child move sound is room births acts meets =
     let cell : Cell = met_after c.program task.label asked (cell_at c t) in
     let between : Configuration = target_after c task.label move.act move.target in
     let met : between ≡ with_cell c t cell =
-    ap (λ (a : Act). target_after c task.label a move.target) acts ∙ ap (λ (m : Option Target). target_after c task.label asked m) meets in
+    ap (λ (a : Act). target_after c task.label a move.target) acts ∙ ap (λ (m : Option Target). target_after c task.label asked m) meets
+    ∙ ap (λ (x : Cell). if is_met (New t) x.state then with_cell c t cell else c) empty in
     let at_t : cell_at between t ≡ cell = ap (λ (d : Configuration). cell_at d t) met ∙ get_or-set_same c.cells t cell blank within in
     let stays : cell_at (after c k task move) t ≡ cell_at between t = get_or-set_other between.cells k t (actor_after task move (cell_at between k)) blank differ in
     let has : (cell_at (after c k task move) t).task ≡ Some child = ap (λ (x : Cell). x.task) (stays ∙ at_t) ∙ ap (λ (x : Cell). task_after x.task (born c.program task.label asked)) empty ∙ births in
@@ -84,7 +85,7 @@ move-born c k task (Visit asked (Node kind handle) onward) move sound is kept mo
     let same : own ≡ move = visit-move asked (Node kind handle) onward (waits asked && not (ready s asked)) own move moves in
     absurd (visit-born asked handle.number n kept.1.0 (subst (λ (m : Move). Among n (born_at m.act (option_map number_of m.target))) (sym same) among))
 move-born c k task (Visit asked (New number) onward) move sound is kept moves n among =
-    let s = (cell_at c number).state in
+    let s = (met (New number) (cell_at c number).state) in
     let own : Move = record { act = asked; target = Some (New number); reply = answer s asked; onward = onward } in
     let same : own ≡ move = visit-move asked (New number) onward (waits asked && not (ready s asked)) own move moves in
     new-born c k task asked number onward move sound is kept.0 kept.1.0 kept.1.1 (sym (ap (λ (m : Move). m.act) same)) (sym (ap (λ (m : Move). m.target) same)) n

@@ -4,14 +4,12 @@ ghost use Rattle.lio_labels.specs.Flow.{flows};
 ghost use Rattle.lio_calculus.specs.Erased.{released_to};
 ghost use Rattle.lio_calculus.specs.Run as spec;
 
+use crate::contents::Contents;
 use lio_clauses::NoMemory;
 use lio_events::Journal;
 use lio_labels::Label;
-use lio_values::{Act, Content, Entry, List, Reply};
+use lio_values::{Act, Content, Entry, Reply};
 use std::alloc::Global;
-
-/// A list of contents.
-pub type Contents = List<Content>;
 
 /// Whether a release from one label to another comes to an observer: from a label that doesn't flow to the observer's to one that does.
 fn comes_to(source: &Label, target: &Label, observer: &Label) -> bool

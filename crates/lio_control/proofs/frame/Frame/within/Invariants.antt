@@ -1,5 +1,5 @@
 use Rattle.std.proofs.Common.{◌≡◌, take}
-use Rattle.lio_control.proofs.frame.Frame.copy.Given as goal
+use Rattle.lio_control.proofs.frame.Frame.within.Given as goal
 
 -- the parts so far are copied
 abbrev pub invariant-loop-part : goal.invariant-loop-part

@@ -1,0 +1,60 @@
+//! Lists of contents.
+ghost use Rattle.std.specs.Prelude.{◌≡◌, ◌++◌, ◌∷◌, [], OnOk, OnErr, MatchOption};
+
+use lio_clauses::NoMemory;
+use lio_values::Content;
+use std::alloc::Global;
+use std::marker::Model;
+
+/// A list of contents, which keeps the allocator that it was made with. Its front can be taken out.
+#[derive(Drop)]
+pub struct Contents {
+    items: Vec<Content>,
+}
+
+impl Model for Contents {
+    ghost use Rattle.std.specs.Prelude.{List};
+    ghost use Rattle.lio_values.specs.declared.value.Content.{Content};
+
+    ghost Value = { List Content };
+
+    ghost view = { λ contents. contents.items.items };
+}
+
+impl Contents {
+    /// The empty list.
+    pub fn new(alloc: Global) -> Contents
+        ensures { result ≡ [] }
+    {
+        Contents {
+            items: Vec::new(alloc),
+        }
+    }
+
+    /// Puts a content last. After a refusal the list is as before.
+    pub fn push(&mut self, content: Content) -> Result<(), NoMemory>
+        ensures ok { OnOk result (self.new ≡ self.old ++ content ∷ []) }
+        ensures err { OnErr result (self.new ≡ self.old) }
+    {
+        self.items.push(content)?;
+        Ok(())
+    }
+
+    /// The contents in order.
+    pub fn as_slice(&self) -> &[Content]
+        ensures { result.now ≡ self.now }
+    {
+        self.items.as_slice()
+    }
+
+    /// Takes the first content out, if there is one. It takes no memory.
+    pub fn take_front(&mut self) -> Option<Content>
+        ensures { MatchOption result ((self.old ≡ []) × (self.new ≡ [])) (λ content. self.old ≡ content ∷ self.new) }
+    {
+        if self.items.is_empty() {
+            None
+        } else {
+            Some(self.items.remove(0))
+        }
+    }
+}
