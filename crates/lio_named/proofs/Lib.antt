@@ -8,3 +8,4 @@ pub mod Nodes
 pub mod Turns
 pub mod Literals
 pub mod Starts
+pub mod LowTurns

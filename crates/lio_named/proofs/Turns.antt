@@ -36,9 +36,9 @@ child_named names program label birth p l b = record {
 }
 
 -- a cell: its node, and its task
-record IsCellNamed (names : List (List ℕ)) (cell : Cell) : Type 0 where
-  state : IsStateNamed names cell.state
-  task : (x : TaskState) → cell.task ≡ Some x → IsTaskNamed names x
+pub record IsCellNamed (names : List (List ℕ)) (cell : Cell) : Type 0 where
+  pub state : IsStateNamed names cell.state
+  pub task : (x : TaskState) → cell.task ≡ Some x → IsTaskNamed names x
 
 born_named : (names : List (List ℕ)) (program : Program) (label : Label) (asked : Act) (x : TaskState) → IsScriptNamed names program.procedures → AreNamed names label → IsActNamed names asked → born program label asked ≡ Some x → IsTaskNamed names x
 born_named names program label (act.Fork birth) x p l a e = let is : child_of program label birth ≡ x = cc in subst (IsTaskNamed names) is (child_named names program label birth p l a)
@@ -65,13 +65,13 @@ cells_each Q (first ∷ cells) (suc n) cell each q zero = each 0
 cells_each Q (first ∷ cells) (suc n) cell each q (suc m) = cells_each Q cells n cell (λ i. each (suc i)) q m
 
 -- a move
-record IsMoveNamed (names : List (List ℕ)) (move : Move) : Type 0 where
-  asked : IsActNamed names move.act
-  raise : IsRaiseOf move.act
-  reply : IsReplyNamed names move.reply
-  onward : IsOnwardNamed names move.onward
+pub record IsMoveNamed (names : List (List ℕ)) (move : Move) : Type 0 where
+  pub asked : IsActNamed names move.act
+  pub raise : IsRaiseOf move.act
+  pub reply : IsReplyNamed names move.reply
+  pub onward : IsOnwardNamed names move.onward
 
-move_named : (names : List (List ℕ)) (c : Configuration) (p : Plan) (move : Move) → ((n : ℕ) → IsStateNamed names (cell_at c n).state) → IsPlanNamed names p → move_of (cell_at c) p ≡ Some move → IsMoveNamed names move
+pub move_named : (names : List (List ℕ)) (c : Configuration) (p : Plan) (move : Move) → ((n : ℕ) → IsStateNamed names (cell_at c n).state) → IsPlanNamed names p → move_of (cell_at c) p ≡ Some move → IsMoveNamed names move
 move_named names c Over move nodes named moves = absurd (over-moves c move moves)
 move_named names c (Own asked reply onward) move nodes named moves =
     subst (IsMoveNamed names) (own-moves c asked reply onward move moves) (record { asked = named.0; raise = named.1; reply = named.2; onward = named.3 })
@@ -97,7 +97,7 @@ target_named names c label asked (Some target) p l a each n = by (is_met target 
     by true = cells_each (IsCellNamed names) c.cells (number_of target) _ each (met_named names c.program label asked (cell_at c (number_of target)) p l a (each (number_of target))) n
     by false = each n
 
-after_named : (names : List (List ℕ)) (c : Configuration) (k : ℕ) (task : TaskState) (move : Move) → IsScriptNamed names c.program.procedures → ((n : ℕ) → IsCellNamed names (cell_at c n)) → IsTaskNamed names task → IsMoveNamed names move
+pub after_named : (names : List (List ℕ)) (c : Configuration) (k : ℕ) (task : TaskState) (move : Move) → IsScriptNamed names c.program.procedures → ((n : ℕ) → IsCellNamed names (cell_at c n)) → IsTaskNamed names task → IsMoveNamed names move
     → (n : ℕ) → IsCellNamed names (cell_at (after c k task move) n)
 after_named names c k task move p each t m =
     let between : Configuration = target_after c task.label move.act move.target in
@@ -111,7 +111,7 @@ after_named names c k task move p each t m =
     some {y} named x e = let is : y ≡ x = cc in subst (IsTaskNamed names) is named
 
 -- the program stays
-program_stays : (c : Configuration) (k : ℕ) (task : TaskState) (move : Move) → (after c k task move).program ≡ c.program
+pub program_stays : (c : Configuration) (k : ℕ) (task : TaskState) (move : Move) → (after c k task move).program ≡ c.program
 program_stays c k task move = by move.target
   where
     met_stays : (n : ℕ) (cell : Cell) (b : Bool) → (if b then with_cell c n cell else c).program ≡ c.program

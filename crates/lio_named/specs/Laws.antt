@@ -1,9 +1,13 @@
 -- The laws of names: where only principals with names are named, turns and runs name no other one, and their entries can be printed.
 use Rattle.std.specs.Prelude.{◌≡◌, ℕ, List, All, Some}
+use Rattle.lio_labels.specs.declared.label.Label.{Label}
+use Rattle.lio_values.specs.declared.value.Content.{Content}
+use Rattle.lio_events.specs.Named.{IsContentNamed}
 use Rattle.lio_events.specs.Printable.{IsPrintable}
 use Rattle.lio_syntax.specs.Statements.{Procedure}
 use Rattle.lio_syntax.specs.Verdict.{IsOver}
 use Rattle.lio_calculus.specs.Step.{Configuration, Turn, step}
+use Rattle.lio_calculus.specs.Erased.{LowTurn, erase, low}
 use Rattle.lio_calculus.specs.Run.{Ran, run}
 use Rattle.lio_policy.specs.Policy.{PolicyParts, IsPolicy}
 use Rattle.lio_start.specs.Start.{start_of}
@@ -28,6 +32,21 @@ pub record IsRunNamed (names : List (List ℕ)) (ran : Ran) : Type 0 where
 abbrev pub RunNamesOnly : Type 0
 RunNamesOnly = (names : List (List ℕ)) (ticket : ℕ) (c : Configuration) (ks : List ℕ) (ran : Ran)
     → NamesOnly names c → run ticket c ks ≡ Some ran → IsRunNamed names ran
+
+-- what an observer sees of a configuration names no more principals than the configuration
+abbrev pub ErasedNamesOnly : Type 0
+ErasedNamesOnly = (names : List (List ℕ)) (observer : Label) (c : Configuration) → NamesOnly names c → NamesOnly names (erase observer c)
+
+-- what a turn of the erased calculus shows can be printed, and the configuration after it and the released contents that are left name only principals that have names
+pub record IsLowTurnNamed (names : List (List ℕ)) (turn : LowTurn) : Type 0 where
+  pub entry : IsPrintable names turn.entry
+  pub next : NamesOnly names turn.next
+  pub left : All (IsContentNamed names) turn.left
+
+-- a turn of the erased calculus from a configuration, and with released contents, that name only principals that have names
+abbrev pub LowTurnNamesOnly : Type 0
+LowTurnNamesOnly = (names : List (List ℕ)) (observer : Label) (ticket : ℕ) (c : Configuration) (k : ℕ) (contents : List Content) (turn : LowTurn)
+    → NamesOnly names c → All (IsContentNamed names) contents → low observer ticket c k contents ≡ Some turn → IsLowTurnNamed names turn
 
 -- the first configuration of a policy and a script over its principals, over any texts of the inputs
 abbrev pub StartNamesOnly : Type 0

@@ -1,9 +1,10 @@
 -- The laws.
-use Rattle.lio_start.specs.Laws.{EachTaskFits, FaultIsOfFirst, LiteralsAreSaid, StartIsSound, CellsStandInOrder, EachTaskBegins, TextsAreShort}
+use Rattle.lio_start.specs.Laws.{EachTaskFits, FaultIsOfFirst, LiteralsAreSaid, StartIsSound, StartIsWellFormed, CellsStandInOrder, EachTaskBegins, TextsAreShort}
 use Rattle.lio_start.proofs.FitsLemmas as of_fits
 use Rattle.lio_start.proofs.LiteralLemmas as of_literals
 use Rattle.lio_start.proofs.PlaceLemmas as of_cells
 use Rattle.lio_start.proofs.SoundLemmas as of_start
+use Rattle.lio_start.proofs.WellFormedLemmas as of_parts
 
 pub each_task_fits : EachTaskFits
 each_task_fits = of_fits.each_task_fits
@@ -16,6 +17,9 @@ literals_are_said = of_literals.literals_are_said
 
 pub start_is_sound : StartIsSound
 start_is_sound = of_start.start_is_sound
+
+pub start_is_well_formed : StartIsWellFormed
+start_is_well_formed = of_parts.start_is_well_formed
 
 pub cells_stand_in_order : CellsStandInOrder
 cells_stand_in_order = of_cells.cells_stand_in_order

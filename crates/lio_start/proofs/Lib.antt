@@ -2,5 +2,6 @@ pub mod FitsLemmas
 pub mod PlaceLemmas
 pub mod LiteralLemmas
 pub mod SoundLemmas
+pub mod WellFormedLemmas
 pub mod LawLemmas
 pub mod MakingLemmas

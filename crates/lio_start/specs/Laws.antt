@@ -13,6 +13,7 @@ use Rattle.lio_control.specs.Items.{enter}
 use Rattle.lio_calculus.specs.Task.{TaskState}
 use Rattle.lio_calculus.specs.Step.{blank, cell_at}
 use Rattle.lio_calculus.specs.Sound.{block_says, EachBound, IsTaskOf, IsSound}
+use Rattle.lio_wellformed.specs.WellFormed.{IsWellFormed}
 use Rattle.lio_policy.specs.Policy.{PolicyParts, IsPolicy}
 use Rattle.lio_policy.specs.declared.policy.FileEntry.{FileEntry}
 use Rattle.lio_policy.specs.declared.policy.TaskEntry.{TaskEntry}
@@ -46,6 +47,10 @@ LiteralsAreSaid = (script : List Procedure) → kept.SaysLiterals (script_lines 
 -- the first configuration of a policy and a script is well-formed, whatever the inputs are
 abbrev pub StartIsSound : Type 0
 StartIsSound = (policy : PolicyParts) (script : List Procedure) (inputs : List (List ℕ)) → IsPolicy policy → SaysLiterals script → IsSound (start_of policy script inputs)
+
+-- and so it is with all its parts, where the script's lines break no rule
+abbrev pub StartIsWellFormed : Type 0
+StartIsWellFormed = (policy : PolicyParts) (script : List Procedure) (inputs : List (List ℕ)) → IsPolicy policy → SaysLiterals script → kept.KeepsRules (script_lines script) → IsWellFormed (start_of policy script inputs)
 
 -- Which cell stands at which number: the channels and then the jobs of the tasks, both in the policy's order, and behind them nothing. Each task's range begins behind those of the
 -- tasks before it, and the last ends where the configuration does.

@@ -1,5 +1,6 @@
 //! The first configuration of a policy and a script.
 ghost use Rattle.std.specs.Prelude.{◌≡◌, IfOk, None, length};
+ghost use Rattle.lio_wellformed.specs.WellFormed.{IsWellFormed};
 ghost use Rattle.lio_task.specs.Configuration.{configuration_of};
 ghost use Rattle.lio_start.specs.Fits as spec;
 ghost use Rattle.lio_start.specs.Start.{start_of};
@@ -8,6 +9,7 @@ use crate::holders::{add_channels, add_free, add_jobs, cells_in_all};
 use crate::inputs::sealed_inputs;
 use lio_clauses::NoMemory;
 use lio_policy::Policy;
+use lio_policy::laws::policy_keeps_rules;
 use lio_syntax::Script;
 use lio_task::Config;
 use lio_values::Text;
@@ -22,8 +24,11 @@ pub fn start(
 ) -> Result<Config, NoMemory>
     requires fits { spec.fits policy.now.tasks script.now ≡ None }
     requires inputs { length texts.now ≡ length policy.now.inputs }
-    ensures { IfOk result (λ config. configuration_of script.now config ≡ start_of policy.now script.now texts.now) }
+    ensures config { IfOk result (λ config. configuration_of script.now config ≡ start_of policy.now script.now texts.now) }
+    ensures well_formed { IfOk result (λ config. IsWellFormed (configuration_of script.now config)) }
 {
+    policy_keeps_rules(policy);
+    let _ = script.lines();
     let channels = policy.channels.as_slice();
     let tasks = policy.tasks.as_slice();
     let first = (channels.len() + tasks.len()) as u32;

@@ -1,5 +1,5 @@
 //! The laws of the start. Each function does nothing: its contract is the law.
-ghost use Rattle.lio_start.specs.Laws.{CellsStandInOrder, EachTaskBegins, EachTaskFits, FaultIsOfFirst, LiteralsAreSaid, StartIsSound, TextsAreShort};
+ghost use Rattle.lio_start.specs.Laws.{CellsStandInOrder, EachTaskBegins, EachTaskFits, FaultIsOfFirst, LiteralsAreSaid, StartIsSound, StartIsWellFormed, TextsAreShort};
 
 /// Nothing is wrong exactly where each task can begin.
 #[tactic(auto, using(crate::proofs::LawLemmas::each_task_fits))]
@@ -22,6 +22,11 @@ pub fn literals_are_said()
 /// Each first configuration is well-formed.
 pub fn start_is_sound()
     ensures { StartIsSound }
+{}
+
+/// With all its parts, where the script's lines break no rule.
+pub fn start_is_well_formed()
+    ensures { StartIsWellFormed }
 {}
 
 /// The channels, the jobs of the tasks and the tasks' ranges have their numbers in the policy's order.

@@ -1,0 +1,14 @@
+-- Well-formed configurations, with all their parts: what the first configuration of a script has and each turn keeps (the configurations are those of LIO, ICFP 2012).
+use Rattle.lio_calculus.specs.Step.{Configuration}
+use Rattle.lio_calculus.specs.Sound.{IsSound}
+use Rattle.lio_wellformed.specs.Calls.{CallsFit}
+use Rattle.lio_wellformed.specs.Turns.{TurnsAreFew}
+
+-- A configuration is well-formed with all its parts.
+pub record IsWellFormed (c : Configuration) : Type 0 where
+  -- the parts that noninterference stands on
+  pub sound : IsSound c
+  -- each call is of a procedure of the program, with as many arguments as this has parameters
+  pub calls : CallsFit c
+  -- the turns left of all tasks add up to at most 2^40
+  pub turns : TurnsAreFew c
