@@ -131,6 +131,47 @@ impl Machine {
         }
     }
 
+    /// Whether task `k` can take a turn: it is there, hasn't ended, and has no turns left or stands at no access whose node isn't ready. It takes no memory.
+    pub fn can_move(&self, k: u32) -> bool
+        ensures { result ≡ can (machine_of self.now).configuration k }
+    {
+        self.config.can_move(&self.script, k)
+    }
+
+    /// Takes the turn of task `k`, and answers its entry; its ticket is the number of turns taken before it. After a refusal the machine is as before.
+    pub fn turn(&mut self, alloc: Global, k: u32) -> Result<Entry, TurnFault>
+        ensures ok { IfOk result (HasTaken (machine_of self.old) (machine_of self.new) k) }
+        ensures fault { IfErr result (Stays (machine_of self.old).configuration k) }
+        ensures err { OnErr result (machine_of self.new ≡ machine_of self.old) }
+    {
+        let ticket = self.ticket();
+        let entry = match self.config.next_entry(alloc, &self.script, k, ticket) {
+            Ok(entry) => entry,
+            Err(StepFault::Still(k)) => return Err(TurnFault::Still(k)),
+            Err(StepFault::NoMemory) => return Err(TurnFault::NoMemory),
+        };
+        match self.advance(alloc, k) {
+            Ok(()) => Ok(entry),
+            Err(fault) => {
+                drop(entry);
+                Err(fault)
+            }
+        }
+    }
+
+    /// Makes room in the journal for the turns that are left, where memory for all of them can be had.
+    fn make_room(&mut self)
+        ensures { machine_of self.new ≡ machine_of self.old }
+    {
+        let mut turns = 0usize;
+        for holder in &self.config.holders {
+            if let Some(task) = &holder.task {
+                turns = turns.saturating_add(task.turns_left() as usize);
+            }
+        }
+        let _ = self.entries.try_reserve(turns);
+    }
+
     /// Lets each task of the order, as it stands, take a turn if it can, and answers how many did. After want of memory the turns already taken stay.
     pub fn round(&mut self, alloc: Global) -> Result<u32, NoMemory>
         ensures moved { IfOk result (λ n. n ≡ length (round stepped (machine_of self.old).order (machine_of self.old).configuration).moved) }
@@ -151,14 +192,24 @@ impl Machine {
         Ok(moved)
     }
 
-    /// Rounds until one moves nothing. After want of memory the turns already taken stay.
-    pub fn run(&mut self, alloc: Global) -> Result<(), NoMemory>
+    /// Rounds until one moves nothing.
+    fn run_rounds(&mut self, alloc: Global) -> Result<(), NoMemory>
         ensures ok { OnOk result (HasRun (machine_of self.old) (machine_of self.new) (rounds_from (machine_of self.old).order (machine_of self.old).configuration)) }
         ensures complete { OnOk result (IsComplete (machine_of self.new).configuration) }
         ensures err { OnErr result ((ks : List ℕ) × HasRun (machine_of self.old) (machine_of self.new) ks) }
     {
         while self.round(alloc)? > 0 {}
         Ok(())
+    }
+
+    /// Rounds until one moves nothing. After want of memory the turns already taken stay.
+    pub fn run(&mut self, alloc: Global) -> Result<(), NoMemory>
+        ensures ok { OnOk result (HasRun (machine_of self.old) (machine_of self.new) (rounds_from (machine_of self.old).order (machine_of self.old).configuration)) }
+        ensures complete { OnOk result (IsComplete (machine_of self.new).configuration) }
+        ensures err { OnErr result ((ks : List ℕ) × HasRun (machine_of self.old) (machine_of self.new) ks) }
+    {
+        self.make_room();
+        self.run_rounds(alloc)
     }
 
     /// The journal of the turns taken, and the configuration after them.

@@ -9,6 +9,8 @@ use Rattle.lio_calculus.specs.Run as calculus
 use Rattle.lio_calculus.proofs.LawLemmas.{run_is_erased_run}
 use Rattle.lio_schedule.specs.Rounds.{rounds}
 use Rattle.lio_schedule.proofs.LowEndLemmas.{rounds_are_erased_rounds}
+use Rattle.lio_wellformed.specs.WellFormed.{IsWellFormed}
+use Rattle.lio_wellformed.proofs.Turns.{run_keeps_well_formed}
 use Rattle.lio_events.specs.Printable.{IsPrintable}
 use Rattle.lio_syntax.specs.Verdict.{IsOver}
 use Rattle.lio_policy.specs.Policy.{PolicyParts, IsPolicy}
@@ -52,3 +54,8 @@ pub run-powers : (policy : PolicyParts) (script : List Procedure) (texts : List 
     → IfOk result (λ ran. RunsByRounds (start_of policy script texts) (ran_of script ran)) → IfOk result (λ ran. ReleasesByPowers (powers_of policy) (ran_of script ran))
 run-powers policy script texts (Ok ran) keeps says is = releases_are_of_policy policy script texts 0 (rounds (start_of policy script texts)) (ran_of script ran) keeps says is.is_run
 run-powers policy script texts (Err error) keeps says is = is
+
+-- the last configuration is well-formed with all its parts
+pub run-well_formed : (script : List Procedure) (c : Configuration) (result : Result Ran NoMemory) → IsWellFormed c → IfOk result (λ ran. RunsByRounds c (ran_of script ran)) → IfOk result (λ ran. IsWellFormed (ran_of script ran).last)
+run-well_formed script c (Ok ran) first is = run_keeps_well_formed 0 c (rounds c) (ran_of script ran) first is.is_run
+run-well_formed script c (Err error) first is = is

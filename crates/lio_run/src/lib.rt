@@ -1,6 +1,8 @@
-//! Runs: a policy and a script, with the texts of the inputs, run by rounds to the end.
+//! Runs: a policy and a script, with the texts of the inputs, run by rounds to the end, or by a schedule of the caller's.
 #![tactic(auto)]
 
 mod by_rounds;
+mod by_schedule;
 
 pub use by_rounds::{Ran, run};
+pub use by_schedule::{Scheduled, run_by_schedule};

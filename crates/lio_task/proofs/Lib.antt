@@ -4,3 +4,4 @@ pub mod StepAfter
 pub mod PlannedLemmas
 pub mod HolderLemmas
 pub mod MoveLemmas
+pub mod PreviewLemmas

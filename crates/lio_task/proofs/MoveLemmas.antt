@@ -81,7 +81,7 @@ owns script config k asked reply w sound plans =
     job-takes_part false job e = e
 
 -- a visit of a node that is ready, and one that waits
-visit-ready : (asked : Act) (target : Target) (onward : going.Onward) (state : State) → is_ready state asked ≡ true → visit asked target onward state ≡ Some (record { act = asked; target = Some target; reply = answer state asked; onward = onward })
+pub visit-ready : (asked : Act) (target : Target) (onward : going.Onward) (state : State) → is_ready state asked ≡ true → visit asked target onward state ≡ Some (record { act = asked; target = Some target; reply = answer state asked; onward = onward })
 visit-ready asked target onward state e = by (waits asked) (is_ready state asked) (record { act = asked; target = Some target; reply = answer state asked; onward = onward }) e
   where
     by : (waiting ready : Bool) (move : Move) → ready ≡ true → (if waiting && not ready then None else Some move) ≡ Some move
@@ -89,7 +89,7 @@ visit-ready asked target onward state e = by (waits asked) (is_ready state asked
     by true false move e = absurd (true≢false (sym e))
     by false ready move e = refl
 
-visit-waits : (asked : Act) (target : Target) (onward : going.Onward) (state : State) → waits asked ≡ true → is_ready state asked ≡ false → visit asked target onward state ≡ None
+pub visit-waits : (asked : Act) (target : Target) (onward : going.Onward) (state : State) → waits asked ≡ true → is_ready state asked ≡ false → visit asked target onward state ≡ None
 visit-waits asked target onward state w e = by (waits asked) (is_ready state asked) (record { act = asked; target = Some target; reply = answer state asked; onward = onward }) w e
   where
     by : (waiting ready : Bool) (move : Move) → waiting ≡ true → ready ≡ false → (if waiting && not ready then None else Some move) ≡ None
@@ -101,7 +101,7 @@ met-there : (target : Target) (state : State) → is_met target state ≡ true �
 met-there target state e = ap (λ (b : Bool). if b then state else Absent) e
 
 -- the move of a plan that meets a node
-visit-moves : (c : Configuration) (task : TaskState) (asked : Act) (target : Target) (onward : going.Onward) → plan c.program task ≡ Visit asked target onward → is_met target (cell_at c (number_of target)).state ≡ true
+pub visit-moves : (c : Configuration) (task : TaskState) (asked : Act) (target : Target) (onward : going.Onward) → plan c.program task ≡ Visit asked target onward → is_met target (cell_at c (number_of target)).state ≡ true
     → move_of (cell_at c) (plan c.program task) ≡ visit asked target onward (cell_at c (number_of target)).state
 visit-moves c task asked target onward plans there = ap (move_of (cell_at c)) plans ∙ ap (visit asked target onward) (met-there target (cell_at c (number_of target)).state there)
 
@@ -155,7 +155,7 @@ waits-still script config k asked named onward sound plans unready =
     waiting false h = absurd (true≢false (sym (h refl) ∙ unready))
 
 -- a child of a task that affords its birth
-act-bears : (program : Program) (task : TaskState) (asked : Act) → task.first + task.cells < 2 ^ 31 → AffordsAct program task asked → CanBear program.procedures task.label asked
+pub act-bears : (program : Program) (task : TaskState) (asked : Act) → task.first + task.cells < 2 ^ 31 → AffordsAct program task asked → CanBear program.procedures task.label asked
 act-bears program task (act.Fork birth) few affords = record { procedure = affords.procedure; range = omega (arith, few, affords.range); cleared = affords.cleared }
 act-bears program task (act.Spawn birth) few affords = record { procedure = affords.procedure; range = omega (arith, few, affords.range); cleared = affords.cleared }
 act-bears program task asked few affords = tt

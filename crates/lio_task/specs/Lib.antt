@@ -2,5 +2,6 @@ pub mod StateOf
 pub mod Births
 pub mod Goes
 pub mod Next
+pub mod Status
 pub mod Configuration
 pub mod Takes

@@ -110,6 +110,10 @@ pub record PlansVisit (script : List Procedure) (config : Config) (k : ℕ) (ask
 abbrev pub Steps : Configuration → Configuration → ℕ → ℕ → Entry → Type 0
 Steps c next k ticket entry = step ticket c k ≡ Some (record { entry = entry; next = next })
 
+-- the step of the task with a number would show this entry
+abbrev pub WouldShow : Configuration → ℕ → ℕ → Entry → Type 0
+WouldShow c k ticket entry = option_map (λ turn. turn.entry) (step ticket c k) ≡ Some entry
+
 -- why a task takes no turn: it can't, or no memory is left
 abbrev pub Stays : Configuration → ℕ → StepFault → Type 0
 Stays c k (Still n) = (n ≡ k) × (can c k ≡ false)

@@ -43,7 +43,7 @@ impl Task {
     }
 
     /// The child that an act gives birth to, at its parent's label, if it does.
-    pub(crate) fn born_by(
+    pub fn born_by(
         alloc: Global,
         act: &Act,
         at: &Label,

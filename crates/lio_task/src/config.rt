@@ -57,7 +57,7 @@ impl Config {
     ghost use Rattle.lio_task.specs.Takes.{CanGoAt, GoesAt, HasRoom, Moves, PlansOwn, PlansVisit, ServesAt, Stays, Steps};
 
     /// The task with a number.
-    fn task(&self, k: u32) -> Option<&Task>
+    pub(crate) fn task(&self, k: u32) -> Option<&Task>
         ensures { option_copied result ≡ task_in self.now k }
     {
         self.holders.get(k as usize)?.task.as_ref()

@@ -3,13 +3,19 @@
 
 mod birth;
 mod config;
+mod copy;
+mod erase;
 mod go;
 mod go_on;
 mod going;
+mod handle;
 mod next;
+mod preview;
+mod status;
 mod steps;
 mod task;
 
 pub use config::{Config, Holder, StepFault};
 pub use next::Next;
+pub use status::Status;
 pub use task::Task;

@@ -1,7 +1,7 @@
 use Rattle.lio_schedule.specs.Rounds.{measure}
 use Rattle.lio_machine.specs.MachineParts.{machine_of}
 use Rattle.lio_machine.proofs.RoundLemmas.{RoundsSoFar}
-use Rattle.lio_machine.proofs.machine.Machine.run.Given as goal
+use Rattle.lio_machine.proofs.machine.Machine.run_rounds.Given as goal
 
 -- rounds so far
 abbrev pub invariant-loop : goal.invariant-loop

@@ -1,0 +1,13 @@
+use Rattle.std.proofs.Common.{sym, subst}
+use Rattle.lio_syntax.specs.Kept as kept
+use Rattle.lio_start.proofs.LawLemmas.{literals_are_said}
+use Rattle.lio_run.proofs.ScheduleLemmas.{schedule-printable, schedule-seen}
+use Rattle.lio_run.proofs.by_schedule.run_by_schedule.Goals as goal
+
+pub returns-clause-seen : goal.returns-clause-seen
+returns-clause-seen c =
+    let literals = literals_are_said c.args.script (subst kept.SaysLiterals (sym c.lines.ensures.lines) c.lines.ensures.literals) in
+    schedule-seen c.args.policy.now c.args.script c.args.texts.now c.args.schedule.now c.run_schedule.result c.policy_keeps_rules.ensures literals c.run_schedule.ensures
+
+pub returns-clause-printable : goal.returns-clause-printable
+returns-clause-printable c = schedule-printable c.args.policy.now c.args.script c.args.texts.now c.args.schedule.now c.run_schedule.result c.policy_keeps_rules.ensures c.requires.over c.run_schedule.ensures

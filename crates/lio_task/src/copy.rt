@@ -1,0 +1,90 @@
+//! Equal tasks and configurations.
+ghost use Rattle.std.specs.Prelude.{◌≡◌, IfOk, List};
+ghost use Rattle.std.specs.Option.{option_map};
+ghost use Rattle.lio_syntax.specs.Statements.{Procedure};
+ghost use Rattle.lio_task.specs.StateOf.{state_in};
+
+use crate::config::{Config, Holder};
+use crate::task::Task;
+use lio_clauses::NoMemory;
+use lio_control::Continuation;
+use std::alloc::Global;
+
+impl Task {
+    ghost use Rattle.std.specs.Prelude.{◌≡◌, IfOk, List};
+    ghost use Rattle.lio_lines.specs.declared.line.Line.{Line};
+    ghost use Rattle.lio_syntax.specs.Statements.{Procedure};
+    ghost use Rattle.lio_control.specs.Continuation.{place_of};
+    ghost use Rattle.lio_calculus.specs.Going.{at};
+    ghost use Rattle.lio_task.specs.StateOf.{state_in, state_of};
+
+    /// A task that stands at another place, and is equal else.
+    pub(crate) fn moved(&self, alloc: Global, continuation: Continuation) -> Result<Task, NoMemory>
+        ensures { IfOk result (λ task. (lines : List Line) → state_of lines task ≡ at (state_of lines self.now) (place_of lines continuation)) }
+    {
+        let label = self.label.copy(alloc)?;
+        let clearance = self.clearance.copy(alloc)?;
+        Ok(Task {
+            continuation,
+            label,
+            clearance,
+            turns: self.turns,
+            first: self.first,
+            cells: self.cells,
+            ended: self.ended,
+        })
+    }
+
+    /// An equal task.
+    pub fn copy(&self, alloc: Global) -> Result<Task, NoMemory>
+        ensures { IfOk result (λ task. (script : List Procedure) → state_in script task ≡ state_in script self.now) }
+    {
+        let continuation = self.continuation.copy(alloc)?;
+        self.moved(alloc, continuation)
+    }
+}
+
+/// An equal task, if there is one.
+fn copy_task(alloc: Global, task: &Option<Task>) -> Result<Option<Task>, NoMemory>
+    ensures { IfOk result (λ copy. (script : List Procedure) → option_map (state_in script) copy ≡ option_map (state_in script) task.now) }
+{
+    match task {
+        Some(task) => Ok(Some(task.copy(alloc)?)),
+        None => Ok(None),
+    }
+}
+
+impl Holder {
+    ghost use Rattle.std.specs.Prelude.{◌≡◌, IfOk, List};
+    ghost use Rattle.lio_syntax.specs.Statements.{Procedure};
+    ghost use Rattle.lio_task.specs.Configuration.{cell_of};
+
+    /// A holder of an equal node, which keeps nothing ready, and of an equal task.
+    pub fn copy(&self, alloc: Global) -> Result<Holder, NoMemory>
+        ensures { IfOk result (λ holder. (script : List Procedure) → cell_of script holder ≡ cell_of script self.now) }
+    {
+        let node = self.node.copy(alloc)?;
+        let task = copy_task(alloc, &self.task)?;
+        Ok(Holder { node, task })
+    }
+}
+
+impl Config {
+    ghost use Rattle.std.specs.Prelude.{◌≡◌, IfOk, List};
+    ghost use Rattle.lio_syntax.specs.Statements.{Procedure};
+    ghost use Rattle.lio_task.specs.Configuration.{configuration_of};
+
+    /// An equal configuration.
+    pub fn copy(&self, alloc: Global) -> Result<Config, NoMemory>
+        ensures { IfOk result (λ config. (script : List Procedure) → configuration_of script config ≡ configuration_of script self.now) }
+    {
+        let mut holders = Vec::new(alloc);
+        for holder in &self.holders {
+            holders.push(holder.copy(alloc)?)?;
+        }
+        Ok(Config {
+            holders,
+            longest: self.longest,
+        })
+    }
+}
