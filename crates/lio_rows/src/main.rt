@@ -13,6 +13,7 @@ mod policies;
 mod runs;
 mod scripts;
 mod session;
+mod turns;
 
 use answer::write_answer;
 use session::Session;

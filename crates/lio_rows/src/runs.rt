@@ -1,7 +1,9 @@
 //! Commands on runs.
-ghost use Rattle.std.specs.Prelude.{All, IfOk};
+ghost use Rattle.std.specs.Prelude.{◌≡◌, All, IfOk, None, length};
 ghost use Rattle.lio_events.specs.Named.{IsContentNamed};
 ghost use Rattle.lio_events.specs.Printable.{IsPrintable};
+ghost use Rattle.lio_start.specs.Fits.{fits};
+ghost use Rattle.lio_syntax.specs.Verdict.{IsOver};
 
 use crate::answer::{Answer, Refusal};
 use lio_clauses::Names;
@@ -10,7 +12,7 @@ use lio_labels::Label;
 use lio_policy::{Policy, read_policy};
 use lio_run::run;
 use lio_start::fits;
-use lio_syntax::read_script;
+use lio_syntax::{Script, read_script};
 use lio_values::{Act, Content, Entry, Text};
 use lio_view::{releases, view};
 use std::alloc::Global;
@@ -44,14 +46,16 @@ fn texts_of(alloc: Global, inputs: &[Vec<u8>]) -> Result<Vec<Text>, Refusal> {
     Ok(texts)
 }
 
-/// The journal of the run by rounds of a script under a policy.
-fn journal_of(
+/// A script that fits a policy, and the texts of the policy's inputs.
+pub fn prepared(
     alloc: Global,
     policy: &Policy,
     script: &[u8],
     inputs: &[Vec<u8>],
-) -> Result<Journal, Refusal>
-    ensures { IfOk result (λ journal. All (IsPrintable policy.now.names) journal) }
+) -> Result<(Script, Vec<Text>), Refusal>
+    ensures fits { IfOk result (λ it. fits policy.now.tasks it.0 ≡ None) }
+    ensures over { IfOk result (λ it. IsOver policy.now.names it.0) }
+    ensures inputs { IfOk result (λ it. length it.1.items ≡ length policy.now.inputs) }
 {
     let script = read_script(alloc, script, &policy.names)?;
     if let Some(fault) = fits(policy, &script) {
@@ -61,6 +65,19 @@ fn journal_of(
     if texts.len() != policy.inputs.as_slice().len() {
         return Err(Refusal::Inputs);
     }
+    Ok((script, texts))
+}
+
+/// The journal of the run by rounds of a script under a policy.
+fn journal_of(
+    alloc: Global,
+    policy: &Policy,
+    script: &[u8],
+    inputs: &[Vec<u8>],
+) -> Result<Journal, Refusal>
+    ensures { IfOk result (λ journal. All (IsPrintable policy.now.names) journal) }
+{
+    let (script, texts) = prepared(alloc, policy, script, inputs)?;
     let ran = run(alloc, policy, script, texts.as_slice())?;
     Ok(ran.journal)
 }

@@ -2,7 +2,7 @@
 
 use crate::answer::{Answer, Refusal};
 use crate::command::read_command;
-use crate::{entries, formulas, labels, names, operators, policies, runs, scripts};
+use crate::{entries, formulas, labels, names, operators, policies, runs, scripts, turns};
 use lio_clauses::{Names, NoMemory};
 use std::alloc::Global;
 
@@ -57,6 +57,9 @@ fn answer(
         return Ok(Some(answer));
     }
     if let Some(answer) = policies::answer(alloc, word, fields)? {
+        return Ok(Some(answer));
+    }
+    if let Some(answer) = turns::answer(alloc, word, fields)? {
         return Ok(Some(answer));
     }
     runs::answer(alloc, names, word, fields)
