@@ -56,15 +56,25 @@ fn turns_of(
     ensures { IfOk result (λ taken. All (IsPrintable policy.now.names) taken.journal) }
 {
     let (script, texts) = prepared(alloc, policy, script, inputs)?;
-    let Scheduled { ran, taken } =
-        run_by_schedule(alloc, policy, script, texts.as_slice(), schedule)?;
+    let Scheduled { ran, taken } = run_by_schedule(
+        alloc,
+        policy,
+        script,
+        texts.as_slice(),
+        schedule,
+    )?;
     let Ran { journal, config } = ran;
     drop(config);
     Ok(Taken { journal, taken })
 }
 
 /// The line of each turn that was taken, and which task took none.
-fn lines(alloc: Global, history: &[u8], schedule: &[u32], taken: &[bool]) -> Result<Vec<u8>, Refusal> {
+fn lines(
+    alloc: Global,
+    history: &[u8],
+    schedule: &[u32],
+    taken: &[bool],
+) -> Result<Vec<u8>, Refusal> {
     let mut entries = history.split(|byte| *byte == b'\n');
     let mut text = Vec::new(alloc);
     for (i, k) in schedule.iter().enumerate() {
@@ -87,6 +97,11 @@ fn turns(alloc: Global, fields: &[Vec<u8>]) -> Result<Answer, Refusal> {
     let policy = read_policy(alloc, json)?;
     let turns = turns_of(alloc, &policy, script, inputs, schedule.as_slice())?;
     let history = print_journal(alloc, &turns.journal, true, &policy.names)?;
-    let text = lines(alloc, history.as_slice(), schedule.as_slice(), turns.taken.as_slice())?;
+    let text = lines(
+        alloc,
+        history.as_slice(),
+        schedule.as_slice(),
+        turns.taken.as_slice(),
+    )?;
     Ok(Answer::Text(text))
 }

@@ -115,7 +115,7 @@ schedule-runs ticket c (k ∷ ks) = by (step ticket c k) refl (schedule-runs tic
     by : (t : Option Turn) → step ticket c k ≡ t
         → run ticket c (takers ks (by_schedule ticket c ks).taken) ≡ Some (record { entries = (by_schedule ticket c ks).entries; last = (by_schedule ticket c ks).last })
         → ((turn : Turn) → run (ticket + 1) turn.next (takers ks (by_schedule (ticket + 1) turn.next ks).taken)
-          ≡ Some (record { entries = (by_schedule (ticket + 1) turn.next ks).entries; last = (by_schedule (ticket + 1) turn.next ks).last }))
+        ≡ Some (record { entries = (by_schedule (ticket + 1) turn.next ks).entries; last = (by_schedule (ticket + 1) turn.next ks).last }))
         → Runs (by_schedule ticket c (k ∷ ks))
     by None e same after = subst Runs (sym (by-still ticket c k ks e)) same
     by (Some turn) e same after =

@@ -80,7 +80,7 @@ front-moves c spent environment [] names said = never spent
 front-moves c spent environment (Access (line.Read x r) ∷ items) names said =
     reading-moves c spent x r (seen_as reference_of environment r)
     (λ handle seen. named-kind Reference handle (cell_at c handle.number).state
-      (reference-names c environment r handle names (and_parts (is_said r) true (All-head ItemSays (Access (line.Read x r)) items said)).0 seen))
+    (reference-names c environment r handle names (and_parts (is_said r) true (All-head ItemSays (Access (line.Read x r)) items said)).0 seen))
 front-moves c spent environment (Access (line.Take x v) ∷ items) names said = waiting-moves c spent (line.Take x v) wish.Take (seen_as variable_of environment v) (λ state. refl)
 front-moves c spent environment (Access (line.Put v a) ∷ items) names said = waiting-moves c spent (line.Put v a) wish.Put (seen_as variable_of environment v) (λ state. refl)
 front-moves c spent environment (Access (line.Wait x r) ∷ items) names said = waiting-moves c spent (line.Wait x r) wish.Wait (seen_as result_of environment r) (λ state. refl)

@@ -40,7 +40,7 @@ returns-then-turns_left-eq0 c =
     let spent : (state.turns == 0) ≡ true = ap (λ (n : ℕ). n == 0) (sym (c.turns_left.ensures [])) ∙ is-zero c.turns_left.result c.if-turns_left-eq0.true in
     is-zero c.turns_left.result c.if-turns_left-eq0.true
     ∙ sym (can-by here c.args.k state c.requires there ∙ ap (moves_by here (state.turns == 0)) (sym c.status.ensures ∙ c.in-Access.is)
-      ∙ ap (λ (b : Bool). b || grants (cell_at here c.in-Access.n).state c.in-Access.wish) spent)
+    ∙ ap (λ (b : Bool). b || grants (cell_at here c.in-Access.n).state c.in-Access.wish) spent)
 
 pub returns-else-turns_left-eq0 : goal.returns-else-turns_left-eq0
 returns-else-turns_left-eq0 c =
@@ -49,4 +49,4 @@ returns-else-turns_left-eq0 c =
     let spent : (state.turns == 0) ≡ false = ap (λ (n : ℕ). n == 0) (sym (c.turns_left.ensures [])) ∙ not-zero c.turns_left.result c.if-turns_left-eq0.false in
     c.grants.ensures script
     ∙ sym (can-by here c.args.k state c.requires there ∙ ap (moves_by here (state.turns == 0)) (sym c.status.ensures ∙ c.in-Access.is)
-      ∙ ap (λ (b : Bool). b || grants (cell_at here c.in-Access.n).state c.in-Access.wish) spent)
+    ∙ ap (λ (b : Bool). b || grants (cell_at here c.in-Access.n).state c.in-Access.wish) spent)

@@ -14,13 +14,15 @@ returns-in_default-clause-fault c =
 
 pub returns-in-Over-clause-fault : goal.returns-in-Over-clause-fault
 returns-in-Over-clause-fault c =
-    let script = c.args.script.now in
-    (refl, over-stays (configuration_of script c.args.self.now) c.args.k (state_in script c.in-Some.task.now)
-      (task-cell script c.args.self.now c.args.k c.in-Some.task.now (sym c.task.ensures ∙ ap option_copied c.in-Some.is)) (sym c.in_ok-next.ensures ∙ c.in-Over.is))
+    let script = c.args.script.now in (
+      refl,
+      over-stays (configuration_of script c.args.self.now) c.args.k (state_in script c.in-Some.task.now)
+          (task-cell script c.args.self.now c.args.k c.in-Some.task.now (sym c.task.ensures ∙ ap option_copied c.in-Some.is)) (sym c.in_ok-next.ensures ∙ c.in-Over.is),
+    )
 
 pub returns-in_ok-entry_of-in-Own-clause-ok : goal.returns-in_ok-entry_of-in-Own-clause-ok
 returns-in_ok-entry_of-in-Own-clause-ok c =
     let script = c.args.script.now in let here = configuration_of script c.args.self.now in
     subst (WouldShow here c.args.k c.args.ticket) (sym c.in_ok-entry_of-in-Own.ensures)
     (own-shows here c.args.k c.args.ticket (state_in script c.in-Some.task.now) c.in-Own.act c.in-Own.reply
-      (task-cell script c.args.self.now c.args.k c.in-Some.task.now (sym c.task.ensures ∙ ap option_copied c.in-Some.is)) (sym c.in_ok-next.ensures ∙ c.in-Own.is))
+    (task-cell script c.args.self.now c.args.k c.in-Some.task.now (sym c.task.ensures ∙ ap option_copied c.in-Some.is)) (sym c.in_ok-next.ensures ∙ c.in-Own.is))

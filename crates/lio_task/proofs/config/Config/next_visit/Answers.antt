@@ -20,9 +20,11 @@ unreachable-requires c =
 pub returns-then-not-ready-clause-fault : goal.returns-then-not-ready-clause-fault
 returns-then-not-ready-clause-fault c =
     let script = c.args.script.now in let here = configuration_of script c.args.self.now in let state = state_in script c.args.task.now in
-    let cell = found-cell script c.args.self.now c.args.n c.args.n c.deref.result.now c.in-Some.holder.now c.deref.ensures.value refl c.in-Some.ensures.lookup.0 c.in-Some.ensures.lookup.1 in
-    (refl, visit-stays here c.args.k state c.args.act c.args.n c.requires.sound (task-cell script c.args.self.now c.args.k c.args.task.now c.requires.task) c.requires.next
-      (ap (λ (at : Cell). is_ready at.state c.args.act) cell ∙ sym c.if-not-ready.ensures))
+    let cell = found-cell script c.args.self.now c.args.n c.args.n c.deref.result.now c.in-Some.holder.now c.deref.ensures.value refl c.in-Some.ensures.lookup.0 c.in-Some.ensures.lookup.1 in (
+      refl,
+      visit-stays here c.args.k state c.args.act c.args.n c.requires.sound (task-cell script c.args.self.now c.args.k c.args.task.now c.requires.task) c.requires.next
+          (ap (λ (at : Cell). is_ready at.state c.args.act) cell ∙ sym c.if-not-ready.ensures),
+    )
 
 pub returns-clause-ok : goal.returns-clause-ok
 returns-clause-ok c =
@@ -32,4 +34,4 @@ returns-clause-ok c =
     subst (WouldShow here c.args.k c.args.ticket)
     (ap (λ (at : Cell). shown (answer at.state c.args.act)) cell ∙ ap shown (sym c.in_ok-reply.ensures) ∙ sym c.in_ok-entry_of.ensures)
     (visit-shows here c.args.k c.args.ticket state c.args.act c.args.n c.requires.sound (task-cell script c.args.self.now c.args.k c.args.task.now c.requires.task) c.requires.next
-      (ap (λ (at : Cell). is_ready at.state c.args.act) cell ∙ sym c.if-not-ready.ensures))
+    (ap (λ (at : Cell). is_ready at.state c.args.act) cell ∙ sym c.if-not-ready.ensures))
