@@ -89,8 +89,10 @@ impl Node {
         ensures err { OnErr result (self.new ≡ node_of self.old.state) }
     {
         drop(mem::replace(&mut self.room, Room::Nothing));
-        let room = reserve::room_for(alloc, &self.state, &mut self.spare, act)?;
-        drop(mem::replace(&mut self.room, room));
+        match reserve::room_for(alloc, &self.state, &mut self.spare, act)? {
+            Room::Nothing => {}
+            room => drop(mem::replace(&mut self.room, room)),
+        }
         Ok(())
     }
 
@@ -100,6 +102,9 @@ impl Node {
         requires takes_part { IsTrue (takes_part self.old.state act.now) }
         ensures { self.new ≡ node_of (state_after self.old.state act.now) }
     {
+        if matches!(&self.room, Room::Nothing) {
+            return;
+        }
         let state = mem::replace(&mut self.state, State::Absent);
         let room = mem::replace(&mut self.room, Room::Nothing);
         let state = served::with_room(state, room, &mut self.spare);

@@ -6,11 +6,11 @@ use borrow.Author.Tests.{ltb-true, ltb-false}
 use Rattle.lio_values.specs.declared.entry.Entry.{Entry}
 use Rattle.lio_events.specs.Rising.{AreRising}
 use Rattle.lio_calculus.specs.Step.{Configuration, Turn, step}
-use Rattle.lio_calculus.proofs.StepKept.{turn-kept}
 use Rattle.lio_schedule.specs.Round.{born_in}
 use Rattle.lio_schedule.proofs.TurnLemmas.{Parts, parts}
 use Rattle.lio_schedule.proofs.OrderLaws.{turn-keeps_order}
 use Rattle.lio_schedule.specs.Laws.{IsOrderOf}
+use Rattle.lio_wellformed.proofs.Turns.{turn_keeps_well_formed}
 use Rattle.lio_machine.specs.Invariant.{AreNumbered, IsMachine}
 
 -- one more entry, whose ticket is the number of those before it
@@ -40,7 +40,7 @@ machine-took c d k entry order listed before now machine steps lists last =
     let turn : Turn = record { entry = entry; next = d } in
     let p : Parts (length before) c k turn = parts (length before) c k turn steps in
     record {
-      sound = turn-kept (length before) c k p.task turn machine.sound p.is_task steps;
-      lists = subst (IsOrderOf d) (sym lists) (turn-keeps_order (length before) c k turn order machine.sound steps machine.lists);
+      well_formed = turn_keeps_well_formed (length before) c k p.task turn machine.well_formed p.is_task steps;
+      lists = subst (IsOrderOf d) (sym lists) (turn-keeps_order (length before) c k turn order machine.well_formed.sound steps machine.lists);
       numbered = subst AreNumbered (sym last) (numbered_with before entry machine.numbered (sym (ap (λ (t : Turn). t.entry.ticket) p.is_turn)));
     }

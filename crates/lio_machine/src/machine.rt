@@ -58,7 +58,7 @@ impl Machine {
     ghost use Rattle.std.specs.Prelude.{◌≡◌, ◌<◌, ◌^◌, ℕ, List, [], ◌∷◌, length, slice_index, false, IfOk, IfErr, OnOk, OnErr, Err};
     ghost use Rattle.lio_task.specs.Configuration.{configuration_of};
     ghost use Rattle.lio_calculus.specs.Step.{can};
-    ghost use Rattle.lio_calculus.specs.Sound.{IsSound};
+    ghost use Rattle.lio_wellformed.specs.WellFormed.{IsWellFormed};
     ghost use Rattle.lio_schedule.specs.Round.{round};
     ghost use Rattle.lio_schedule.specs.Laws.{IsOrderOf};
     ghost use Rattle.lio_schedule.specs.Rounds.{IsComplete, rounds_from, stepped, tasks};
@@ -67,7 +67,7 @@ impl Machine {
 
     /// A machine that has taken no turn, of a well-formed configuration.
     pub fn new(alloc: Global, config: Config, script: Script) -> Result<Machine, NoMemory>
-        requires { IsSound (configuration_of script config) }
+        requires { IsWellFormed (configuration_of script config) }
         ensures { IfOk result (λ machine. let c = configuration_of script config in machine_of machine ≡ record { script = script; configuration = c; entries = []; order = tasks c }) }
     {
         let mut order = Vec::new(alloc);
@@ -216,7 +216,7 @@ impl Machine {
     pub fn finish(self) -> (Journal, Config)
         ensures journal { result.0 ≡ (machine_of self).entries }
         ensures configuration { configuration_of (machine_of self).script result.1 ≡ (machine_of self).configuration }
-        ensures sound { IsSound (machine_of self).configuration }
+        ensures well_formed { IsWellFormed (machine_of self).configuration }
     {
         (Journal::of(self.entries), self.config)
     }

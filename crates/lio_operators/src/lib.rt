@@ -10,4 +10,4 @@ mod texts;
 mod wholes;
 
 pub use faults::OpFault;
-pub use operate::{operate1, operate2};
+pub use operate::{operate_plains, operate1, operate2};

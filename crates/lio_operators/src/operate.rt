@@ -216,6 +216,20 @@ fn on_plains(alloc: Global, op: Two, a: &Plain, b: &Plain, longest: u32) -> Resu
     }
 }
 
+/// What an operator on two bare values gives. A text that is made has at most `longest` bytes.
+#[tactic(auto, unfolding(crate::specs::Operators::operate2))]
+pub fn operate_plains(
+    alloc: Global,
+    op: Two,
+    a: &Plain,
+    b: &Plain,
+    longest: u32,
+) -> Result<Value, OpFault>
+    ensures { Answers (spec.operate2 longest op (Value.Bare a.now) (Value.Bare b.now)) result }
+{
+    bare(on_plains(alloc, op, a, b, longest))
+}
+
 /// What an operator on two values gives. A text that is made has at most `longest` bytes.
 #[tactic(auto, unfolding(crate::specs::Operators::operate2))]
 pub fn operate2(
@@ -228,7 +242,7 @@ pub fn operate2(
     ensures { Answers (spec.operate2 longest op a.now b.now) result }
 {
     match (a, b) {
-        (Value::Bare(a), Value::Bare(b)) => bare(on_plains(alloc, op, a, b, longest)),
+        (Value::Bare(a), Value::Bare(b)) => operate_plains(alloc, op, a, b, longest),
         _ => Err(OpFault::Kind(FaultKind::BadType)),
     }
 }

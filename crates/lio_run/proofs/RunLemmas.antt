@@ -9,8 +9,6 @@ use Rattle.lio_calculus.specs.Run as calculus
 use Rattle.lio_calculus.proofs.LawLemmas.{run_is_erased_run}
 use Rattle.lio_schedule.specs.Rounds.{rounds}
 use Rattle.lio_schedule.proofs.LowEndLemmas.{rounds_are_erased_rounds}
-use Rattle.lio_wellformed.specs.WellFormed.{IsWellFormed}
-use Rattle.lio_wellformed.proofs.Turns.{run_keeps_well_formed}
 use Rattle.lio_events.specs.Printable.{IsPrintable}
 use Rattle.lio_syntax.specs.Verdict.{IsOver}
 use Rattle.lio_policy.specs.Policy.{PolicyParts, IsPolicy}
@@ -26,7 +24,7 @@ use Rattle.lio_run.specs.declared.by_rounds.Ran.{Ran}
 use Rattle.lio_run.specs.Runs.{IsSeen, RunsByRounds, SeesChannels, ran_of}
 
 rounds-seen : (c : Configuration) (ran : calculus.Ran) → RunsByRounds c ran → (observer : Label) → IsSeen observer c ran
-rounds-seen c ran is observer = record { run = run_is_erased_run observer c (rounds c) ran is.first is.is_run; rounds = rounds_are_erased_rounds observer c ran is.first is.is_run }
+rounds-seen c ran is observer = record { run = run_is_erased_run observer c (rounds c) ran is.first.sound is.is_run; rounds = rounds_are_erased_rounds observer c ran is.first.sound is.is_run }
 
 pub run-seen : (script : List Procedure) (c : Configuration) (result : Result Ran NoMemory) → IfOk result (λ ran. RunsByRounds c (ran_of script ran)) → IfOk result (λ ran. (observer : Label) → IsSeen observer c (ran_of script ran))
 run-seen script c (Ok ran) is = rounds-seen c (ran_of script ran) is
@@ -41,7 +39,7 @@ run-printable policy script texts (Err error) keeps over is = is
 -- an observer sees all that is sent to each channel below it
 channels-seen : (policy : PolicyParts) (script : List Procedure) (texts : List (List ℕ)) (ran : calculus.Ran) → RunsByRounds (start_of policy script texts) ran → (observer : Label) → SeesChannels observer policy ran.entries
 channels-seen policy script texts ran is observer number channel at below =
-    sends_are_seen observer channel.label [] number 0 0 (start_of policy script texts) (rounds (start_of policy script texts)) ran is.first
+    sends_are_seen observer channel.label [] number 0 0 (start_of policy script texts) (rounds (start_of policy script texts)) ran is.first.sound
     (ap (λ (cell : Cell). cell.state) ((cells_stand_in_order policy script texts).channels number channel at)) below is.is_run
 
 pub run-channels : (policy : PolicyParts) (script : List Procedure) (texts : List (List ℕ)) (result : Result Ran NoMemory)
@@ -54,8 +52,3 @@ pub run-powers : (policy : PolicyParts) (script : List Procedure) (texts : List 
     → IfOk result (λ ran. RunsByRounds (start_of policy script texts) (ran_of script ran)) → IfOk result (λ ran. ReleasesByPowers (powers_of policy) (ran_of script ran))
 run-powers policy script texts (Ok ran) keeps says is = releases_are_of_policy policy script texts 0 (rounds (start_of policy script texts)) (ran_of script ran) keeps says is.is_run
 run-powers policy script texts (Err error) keeps says is = is
-
--- the last configuration is well-formed with all its parts
-pub run-well_formed : (script : List Procedure) (c : Configuration) (result : Result Ran NoMemory) → IsWellFormed c → IfOk result (λ ran. RunsByRounds c (ran_of script ran)) → IfOk result (λ ran. IsWellFormed (ran_of script ran).last)
-run-well_formed script c (Ok ran) first is = run_keeps_well_formed 0 c (rounds c) (ran_of script ran) first is.is_run
-run-well_formed script c (Err error) first is = is

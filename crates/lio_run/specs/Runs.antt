@@ -11,9 +11,9 @@ use Rattle.lio_calculus.specs.Step.{Configuration}
 use Rattle.lio_calculus.specs.Run as calculus
 use Rattle.lio_calculus.specs.Run.{run, view}
 use Rattle.lio_calculus.specs.Laws.{RunSeenAs}
-use Rattle.lio_calculus.specs.Sound.{IsSound}
 use Rattle.lio_schedule.specs.Rounds.{IsComplete, rounds}
 use Rattle.lio_schedule.specs.LowLaws.{RoundsSeenAs}
+use Rattle.lio_wellformed.specs.WellFormed.{IsWellFormed}
 use Rattle.lio_task.specs.Configuration.{configuration_of}
 use Rattle.lio_run.specs.declared.by_rounds.Ran.{Ran}
 
@@ -21,12 +21,12 @@ use Rattle.lio_run.specs.declared.by_rounds.Ran.{Ran}
 abbrev pub ran_of : List Procedure → Ran → calculus.Ran
 ran_of script ran = record { entries = ran.journal; last = configuration_of script ran.config }
 
--- a complete run by rounds: the turns of the rounds, after which no task can take one; the first and the last configuration are well-formed
+-- a complete run by rounds: the turns of the rounds, after which no task can take one; the first and the last configuration are well-formed, with all parts
 pub record RunsByRounds (c : Configuration) (ran : calculus.Ran) : Type 0 where
   pub is_run : run 0 c (rounds c) ≡ Some ran
   pub complete : IsComplete ran.last
-  pub first : IsSound c
-  pub last : IsSound ran.last
+  pub first : IsWellFormed c
+  pub last : IsWellFormed ran.last
 
 -- An observer sees of a run what the erased calculus gives from what it sees of the first configuration and from what is released to it: the entries of its view, in the order of
 -- the erased calculus's own rounds, and what it sees of the last configuration (the noninterference of the concurrent calculus of LIO, ICFP 2012).

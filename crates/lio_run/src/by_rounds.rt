@@ -3,7 +3,6 @@ ghost use Rattle.std.specs.Prelude.{◌≡◌, All, IfOk, None, length};
 ghost use Rattle.lio_labels.specs.declared.label.Label.{Label};
 ghost use Rattle.lio_events.specs.Printable.{IsPrintable};
 ghost use Rattle.lio_syntax.specs.Verdict.{IsOver};
-ghost use Rattle.lio_wellformed.specs.WellFormed.{IsWellFormed};
 ghost use Rattle.lio_start.specs.Fits.{fits};
 ghost use Rattle.lio_start.specs.Start.{start_of};
 ghost use Rattle.lio_powers.specs.Given.{powers_of};
@@ -56,7 +55,6 @@ pub fn run(alloc: Global, policy: &Policy, script: Script, texts: &[Text]) -> Re
     ensures channels { IfOk result (λ ran. (observer : Label) → SeesChannels observer policy.now ran.journal) }
     ensures powers { IfOk result (λ ran. ReleasesByPowers (powers_of policy.now) (ran_of script ran)) }
     ensures printable { IfOk result (λ ran. All (IsPrintable policy.now.names) ran.journal) }
-    ensures well_formed { IfOk result (λ ran. IsWellFormed (ran_of script ran).last) }
 {
     policy_keeps_rules(policy);
     let _ = script.lines();

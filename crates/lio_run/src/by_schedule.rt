@@ -3,6 +3,7 @@ ghost use Rattle.std.specs.Prelude.{◌≡◌, All, IfOk, None, length};
 ghost use Rattle.lio_labels.specs.declared.label.Label.{Label};
 ghost use Rattle.lio_events.specs.Printable.{IsPrintable};
 ghost use Rattle.lio_syntax.specs.Verdict.{IsOver};
+ghost use Rattle.lio_wellformed.specs.WellFormed.{IsWellFormed};
 ghost use Rattle.lio_start.specs.Fits.{fits};
 ghost use Rattle.lio_start.specs.Start.{start_of};
 ghost use Rattle.lio_calculus.specs.Laws.{RunSeenAs};
@@ -51,7 +52,8 @@ fn run_schedule(
 ) -> Result<Scheduled, NoMemory>
     requires fits { fits policy.now.tasks script ≡ None }
     requires inputs { length texts.now ≡ length policy.now.inputs }
-    ensures { IfOk result (λ scheduled. scheduled_of script scheduled ≡ by_schedule 0 (start_of policy.now script texts.now) schedule.now) }
+    ensures run { IfOk result (λ scheduled. scheduled_of script scheduled ≡ by_schedule 0 (start_of policy.now script texts.now) schedule.now) }
+    ensures well_formed { IfOk result (λ scheduled. IsWellFormed (ran_of script scheduled.ran).last) }
 {
     policy_keeps_rules(policy);
     let _ = script.lines();
@@ -84,6 +86,7 @@ pub fn run_by_schedule(
     ensures run { IfOk result (λ scheduled. scheduled_of script scheduled ≡ by_schedule 0 (start_of policy.now script texts.now) schedule.now) }
     ensures seen { IfOk result (λ scheduled. (observer : Label) → RunSeenAs observer (start_of policy.now script texts.now) (ran_of script scheduled.ran)) }
     ensures printable { IfOk result (λ scheduled. All (IsPrintable policy.now.names) scheduled.ran.journal) }
+    ensures well_formed { IfOk result (λ scheduled. IsWellFormed (ran_of script scheduled.ran).last) }
 {
     policy_keeps_rules(policy);
     let _ = script.lines();

@@ -7,6 +7,8 @@ use Rattle.std.proofs.lemmas.List.Folds.{sum_by-replicate}
 use Rattle.lio_values.specs.declared.value.Value.{Value}
 use Rattle.lio_syntax.specs.Statements.{Procedure}
 use Rattle.lio_syntax.specs.Beginnings.{number_of}
+use Rattle.lio_syntax.specs.Kept.{KeepsRules}
+use Rattle.lio_syntax.specs.Lines.{script_lines}
 use Rattle.lio_calculus.specs.Task.{TaskState}
 use Rattle.lio_calculus.specs.Step.{Cell, blank, body_of}
 use Rattle.lio_wellformed.specs.Calls.{ItemFits, ScriptFits, CallsFit}
@@ -71,9 +73,14 @@ start-calls policy script texts fits = record {
   program = fits;
 }
 
+start-rules : (policy : PolicyParts) (script : List Procedure) (texts : List (List ℕ)) → KeepsRules (script_lines script) → KeepsRules (script_lines (start_of policy script texts).program.procedures)
+unfolding start_of
+start-rules policy script texts keeps = keeps
+
 pub start_is_well_formed : StartIsWellFormed
 start_is_well_formed policy script inputs is said keeps = record {
   sound = start_is_sound policy script inputs is said;
+  rules = start-rules policy script inputs keeps;
   calls = start-calls policy script inputs (rules_fit_calls script keeps);
   turns = omega (arith, turns-start policy script inputs, is.limits.turns);
 }

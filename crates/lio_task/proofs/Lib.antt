@@ -5,3 +5,4 @@ pub mod PlannedLemmas
 pub mod HolderLemmas
 pub mod MoveLemmas
 pub mod PreviewLemmas
+pub mod WellFormedLemmas

@@ -52,6 +52,7 @@ impl Config {
     ghost use Rattle.lio_syntax.specs.Statements.{Procedure};
     ghost use Rattle.lio_cells.specs.Node.{NodeState, takes_part};
     ghost use Rattle.lio_calculus.specs.Sound.{IsSound};
+    ghost use Rattle.lio_wellformed.specs.WellFormed.{IsWellFormed};
     ghost use Rattle.lio_task.specs.StateOf.{state_in};
     ghost use Rattle.lio_task.specs.Configuration.{configuration_of, node_in, task_in};
     ghost use Rattle.lio_task.specs.Takes.{CanGoAt, GoesAt, HasRoom, Moves, PlansOwn, PlansVisit, ServesAt, Stays, Steps};
@@ -126,9 +127,10 @@ impl Config {
         reply: Reply,
         way: Way,
         child: Option<Task>,
-    ) -> Result<Entry, NoMemory>
+    ) -> Result<Entry, StepFault>
         requires { Moves script.now self.old k target act reply way (option_map (state_in script.now) child) }
         ensures ok { IfOk result (Steps (configuration_of script.now self.old) (configuration_of script.now self.new) k ticket) }
+        ensures fault { IfErr result (Stays (configuration_of script.now self.old) k) }
         ensures err { OnErr result (configuration_of script.now self.new ≡ configuration_of script.now self.old) }
     {
         let Some(task) = self.task(k) else {
@@ -166,7 +168,7 @@ impl Config {
         ensures fault { IfErr result (Stays (configuration_of script.now self.old) k) }
         ensures err { OnErr result (configuration_of script.now self.new ≡ configuration_of script.now self.old) }
     {
-        Ok(self.take(alloc, script, ticket, k, None, act, reply, way, None)?)
+        self.take(alloc, script, ticket, k, None, act, reply, way, None)
     }
 
     /// The turn of a task that meets a node.
@@ -199,10 +201,11 @@ impl Config {
         let reply = holder.node.answer(alloc, &act)?;
         let child = Task::born_by(alloc, &act, task.label(), script)?;
         let way = Way::On(onward);
-        Ok(self.take(alloc, script, ticket, k, Some(n), act, reply, way, child)?)
+        self.take(alloc, script, ticket, k, Some(n), act, reply, way, child)
     }
 
-    /// Takes one small step: the turn of task `k`, whose entry has this ticket. After a refusal the configuration is as before.
+    /// Takes one small step: the turn of task `k`, whose entry has this ticket. A well-formed configuration stays well-formed, with all parts.
+    /// After a refusal it is as before.
     pub fn step(
         &mut self,
         alloc: Global,
@@ -212,26 +215,28 @@ impl Config {
     ) -> Result<Entry, StepFault>
         requires { IsSound (configuration_of script.now self.old) }
         ensures ok { IfOk result (Steps (configuration_of script.now self.old) (configuration_of script.now self.new) k ticket) }
+        ensures well_formed { OnOk result (IsWellFormed (configuration_of script.now self.old) → IsWellFormed (configuration_of script.now self.new)) }
         ensures fault { IfErr result (Stays (configuration_of script.now self.old) k) }
         ensures err { OnErr result (configuration_of script.now self.new ≡ configuration_of script.now self.old) }
     {
         let Some(task) = self.task(k) else {
             return Err(StepFault::Still(k));
         };
-        match task.plan(alloc, script, self.longest)? {
-            Planned::Over => Err(StepFault::Still(k)),
-            Planned::Control(control) => {
+        match task.plan(alloc, script, self.longest) {
+            Err(NoMemory) => Err(StepFault::NoMemory),
+            Ok(Planned::Over) => Err(StepFault::Still(k)),
+            Ok(Planned::Control(control)) => {
                 let way = Way::Step(control);
                 self.own(alloc, script, ticket, k, Act::Step, Reply::Done, way)
             }
-            Planned::Ends(content) => {
+            Ok(Planned::Ends(content)) => {
                 let act = ended(alloc, content)?;
                 self.own(alloc, script, ticket, k, act, Reply::Done, Way::End)
             }
-            Planned::Turn(Turn::Own(act, reply, onward)) => {
+            Ok(Planned::Turn(Turn::Own(act, reply, onward))) => {
                 self.own(alloc, script, ticket, k, act, reply, Way::On(onward))
             }
-            Planned::Turn(Turn::Visit(act, target, onward)) => {
+            Ok(Planned::Turn(Turn::Visit(act, target, onward))) => {
                 self.visit(alloc, script, ticket, k, act, target, onward)
             }
         }

@@ -64,8 +64,13 @@ impl Holder {
         ensures { IfOk result (λ holder. (script : List Procedure) → cell_of script holder ≡ cell_of script self.now) }
     {
         let node = self.node.copy(alloc)?;
-        let task = copy_task(alloc, &self.task)?;
-        Ok(Holder { node, task })
+        match copy_task(alloc, &self.task) {
+            Ok(task) => Ok(Holder { node, task }),
+            Err(error) => {
+                drop(node);
+                Err(error)
+            }
+        }
     }
 }
 

@@ -1,13 +1,17 @@
 -- Turns and runs keep a configuration well-formed, and runs are short.
-use Rattle.std.proofs.Common.{◌≡◌, refl, ap, subst, ℕ, suc, ◌+◌, ◌*◌, ◌≤◌, Bool, true, false, if◌then◌else◌, List, [], ◌∷◌, length, Option, Some, None, arith}
+use Rattle.std.proofs.Common.{◌≡◌, refl, sym, ap, subst, ℕ, suc, ◌+◌, ◌*◌, ◌≤◌, Bool, true, false, if◌then◌else◌, List, [], ◌∷◌, length, Option, Some, None, arith}
 use Rattle.std.specs.Prelude.{option_and_then, sum_by}
 use Rattle.std.specs.Option.{option_map}
 use Rattle.std.proofs.lemmas.List.Sums.{sum_by-cons}
+use Rattle.lio_syntax.specs.Lines.{script_lines}
+use Rattle.lio_syntax.specs.Kept.{KeepsRules}
 use Rattle.lio_calculus.specs.Task.{TaskState}
+use Rattle.lio_calculus.specs.Plan.{Program}
 use Rattle.lio_calculus.specs.Step.{Cell, Configuration, Turn, step}
 use Rattle.lio_calculus.specs.Run.{Ran, ran_after, run}
 use Rattle.lio_calculus.proofs.TurnParts.{parts}
 use Rattle.lio_calculus.proofs.StepKept.{turn-kept}
+use Rattle.lio_calculus.proofs.LocalityLemmas.{step_changes_two_cells}
 use Rattle.lio_schedule.specs.Rounds.{weight, measure}
 use Rattle.lio_schedule.proofs.EndLemmas.{run_is_bounded}
 use Rattle.lio_wellformed.specs.Turns.{turns_of, turns_left}
@@ -19,6 +23,7 @@ use Rattle.lio_wellformed.proofs.TurnsLeft.{turn_adds_no_turns}
 pub turn_keeps_well_formed : TurnKeepsWellFormed
 turn_keeps_well_formed ticket c k task turn is_well is steps = record {
   sound = turn-kept ticket c k task turn is_well.sound is steps;
+  rules = subst (λ (program : Program). KeepsRules (script_lines program.procedures)) (sym (step_changes_two_cells ticket c k turn steps).program) is_well.rules;
   calls = turn_keeps_calls ticket c k turn is_well.calls steps;
   turns = omega (arith, is_well.turns, turn_adds_no_turns ticket c k turn steps);
 }

@@ -5,7 +5,7 @@ use crate::standing::Standing;
 use lio_clauses::NoMemory;
 use lio_lines::{Operand, Operands};
 use lio_lookup::{Procedure, operands};
-use lio_operators::{OpFault, operate1, operate2};
+use lio_operators::{OpFault, operate_plains, operate1};
 use lio_syntax::Script;
 use lio_values::{Act, Content, FaultKind, Plain, Text, Value, Values};
 use lio_words::{One, Two};
@@ -81,16 +81,14 @@ impl Standing<'_> {
         ensures { IfOk result (PlansBy (program_of script.now longest) self.now (line.LetTwo name.now left.now op right.now)) }
     {
         let environment = self.environment();
-        let name = name.copy(alloc)?;
-        let left_literal = operands::literal(alloc, left)?;
-        let Some(left) = operands::bound(environment, left, &left_literal) else {
+        let Some(left) = operands::bare(environment, left) else {
             return self.bad_type(alloc);
         };
-        let right_literal = operands::literal(alloc, right)?;
-        match operands::bound(environment, right, &right_literal) {
-            Some(right) => self.computed(alloc, name, operate2(alloc, op, left, right, longest)),
-            None => self.bad_type(alloc),
-        }
+        let Some(right) = operands::bare(environment, right) else {
+            return self.bad_type(alloc);
+        };
+        let name = name.copy(alloc)?;
+        self.computed(alloc, name, operate_plains(alloc, op, left, right, longest))
     }
 
     /// What an operator made is bound, or the refusal.

@@ -1,8 +1,8 @@
 use Rattle.std.proofs.Common.{sym, subst}
 use Rattle.lio_syntax.specs.Kept as kept
-use Rattle.lio_start.proofs.LawLemmas.{literals_are_said, start_is_well_formed}
+use Rattle.lio_start.proofs.LawLemmas.{literals_are_said}
 use Rattle.lio_start.specs.Start.{start_of}
-use Rattle.lio_run.proofs.RunLemmas.{run-channels, run-powers, run-printable, run-seen, run-well_formed}
+use Rattle.lio_run.proofs.RunLemmas.{run-channels, run-powers, run-printable, run-seen}
 use Rattle.lio_run.proofs.by_rounds.run.Goals as goal
 
 pub returns-clause-seen : goal.returns-clause-seen
@@ -18,10 +18,3 @@ pub returns-clause-powers : goal.returns-clause-powers
 returns-clause-powers c =
     let literals = literals_are_said c.args.script (subst kept.SaysLiterals (sym c.lines.ensures.lines) c.lines.ensures.literals) in
     run-powers c.args.policy.now c.args.script c.args.texts.now c.run_to_the_end.result c.policy_keeps_rules.ensures literals c.run_to_the_end.ensures
-
-pub returns-clause-well_formed : goal.returns-clause-well_formed
-returns-clause-well_formed c =
-    let literals = literals_are_said c.args.script (subst kept.SaysLiterals (sym c.lines.ensures.lines) c.lines.ensures.literals) in
-    let rules = subst kept.KeepsRules (sym c.lines.ensures.lines) c.lines.ensures.rules in
-    run-well_formed c.args.script (start_of c.args.policy.now c.args.script c.args.texts.now) c.run_to_the_end.result
-    (start_is_well_formed c.args.policy.now c.args.script c.args.texts.now c.policy_keeps_rules.ensures literals rules) c.run_to_the_end.ensures

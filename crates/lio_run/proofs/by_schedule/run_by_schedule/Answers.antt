@@ -7,7 +7,7 @@ use Rattle.lio_run.proofs.by_schedule.run_by_schedule.Goals as goal
 pub returns-clause-seen : goal.returns-clause-seen
 returns-clause-seen c =
     let literals = literals_are_said c.args.script (subst kept.SaysLiterals (sym c.lines.ensures.lines) c.lines.ensures.literals) in
-    schedule-seen c.args.policy.now c.args.script c.args.texts.now c.args.schedule.now c.run_schedule.result c.policy_keeps_rules.ensures literals c.run_schedule.ensures
+    schedule-seen c.args.policy.now c.args.script c.args.texts.now c.args.schedule.now c.run_schedule.result c.policy_keeps_rules.ensures literals c.run_schedule.ensures.run
 
 pub returns-clause-printable : goal.returns-clause-printable
-returns-clause-printable c = schedule-printable c.args.policy.now c.args.script c.args.texts.now c.args.schedule.now c.run_schedule.result c.policy_keeps_rules.ensures c.requires.over c.run_schedule.ensures
+returns-clause-printable c = schedule-printable c.args.policy.now c.args.script c.args.texts.now c.args.schedule.now c.run_schedule.result c.policy_keeps_rules.ensures c.requires.over c.run_schedule.ensures.run

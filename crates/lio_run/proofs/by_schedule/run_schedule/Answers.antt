@@ -4,6 +4,7 @@ use Rattle.std.proofs.Math.ListN.{drop_of_length-le}
 use Rattle.lio_values.specs.declared.entry.Entry.{Entry}
 use Rattle.lio_syntax.specs.Statements.{Procedure}
 use Rattle.lio_calculus.specs.Step.{Configuration}
+use Rattle.lio_wellformed.specs.WellFormed.{IsWellFormed}
 use Rattle.lio_schedule.specs.Rounds.{tasks}
 use Rattle.lio_start.specs.Start.{start_of}
 use Rattle.lio_task.specs.Configuration.{configuration_of}
@@ -14,7 +15,7 @@ use Rattle.lio_run.proofs.ScheduleLemmas.{IsSoFar, so_far-end, so_far-next, so_f
 use Rattle.lio_run.proofs.by_schedule.run_schedule.Goals as goal
 
 pub new-requires : goal.new-requires
-new-requires c = c.in_ok-config.ensures.well_formed.sound
+new-requires c = c.in_ok-config.ensures.well_formed
 
 pub loop-k-init : goal.loop-k-init
 loop-k-init c =
@@ -36,8 +37,17 @@ loop-k-preserved c =
     subst (λ (t : List Bool). IsSoFar c.args.script start ks (drop (i + 1) ks) (machine_of c.take.new.machine) t) (sym c.in_ok-push.ensures.items)
     (so_far-next c.args.script start ks (drop (i + 1) ks) k (machine_of c.loop-k.machine) (machine_of c.take.new.machine) c.loop-k.taken.items c.in_ok-moved.moved before c.in_ok-moved.ensures)
 
-pub returns : goal.returns
-returns c =
+pub returns-clause-well_formed : goal.returns-clause-well_formed
+returns-clause-well_formed c =
+    let start : Configuration = start_of c.args.policy.now c.args.script c.args.texts.now in
+    let ks : List ℕ = c.args.schedule.now in
+    let machine : MachineState = machine_of c.loop-k.machine in
+    let none : drop c.loop-k.k-index ks ≡ [] = drop_of_length-le ks (omega (arith, c.loop-k-test.false)) in
+    let so_far : IsSoFar c.args.script start ks [] machine c.loop-k.taken.items = subst (λ (r : List ℕ). IsSoFar c.args.script start ks r machine c.loop-k.taken.items) none c.loop-k.invariant in
+    subst IsWellFormed (sym (ap (λ (script : List Procedure). configuration_of script c.finish-journal.result.1) (sym so_far.script_is) ∙ c.finish-journal.ensures.configuration)) c.finish-journal.ensures.well_formed
+
+pub returns-clause-run : goal.returns-clause-run
+returns-clause-run c =
     let start : Configuration = start_of c.args.policy.now c.args.script c.args.texts.now in
     let ks : List ℕ = c.args.schedule.now in
     let machine : MachineState = machine_of c.loop-k.machine in

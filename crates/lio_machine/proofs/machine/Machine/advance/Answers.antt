@@ -30,3 +30,6 @@ invariant_of-self-in-Ok c =
           (c.try_reserve-else-is_err.ensures.items ∙ sym (append-nil order) ∙ ap (λ (ks : List ℕ). order ++ ks) (ap listed (sym w.in_default.is) ∙ c.born_in.ensures))
           (pushed ∙ ap (λ (es : List Entry). es ++ entry ∷ []) c.try_reserve.ensures.items))
     ]
+
+pub step-requires : goal.step-requires
+step-requires c = c.self.invariant.well_formed.sound

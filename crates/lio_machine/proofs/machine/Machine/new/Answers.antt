@@ -17,7 +17,7 @@ invariant_of-result c =
     ∙ ap (holders_from 0) c.deref-holder-items.ensures.value ∙ tasks_from-holders c.args.script 0 c.args.config.holders.items in
     let none : length c.new.result.items ≡ 0 = ap (λ (es : List Entry). length es) c.new.ensures.items in
     record {
-      sound = c.requires;
+      well_formed = c.requires;
       lists = subst (IsOrderOf here) (sym order) (tasks_are_an_order here);
       numbered = λ i d within. absurd (omega (arith, within, none));
     }
