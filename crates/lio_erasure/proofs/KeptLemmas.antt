@@ -1,0 +1,148 @@
+-- A cell that is left out has no holder, whatever the turns do.
+use Rattle.std.proofs.Common.{◌≡◌, ◌∙◌, refl, sym, ap, subst, ℕ, Bool, true, false, true≢false, not, ◌||◌, IsTrue, List, [], Option, Some, None, is_some, option_and_then}
+use Rattle.std.specs.Prelude.{slice_get, slice_set}
+use Rattle.std.specs.Option.{option_map}
+use Rattle.std.proofs.lemmas.List.{set-set}
+use Rattle.std.proofs.lemmas.List.Elements.{All-set}
+use Rattle.lio_labels.specs.declared.label.Label.{Label}
+use Rattle.lio_values.specs.declared.value.Value.{Value}
+use Rattle.lio_values.specs.declared.act.Act.{Act}
+use Rattle.lio_values.specs.declared.act.Act.TheVariants as act
+use Rattle.lio_cells.specs.declared.state.State.{State}
+use Rattle.lio_cells.specs.declared.state.State.TheVariants.{Absent, Ref, Var, Chan, Job}
+use Rattle.lio_cells.specs.State.{is_absent, written, filled, received, ended, placed, state_after}
+use Rattle.lio_syntax.specs.Statements.{Procedure}
+use Rattle.lio_calculus.specs.Task.{TaskState}
+use Rattle.lio_calculus.specs.Step.{Cell}
+use Rattle.lio_calculus.specs.Hiding.{hide_task}
+use Rattle.lio_calculus.specs.Erased.{hide_cell, hide_state, sees}
+use Rattle.lio_calculus.proofs.Lists.{All-slice_get}
+use Rattle.lio_task.specs.declared.task.Task.{Task}
+use Rattle.lio_task.specs.declared.config.Holder.{Holder}
+use Rattle.lio_task.specs.Configuration.{cell_of}
+use Rattle.lio_task.specs.StateOf.{state_in}
+use Rattle.lio_erasure.specs.Low.{LeavesOutBlanks, holder_in, is_kept}
+
+-- a holder in the place of another one
+pub set-kept : (holders news : List (Option Holder)) (n : ℕ) (holder : Option Holder) → news ≡ slice_set holders n holder → IsTrue (is_kept holder) → LeavesOutBlanks holders → LeavesOutBlanks news
+set-kept holders news n holder is kept all = subst LeavesOutBlanks (sym is) (All-set (λ (h : Option Holder). IsTrue (is_kept h)) holders n holder kept all)
+
+-- in the place of one that was taken out
+pub replaced-kept : (holders news : List (Option Holder)) (n : ℕ) (holder : Option Holder) → news ≡ slice_set (slice_set holders n None) n holder → IsTrue (is_kept holder) → LeavesOutBlanks holders → LeavesOutBlanks news
+replaced-kept holders news n holder is = set-kept holders news n holder (is ∙ set-set holders n None holder)
+
+-- the holder with a number
+pub holder-kept : (holders : List (Option Holder)) (n : ℕ) (holder : Holder) → holder_in holders n ≡ Some holder → LeavesOutBlanks holders → IsTrue (is_kept (Some holder))
+holder-kept holders n holder e all = by (slice_get holders n) refl e
+  where
+    by : (found : Option (Option Holder)) → slice_get holders n ≡ found → option_and_then (λ (h : Option Holder). h) found ≡ Some holder → IsTrue (is_kept (Some holder))
+    by None is e = absurd (cc)
+    by (Some h) is e = All-slice_get (λ (x : Option Holder). IsTrue (is_kept x)) holders n (Some holder) all (is ∙ ap Some e)
+
+-- a node that is there stays there
+filled-there : (state : State) (value : Option Value) → is_absent state ≡ false → is_absent (filled state value) ≡ false
+filled-there Absent value e = e
+filled-there (Ref label held) value e = e
+filled-there (Var label held) value e = e
+filled-there (Chan label held) value e = e
+filled-there (Job label held) value e = e
+
+placed-there : (state new : State) → is_absent state ≡ false → is_absent (placed state new) ≡ false
+placed-there Absent new e = absurd (true≢false e)
+placed-there (Ref label held) new e = e
+placed-there (Var label held) new e = e
+placed-there (Chan label held) new e = e
+placed-there (Job label held) new e = e
+
+there-after : (state : State) (asked : Act) → is_absent state ≡ false → is_absent (state_after state asked) ≡ false
+unfolding state_after
+there-after state (act.Write value) e = of state e
+  where
+    of : (s : State) → is_absent s ≡ false → is_absent (written s value) ≡ false
+    of Absent e = e
+    of (Ref label held) e = e
+    of (Var label held) e = e
+    of (Chan label held) e = e
+    of (Job label held) e = e
+there-after state act.Take e = filled-there state None e
+there-after state (act.Put value) e = filled-there state (Some value) e
+there-after state (act.Send text) e = of state e
+  where
+    of : (s : State) → is_absent s ≡ false → is_absent (received s text) ≡ false
+    of Absent e = e
+    of (Ref label held) e = e
+    of (Var label held) e = e
+    of (Chan label held) e = e
+    of (Job label held) e = e
+there-after state (act.NewRef label value) e = placed-there state (Ref label value) e
+there-after state (act.NewVar label value) e = placed-there state (Var label value) e
+there-after state (act.Fork birth) e = placed-there state (Job birth.result None) e
+there-after state (act.Spawn birth) e = placed-there state (Job birth.result None) e
+there-after state (act.Ended content) e = of state e
+  where
+    of : (s : State) → is_absent s ≡ false → is_absent (ended s content) ≡ false
+    of Absent e = e
+    of (Ref label held) e = e
+    of (Var label held) e = e
+    of (Chan label held) e = e
+    of (Job label held) e = e
+there-after state asked e = e
+
+pub served-kept : (holder other : Holder) (asked : Act) → other.task ≡ holder.task → other.node.state ≡ state_after holder.node.state asked → IsTrue (is_kept (Some holder)) → IsTrue (is_kept (Some other))
+served-kept holder other asked tasks states kept = subst (λ (t : Option Task). IsTrue (is_some t || not (is_absent other.node.state))) (sym tasks) (by holder.task (is_absent holder.node.state) refl kept)
+  where
+    by : (task : Option Task) (absent : Bool) → is_absent holder.node.state ≡ absent → IsTrue (is_some task || not absent) → IsTrue (is_some task || not (is_absent other.node.state))
+    by (Some task) absent is kept = refl
+    by None true is kept = absurd (true≢false (sym kept))
+    by None false is kept = subst (λ (b : Bool). IsTrue (not b)) (sym (ap is_absent states ∙ there-after holder.node.state asked is)) refl
+
+-- a holder whose node keeps its state
+pub same-kept : (holder other : Holder) → other.task ≡ holder.task → other.node.state ≡ holder.node.state → IsTrue (is_kept (Some holder)) → IsTrue (is_kept (Some other))
+same-kept holder other tasks states kept =
+    subst (λ (t : Option Task). IsTrue (is_some t || not (is_absent other.node.state))) (sym tasks) (subst (λ (s : State). IsTrue (is_some holder.task || not (is_absent s))) (sym states) kept)
+
+-- a cell that an observer sees is there, and what the observer sees of it is there too
+there : Cell → Bool
+there cell = is_some cell.task || not (is_absent cell.state)
+
+some-mapped : {A B : Type 0} (f : A → B) (o : Option A) → is_some (option_map f o) ≡ is_some o
+some-mapped f None = refl
+some-mapped f (Some x) = refl
+
+kept-cell : (script : List Procedure) (holder : Holder) (cell : Cell) → cell_of script holder ≡ cell → IsTrue (there cell) → IsTrue (is_kept (Some holder))
+unfolding there
+kept-cell script holder cell is kept =
+    subst (λ (b : Bool). IsTrue (b || not (is_absent holder.node.state))) (some-mapped (state_in script) holder.task) (subst (λ (x : Cell). IsTrue (is_some x.task || not (is_absent x.state))) (sym is) kept)
+
+seen-there : (observer : Label) (cell : Cell) → sees observer cell ≡ true → IsTrue (there cell)
+unfolding there
+seen-there observer cell e = by cell.task cell.state e
+  where
+    by : (t : Option TaskState) (s : State) → (let x : Cell = record { state = s; task = t } in sees observer x) ≡ true → IsTrue (is_some t || not (is_absent s))
+    by (Some task) s e = refl
+    by None Absent e = absurd (true≢false (sym e))
+    by None (Ref label held) e = refl
+    by None (Var label held) e = refl
+    by None (Chan label held) e = refl
+    by None (Job label held) e = refl
+
+hidden-there : (observer : Label) (cell : Cell) → IsTrue (there cell) → IsTrue (there (hide_cell observer cell))
+unfolding there
+hidden-there observer cell kept = by cell.task cell.state kept
+  where
+    by : (t : Option TaskState) (s : State) → IsTrue (is_some t || not (is_absent s)) → IsTrue (is_some (option_map (hide_task observer) t) || not (is_absent (hide_state observer s)))
+    by (Some task) s kept = refl
+    by None Absent kept = absurd (true≢false (sym kept))
+    by None (Ref label held) kept = refl
+    by None (Var label held) kept = refl
+    by None (Chan label held) kept = refl
+    by None (Job label held) kept = refl
+
+-- so a holder that an observer sees is kept, and so is what it sees of it
+pub seen-kept : (observer : Label) (holder : Holder) → ((script : List Procedure) → true ≡ sees observer (cell_of script holder)) → IsTrue (is_kept (Some holder))
+seen-kept observer holder seen = kept-cell [] holder (cell_of [] holder) refl (seen-there observer (cell_of [] holder) (sym (seen [])))
+
+pub hidden-kept : (observer : Label) (holder other : Holder) → ((script : List Procedure) → true ≡ sees observer (cell_of script holder)) → ((script : List Procedure) → cell_of script other ≡ hide_cell observer (cell_of script holder))
+    → IsTrue (is_kept (Some other))
+hidden-kept observer holder other seen hides =
+    kept-cell [] other (hide_cell observer (cell_of [] holder)) (hides []) (hidden-there observer (cell_of [] holder) (seen-there observer (cell_of [] holder) (sym (seen []))))

@@ -1,0 +1,11 @@
+pub mod ResultLemmas
+pub mod ActLemmas
+pub mod CellLemmas
+pub mod HolderLemmas
+pub mod KeptLemmas
+pub mod JobLemmas
+pub mod AfterLemmas
+pub mod ContentLemmas
+pub mod TurnLemmas
+pub mod ServeLemmas
+pub mod FieldLemmas

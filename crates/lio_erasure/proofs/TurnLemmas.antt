@@ -1,0 +1,481 @@
+-- The turns of the erased calculus, by their parts.
+use Rattle.std.proofs.Common.{◌≡◌, ◌∙◌, refl, sym, ap, subst, ℕ, Bool, true, false, true≢false, not, ◌&&◌, ◌||◌, if◌then◌else◌, List, [], ◌∷◌, Option, Some, None, is_some, option_and_then}
+use Rattle.std.specs.Prelude.{IsSome}
+use Rattle.std.specs.Option.{option_map}
+use Rattle.lio_labels.specs.declared.label.Label.{Label}
+use Rattle.lio_values.specs.declared.value.Handle.{Handle}
+use Rattle.lio_values.specs.declared.value.Content.{Content}
+use Rattle.lio_values.specs.declared.value.Content.TheVariants.{Kept, Faulted, Hidden}
+use Rattle.lio_values.specs.declared.act.Act.{Act}
+use Rattle.lio_values.specs.declared.act.Act.TheVariants as act
+use Rattle.lio_values.specs.declared.act.Reply.{Reply}
+use Rattle.lio_values.specs.declared.act.Reply.TheVariants.{Done, Got, Told, Refused}
+use Rattle.lio_values.specs.declared.entry.Entry.{Entry}
+use Rattle.lio_values.specs.Erasure.{erase_act, erase_entry}
+use Rattle.lio_syntax.specs.Statements.{Procedure}
+use Rattle.lio_cells.specs.declared.state.State.{State}
+use Rattle.lio_cells.specs.declared.state.State.TheVariants.{Absent}
+use Rattle.lio_cells.specs.Node.{takes_part}
+use Rattle.lio_cells.specs.State.{Kind, Reference, Channel, answer, is_of, is_absent, is_job, ready, state_after}
+use Rattle.lio_calculus.specs.Task.{TaskState}
+use Rattle.lio_calculus.specs.Going.{Onward, gone_on}
+use Rattle.lio_calculus.specs.Plan.{Plan, Over, Own, Visit, Target, Node, New, plan}
+use Rattle.lio_calculus.specs.Step.{Cell, Configuration, Move, after, blank, can, cell_at, has_label, is_met, met, met_after, move_of, number_of, target_after, visit, waits, with_cell}
+use Rattle.lio_calculus.specs.Erased.{LowTurn, erase, erase_cell, low, low_turn, low_with, opened, taking_front}
+use Rattle.lio_calculus.specs.Sound.{IsTaskOf}
+use Rattle.lio_calculus.specs.Afforded.{AffordsPlan, kind_met, makes}
+use Rattle.lio_calculus.specs.Handles.{IsMetBy, handle_ahead}
+use Rattle.lio_calculus.proofs.AffordedLemmas.{plan_affords}
+use Rattle.lio_calculus.proofs.ConfigLemmas.{cell_at-erased}
+use Rattle.lio_calculus.proofs.EnabledLemmas.{can-task}
+use Rattle.lio_calculus.proofs.HandleLemmas.{visit_meets_handle}
+use Rattle.lio_calculus.proofs.TurnParts.{own-moves, own_move, visit-moves, visit_move}
+use Rattle.lio_calculus.proofs.VisitLemmas.{answer-done}
+use Rattle.lio_plan.specs.StateOf.{program_of}
+use Rattle.lio_task.specs.Births.{CanBear}
+use Rattle.lio_task.proofs.MoveLemmas.{act-bears}
+use Rattle.lio_task.specs.declared.task.Task.{Task}
+use Rattle.lio_task.specs.declared.config.Holder.{Holder}
+use Rattle.lio_task.specs.declared.next.Next.TheVariants as next
+use Rattle.lio_task.specs.Next.{next_by, resumed_by}
+use Rattle.lio_task.specs.StateOf.{state_in}
+use Rattle.lio_erasure.specs.Acts.{lacks_content, with_content}
+use Rattle.lio_erasure.specs.declared.shown.Shown.{Shown}
+use Rattle.lio_erasure.specs.Low.{IsErased, TasksAreJobs, holder_in, job_with, low_configuration_of, seen_cell, seen_task}
+use Rattle.lio_erasure.specs.LowParts.{LowParts, LowState, low_of}
+use Rattle.lio_erasure.specs.Turn.{Goes, IsShown, LacksRelease, Moves, PlansAct, PlansOwn, PlansVisit, Serves, TakesTurn, VisitsNew, VisitsNode}
+use Rattle.lio_erasure.proofs.ActLemmas.{absent-unready, made-job, made-unwaiting, met-job, ready-erased}
+use Rattle.lio_erasure.proofs.AfterLemmas.{KeepsJobs, actor-stays, after-jobs, cell-twice, made-between, met-between, missed-between, own-after, task-inside, visit-after}
+use Rattle.lio_erasure.proofs.CellLemmas.{cell-erased}
+use Rattle.lio_erasure.proofs.HolderLemmas.{cell-low, some-there, task-low}
+use Rattle.lio_erasure.proofs.JobLemmas.{is_erased, new-jobs, target-jobs}
+
+-- the parts after a turn: other holders
+abbrev pub went_to : LowParts → List (Option Holder) → LowParts
+went_to parts holders = record parts { holders = holders }
+
+-- a move that was made, and what it leaves is as the observer sees it
+pub record Makes (parts : LowParts) (went : List (Option Holder)) (k : ℕ) (asked : Act) (entry : Entry) : Type 0 where
+  pub moved : Moves (low_of parts) (low_of (went_to parts went)) k asked entry
+  pub erased : IsErased parts.observer (low_configuration_of parts.script parts.longest went)
+
+-- the parts of a turn: the move, and the configuration after it
+makes-move : (parts : LowParts) (went : List (Option Holder)) (k : ℕ) (asked : Act) (reply : Reply) (number : Option ℕ) (task : Task) (move : Move) (shown : Shown)
+    → let c : Configuration = low_configuration_of parts.script parts.longest parts.holders in let state : TaskState = state_in parts.script task in let made : Move = record move { act = asked } in
+    IsTaskOf c k state → move_of (cell_at c) (plan c.program state) ≡ Some move → move.reply ≡ reply → option_map number_of move.target ≡ number → IsShown parts task k number asked reply shown
+    → low_configuration_of parts.script parts.longest went ≡ erase parts.observer (after c k state made) → TasksAreJobs (after c k state made) → Makes parts went k asked shown.entry
+makes-move parts went k asked reply number task move shown is moves replies numbers shows comes jobs =
+    let c : Configuration = low_configuration_of parts.script parts.longest parts.holders in
+    let state : TaskState = state_in parts.script task in
+    let made : Move = record move { act = asked } in
+    record {
+      moved = record {
+        task = state;
+        is = is;
+        move = move;
+        moves = moves;
+        entry_is = shows.entry
+            ∙ ap (λ (n : Option ℕ). let e : Entry = record { ticket = 0; actor = k; target = n; at = state.label; act = asked; reply = reply } in erase_entry parts.observer e) (sym numbers)
+            ∙ ap (λ (r : Reply). let e : Entry = record { ticket = 0; actor = k; target = option_map number_of move.target; at = state.label; act = asked; reply = r } in erase_entry parts.observer e) (sym replies);
+        next = comes;
+        observer = refl;
+      };
+      erased = subst (IsErased parts.observer) (sym comes) (is_erased parts.observer (after c k state made) jobs);
+    }
+
+-- what the task is after the turn of its plan
+gone-is : (parts : LowParts) (task : Task) (k : ℕ) (number : Option ℕ) (asked : Act) (reply : Reply) (shown : Shown) (p : Plan) → IsShown parts task k number asked reply shown → plan (program_of parts.script parts.longest) (state_in parts.script task) ≡ p
+    → option_map (state_in parts.script) shown.gone ≡ seen_task parts.observer (resumed_by (state_in parts.script task) asked reply p)
+gone-is parts task k number asked reply shown p shows plans = shows.gone ∙ ap (λ (q : Plan). seen_task parts.observer (resumed_by (state_in parts.script task) asked reply q)) plans
+
+entry-act : (parts : LowParts) (task : Task) (k : ℕ) (number : Option ℕ) (asked : Act) (reply : Reply) (shown : Shown) → IsShown parts task k number asked reply shown → shown.entry.act ≡ erase_act parts.observer asked
+entry-act parts task k number asked reply shown shows = ap (λ (e : Entry). e.act) shows.entry
+
+-- an act of the task's own
+pub own-made : (parts : LowParts) (reserved served went : List (Option Holder)) (k : ℕ) (asked : Act) (reply : Reply) (shown : Shown)
+    → let conf : List (Option Holder) → Configuration = low_configuration_of parts.script parts.longest in
+    IsErased parts.observer (conf parts.holders) → (p : PlansOwn parts k reply) → IsShown parts p.task k None asked reply shown → conf reserved ≡ conf parts.holders
+    → Serves parts.script parts.longest reserved served k shown.entry.act → Goes parts.script parts.longest served went k (option_map (state_in parts.script) shown.gone) → Makes parts went k asked shown.entry
+own-made parts reserved served went k asked reply shown erased p shows same serves goes =
+    let observer : Label = parts.observer in
+    let c : Configuration = low_configuration_of parts.script parts.longest parts.holders in
+    let state : TaskState = state_in parts.script p.task in
+    let is : IsTaskOf c k state = task-low parts.script parts.longest parts.holders k (Some p.task) p.is in
+    let move : Move = own_move p.asked reply p.onward in
+    let made : Move = own_move asked reply p.onward in
+    let here : State = state_after (cell_at c k).state (erase_act observer asked) in
+    let between : Configuration = with_cell c k (record { state = here; task = (cell_at c k).task }) in
+    let served_is : low_configuration_of parts.script parts.longest served ≡ between =
+    serves ∙ ap (λ (d : Configuration). with_cell d k (record { state = state_after (cell_at d k).state shown.entry.act; task = (cell_at d k).task })) same
+    ∙ ap (λ (a : Act). with_cell c k (record { state = state_after (cell_at c k).state a; task = (cell_at c k).task })) (entry-act parts p.task k None asked reply shown shows) in
+    let gone : option_map (state_in parts.script) shown.gone ≡ seen_task observer (gone_on state p.onward asked reply) = gone-is parts p.task k None asked reply shown (Own p.asked reply p.onward) shows p.plans in
+    let went_is : low_configuration_of parts.script parts.longest went ≡ erase observer (after c k state made) =
+    goes ∙ ap (λ (d : Configuration). with_cell d k (job_with (cell_at d k).state (option_map (state_in parts.script) shown.gone))) served_is
+    ∙ cell-twice c k (record { state = here; task = (cell_at c k).task }) (option_map (state_in parts.script) shown.gone) (task-inside c k state is)
+    ∙ ap (λ (t : Option TaskState). with_cell c k (job_with here t)) gone
+    ∙ sym (own-after observer c k state made erased.erased is refl) in
+    makes-move parts went k asked reply None p.task move shown is (ap (move_of (cell_at c)) p.plans) refl refl shows went_is (after-jobs c k state made erased.jobs is)
+
+-- a visit, whatever became of its target
+visit-made : (parts : LowParts) (served went : List (Option Holder)) (k n : ℕ) (asked : Act) (reply : Reply) (shown : Shown) (p : PlansVisit parts k asked n)
+    → let conf : List (Option Holder) → Configuration = low_configuration_of parts.script parts.longest in let c : Configuration = conf parts.holders in let state : TaskState = state_in parts.script p.task in
+    IsErased parts.observer c → KeepsJobs asked → IsShown parts p.task k (Some n) asked reply shown → visit asked p.target p.onward (met p.target (cell_at c n).state) ≡ Some (record { act = asked; target = Some p.target; reply = reply; onward = p.onward })
+    → conf served ≡ erase parts.observer (target_after c state.label asked (Some p.target)) → TasksAreJobs (target_after c state.label asked (Some p.target))
+    → Goes parts.script parts.longest served went k (option_map (state_in parts.script) shown.gone) → Makes parts went k asked shown.entry
+visit-made parts served went k n asked reply shown p erased keeps shows moves served_is jobs goes =
+    let observer : Label = parts.observer in
+    let c : Configuration = low_configuration_of parts.script parts.longest parts.holders in
+    let state : TaskState = state_in parts.script p.task in
+    let is : IsTaskOf c k state = task-low parts.script parts.longest parts.holders k (Some p.task) p.is in
+    let move : Move = record { act = asked; target = Some p.target; reply = reply; onward = p.onward } in
+    let gone : option_map (state_in parts.script) shown.gone ≡ seen_task observer (gone_on state p.onward asked reply) = gone-is parts p.task k (Some n) asked reply shown (Visit asked p.target p.onward) shows p.plans in
+    let moves_is : move_of (cell_at c) (plan c.program state) ≡ Some move =
+    ap (move_of (cell_at c)) p.plans ∙ ap (λ (m : ℕ). visit asked p.target p.onward (met p.target (cell_at c m).state)) p.number ∙ moves in
+    let went_is : low_configuration_of parts.script parts.longest went ≡ erase observer (after c k state move) =
+    goes ∙ ap (λ (t : Option TaskState). with_cell (low_configuration_of parts.script parts.longest served) k (job_with (cell_at (low_configuration_of parts.script parts.longest served) k).state t)) gone
+    ∙ sym (visit-after observer c (low_configuration_of parts.script parts.longest served) k state move p.target erased.erased is erased.jobs keeps refl served_is) in
+    let there : IsTaskOf (target_after c state.label asked (Some p.target)) k state = ap (λ (x : Cell). x.task) (actor-stays c k state state.label asked p.target is erased.jobs keeps) ∙ is in
+    makes-move parts went k asked reply (Some n) p.task move shown is moves_is refl (ap Some p.number) shows went_is (after-jobs c k state move jobs there)
+
+-- the moves of visits
+visit-ready : (asked : Act) (target : Target) (onward : Onward) (state : State) → ready state asked ≡ true → visit asked target onward state ≡ Some (record { act = asked; target = Some target; reply = answer state asked; onward = onward })
+visit-ready asked target onward state e = by (waits asked) (ready state asked) (record { act = asked; target = Some target; reply = answer state asked; onward = onward }) e
+  where
+    by : (waiting is : Bool) (move : Move) → is ≡ true → (if waiting && not is then None else Some move) ≡ Some move
+    by true true move e = refl
+    by true false move e = absurd (true≢false (sym e))
+    by false is move e = refl
+
+visit-unwaiting : (asked : Act) (target : Target) (onward : Onward) (state : State) → waits asked ≡ false → visit asked target onward state ≡ Some (record { act = asked; target = Some target; reply = Done; onward = onward })
+visit-unwaiting asked target onward state e =
+    ap (λ (w : Bool). if w && not (ready state asked) then None else Some (record { act = asked; target = Some target; reply = answer state asked; onward = onward })) e
+    ∙ ap (λ (r : Reply). let move : Move = record { act = asked; target = Some target; reply = r; onward = onward } in Some move) (answer-done state asked e)
+
+visit-waits : (asked : Act) (target : Target) (onward : Onward) (state : State) → waits asked ≡ true → ready state asked ≡ false → visit asked target onward state ≡ None
+visit-waits asked target onward state w e = by (waits asked) (ready state asked) (record { act = asked; target = Some target; reply = answer state asked; onward = onward }) w e
+  where
+    by : (waiting is : Bool) (move : Move) → waiting ≡ true → is ≡ false → (if waiting && not is then None else Some move) ≡ None
+    by true true move w e = absurd (true≢false e)
+    by true false move w e = refl
+    by false is move w e = absurd (true≢false (sym w))
+
+-- a node that is ready is the one that the handle names
+ready-met : (kind : Kind) (handle : Handle) (state : State) (asked : Act) → kind_met asked ≡ Some kind → ready (met (Node kind handle) state) asked ≡ true → is_met (Node kind handle) state ≡ true
+ready-met kind handle state asked meets e = by (is_met (Node kind handle) state) refl
+  where
+    by : (b : Bool) → is_met (Node kind handle) state ≡ b → is_met (Node kind handle) state ≡ true
+    by true is = is
+    by false is = absurd (true≢false (sym e ∙ ap (λ (b : Bool). ready (if b then state else Absent) asked) is ∙ absent-unready kind asked meets))
+
+met-there : (target : Target) (state : State) → is_met target state ≡ true → met target state ≡ state
+met-there target state e = ap (λ (b : Bool). if b then state else Absent) e
+
+-- and the node is there
+pub ready-state : (parts : LowParts) (k n : ℕ) (asked : Act) → (v : VisitsNode parts k asked n true) → ready (cell_at (low_configuration_of parts.script parts.longest parts.holders) n).state asked ≡ true
+ready-state parts k n asked v =
+    let state : State = (cell_at (low_configuration_of parts.script parts.longest parts.holders) n).state in
+    ap (λ (s : State). ready s asked) (sym (met-there (Node v.kind v.handle) state (ready-met v.kind v.handle state asked v.kind_is v.readiness))) ∙ v.readiness
+
+ready-there : (kind : Kind) (cell : Cell) (asked : Act) → kind_met asked ≡ Some kind → ready cell.state asked ≡ true → cell ≡ blank → ⊥
+ready-there kind cell asked meets e empty = true≢false (sym e ∙ ap (λ (x : Cell). ready x.state asked) empty ∙ absent-unready kind asked meets)
+
+-- a visit of a node that is ready
+pub met-made : (parts : LowParts) (reserved served went : List (Option Holder)) (k n : ℕ) (asked : Act) (reply : Reply) (shown : Shown) (v : VisitsNode parts k asked n true)
+    → let conf : List (Option Holder) → Configuration = low_configuration_of parts.script parts.longest in
+    IsErased parts.observer (conf parts.holders) → IsShown parts v.visits.task k (Some n) asked reply shown → reply ≡ answer (cell_at (conf parts.holders) n).state asked → conf reserved ≡ conf parts.holders
+    → Serves parts.script parts.longest reserved served n shown.entry.act → Goes parts.script parts.longest served went k (option_map (state_in parts.script) shown.gone) → Makes parts went k asked shown.entry
+met-made parts reserved served went k n asked reply shown v erased shows replies same serves goes =
+    let observer : Label = parts.observer in
+    let c : Configuration = low_configuration_of parts.script parts.longest parts.holders in
+    let label : Label = (state_in parts.script v.visits.task).label in
+    let target : Target = v.visits.target in
+    let cell : Cell = cell_at c n in
+    let by_handle : Target = Node v.kind v.handle in
+    let named : is_met by_handle cell.state ≡ true = ready-met v.kind v.handle cell.state asked v.kind_is v.readiness in
+    let is_ready : ready cell.state asked ≡ true = ready-state parts k n asked v in
+    let named_is : is_met target cell.state ≡ true = ap (λ (t : Target). is_met t cell.state) v.target ∙ named in
+    let moves = ap (λ (s : State). visit asked target v.visits.onward s) (met-there target cell.state named_is) ∙ visit-ready asked target v.visits.onward cell.state is_ready
+    ∙ ap (λ (r : Reply). let move : Move = record { act = asked; target = Some target; reply = r; onward = v.visits.onward } in Some move) (sym replies) in
+    let served_is : low_configuration_of parts.script parts.longest served ≡ erase observer (target_after c label asked (Some target)) =
+    serves ∙ ap (λ (d : Configuration). with_cell d n (record { state = state_after (cell_at d n).state shown.entry.act; task = (cell_at d n).task })) same
+    ∙ ap (λ (a : Act). with_cell c n (record { state = state_after (cell_at c n).state a; task = (cell_at c n).task })) (entry-act parts v.visits.task k (Some n) asked reply shown shows)
+    ∙ met-between observer c v.kind label asked target n erased.erased v.kind_is v.visits.number named_is (ready-there v.kind cell asked v.kind_is is_ready) in
+    visit-made parts served went k n asked reply shown v.visits erased (λ state job. met-job v.kind state asked job v.kind_is) shows moves served_is
+    (target-jobs c label asked v.kind n target erased.jobs v.kind_is v.visits.number) goes
+
+-- a write or a send to a cell that is left out
+pub missed-made : (parts : LowParts) (went : List (Option Holder)) (k n : ℕ) (asked : Act) (shown : Shown) (v : VisitsNode parts k asked n false) → waits asked ≡ false
+    → let conf : List (Option Holder) → Configuration = low_configuration_of parts.script parts.longest in
+    IsErased parts.observer (conf parts.holders) → IsShown parts v.visits.task k (Some n) asked Done shown
+    → Goes parts.script parts.longest parts.holders went k (option_map (state_in parts.script) shown.gone) → Makes parts went k asked shown.entry
+unfolding ready
+missed-made parts went k n asked shown v quick erased shows goes =
+    let observer : Label = parts.observer in
+    let c : Configuration = low_configuration_of parts.script parts.longest parts.holders in
+    let label : Label = (state_in parts.script v.visits.task).label in
+    let target : Target = v.visits.target in
+    let state : State = (cell_at c n).state in
+    let missed : is_met target state ≡ false = ap (λ (t : Target). is_met t state) v.target ∙ unmet asked v.kind v.handle state quick v.kind_is v.readiness in
+    let missed_is : is_met target (cell_at c (number_of target)).state ≡ false = ap (λ (m : ℕ). is_met target (cell_at c m).state) v.visits.number ∙ missed in
+    visit-made parts parts.holders went k n asked Done shown v.visits erased (λ s job. met-job v.kind s asked job v.kind_is) shows
+    (visit-unwaiting asked target v.visits.onward (met target state) quick) (missed-between observer c label asked target erased.erased missed_is)
+    (target-jobs c label asked v.kind n target erased.jobs v.kind_is v.visits.number) goes
+  where
+    -- a node of the kind is ready for what doesn't wait
+    of_kind : (a : Act) (kind : Kind) (state : State) → waits a ≡ false → kind_met a ≡ Some kind → ready state a ≡ is_of kind state
+    of_kind (act.Write value) kind state w e = let same : Reference ≡ kind = cc in ap (λ (x : Kind). is_of x state) same
+    of_kind (act.Send text) kind state w e = let same : Channel ≡ kind = cc in ap (λ (x : Kind). is_of x state) same
+    of_kind act.Read kind state w e = absurd (true≢false w)
+    of_kind act.Take kind state w e = absurd (true≢false w)
+    of_kind (act.Put value) kind state w e = absurd (true≢false w)
+    of_kind act.Wait kind state w e = absurd (true≢false w)
+    of_kind a kind state w e = absurd (cc)
+
+    both : (a b : Bool) → (a && b) ≡ true → a ≡ true
+    both true b e = refl
+    both false b e = absurd (true≢false (sym e))
+
+    unmet : (a : Act) (kind : Kind) (handle : Handle) (state : State) → waits a ≡ false → kind_met a ≡ Some kind → ready (met (Node kind handle) state) a ≡ false → is_met (Node kind handle) state ≡ false
+    unmet a kind handle state w e r = by (is_met (Node kind handle) state) refl
+      where
+        by : (b : Bool) → is_met (Node kind handle) state ≡ b → is_met (Node kind handle) state ≡ false
+        by false is = is
+        by true is = absurd (true≢false (sym (of_kind a kind state w e ∙ both (is_of kind state) (has_label state handle.label) is) ∙ ap (λ (s : State). ready s a) (sym (met-there (Node kind handle) state is)) ∙ r))
+
+-- a new node, which is placed only where nothing is
+new-between : (observer : Label) (c : Configuration) (label : Label) (asked : Act) (n : ℕ) (b : Bool) → is_absent (cell_at c n).state ≡ b → IsErased observer c → makes asked ≡ true
+    → (if b then with_cell c n (seen_cell observer (met_after c.program label (erase_act observer asked) blank)) else c) ≡ erase observer (target_after c label asked (Some (New n)))
+new-between observer c label asked n true e erased makes_node = made-between observer c label asked n erased.erased erased.jobs makes_node e
+new-between observer c label asked n false e erased makes_node = missed-between observer c label asked (New n) erased.erased e
+
+pub new-placed : (parts : LowParts) (placed : List (Option Holder)) (k n : ℕ) (asked : Act) (shown : Shown) (v : VisitsNew parts k asked n)
+    → let conf : List (Option Holder) → Configuration = low_configuration_of parts.script parts.longest in let c : Configuration = conf parts.holders in
+    IsErased parts.observer c → IsShown parts v.visits.task k (Some n) asked Done shown
+    → conf placed ≡ (if is_absent (cell_at c n).state then with_cell c n (seen_cell parts.observer (met_after c.program v.visits.task.label shown.entry.act blank)) else c)
+    → conf placed ≡ erase parts.observer (target_after c v.visits.task.label asked (Some v.visits.target))
+new-placed parts placed k n asked shown v erased shows places =
+    let observer : Label = parts.observer in
+    let c : Configuration = low_configuration_of parts.script parts.longest parts.holders in
+    let label : Label = v.visits.task.label in
+    places
+    ∙ ap (λ (a : Act). if is_absent (cell_at c n).state then with_cell c n (seen_cell observer (met_after c.program label a blank)) else c) (entry-act parts v.visits.task k (Some n) asked Done shown shows)
+    ∙ new-between observer c label asked n (is_absent (cell_at c n).state) refl erased v.makes_node
+    ∙ ap (λ (t : Target). erase observer (target_after c label asked (Some t))) (sym v.target)
+
+-- the task that makes it is still there
+pub new-there : (parts : LowParts) (placed : List (Option Holder)) (k n : ℕ) (asked : Act) (v : VisitsNew parts k asked n)
+    → let c : Configuration = low_configuration_of parts.script parts.longest parts.holders in
+    IsErased parts.observer c → low_configuration_of parts.script parts.longest placed ≡ erase parts.observer (target_after c v.visits.task.label asked (Some v.visits.target)) → IsSome (holder_in placed k)
+new-there parts placed k n asked v erased placed_is =
+    let observer : Label = parts.observer in
+    let c : Configuration = low_configuration_of parts.script parts.longest parts.holders in
+    let state : TaskState = state_in parts.script v.visits.task in
+    let is : IsTaskOf c k state = task-low parts.script parts.longest parts.holders k (Some v.visits.task) v.visits.is in
+    let between : Configuration = target_after c state.label asked (Some v.visits.target) in
+    let stays : cell_at between k ≡ cell_at c k = actor-stays c k state state.label asked v.visits.target is erased.jobs (λ state job. made-job state asked job v.makes_node) in
+    some-there parts.script parts.longest placed k state
+    (ap (λ (d : Configuration). (cell_at d k).task) placed_is ∙ ap (λ (x : Cell). x.task) (cell_at-erased observer between k ∙ ap (erase_cell observer) stays ∙ cell-erased observer c k erased.erased) ∙ is)
+
+pub new-made : (parts : LowParts) (placed went : List (Option Holder)) (k n : ℕ) (asked : Act) (shown : Shown) (v : VisitsNew parts k asked n)
+    → let conf : List (Option Holder) → Configuration = low_configuration_of parts.script parts.longest in let c : Configuration = conf parts.holders in
+    IsErased parts.observer c → IsShown parts v.visits.task k (Some n) asked Done shown → conf placed ≡ erase parts.observer (target_after c v.visits.task.label asked (Some v.visits.target))
+    → Goes parts.script parts.longest placed went k (option_map (state_in parts.script) shown.gone) → Makes parts went k asked shown.entry
+new-made parts placed went k n asked shown v erased shows placed_is goes =
+    let c : Configuration = low_configuration_of parts.script parts.longest parts.holders in
+    let label : Label = (state_in parts.script v.visits.task).label in
+    let target : Target = v.visits.target in
+    let to_new : target_after c label asked (Some target) ≡ target_after c label asked (Some (New n)) = ap (λ (t : Target). target_after c label asked (Some t)) v.target in
+    visit-made parts placed went k n asked Done shown v.visits erased (λ state job. made-job state asked job v.makes_node) shows
+    (visit-unwaiting asked target v.visits.onward (met target (cell_at c n).state) (made-unwaiting asked v.makes_node)) placed_is
+    (subst TasksAreJobs (sym to_new) (new-jobs c label asked n erased.jobs v.makes_node)) goes
+
+-- a node that is there to be met
+pub met-holder : (parts : LowParts) (k n : ℕ) (asked : Act) → VisitsNode parts k asked n true → None ≡ holder_in parts.holders n → ⊥
+met-holder parts k n asked v none =
+    true≢false (sym (ready-state parts k n asked v) ∙ ap (λ (x : Cell). ready x.state asked) (cell-low parts.script parts.longest parts.holders n None (sym none)) ∙ absent-unready v.kind asked v.kind_is)
+
+-- it takes part in the act as the observer sees it
+pub met-part : (parts : LowParts) (k n : ℕ) (asked seen : Act) → VisitsNode parts k asked n true → seen ≡ erase_act parts.observer asked
+    → takes_part (cell_at (low_configuration_of parts.script parts.longest parts.holders) n).state seen ≡ true
+met-part parts k n asked seen v is =
+    let state : State = (cell_at (low_configuration_of parts.script parts.longest parts.holders) n).state in
+    ap (takes_part state) is ∙ ap (λ (b : Bool). b || is_job state) (ready-erased parts.observer state asked ∙ ready-state parts k n asked v)
+
+-- a child of the act that is shown can be born
+bears-erased : (script : List Procedure) (at : Label) (observer : Label) (asked : Act) → CanBear script at asked → CanBear script at (erase_act observer asked)
+bears-erased script at observer (act.Fork birth) bears = record { procedure = bears.procedure; range = bears.range; cleared = bears.cleared }
+bears-erased script at observer (act.Spawn birth) bears = record { procedure = bears.procedure; range = bears.range; cleared = bears.cleared }
+bears-erased script at observer asked bears = tt
+
+pub new-bears : (parts : LowParts) (k n : ℕ) (asked : Act) (shown : Shown) (v : VisitsNew parts k asked n) → IsShown parts v.visits.task k (Some n) asked Done shown → CanBear parts.script shown.entry.at shown.entry.act
+new-bears parts k n asked shown v shows =
+    let program = program_of parts.script parts.longest in
+    let state : TaskState = state_in parts.script v.visits.task in
+    let bears : CanBear parts.script state.label asked =
+    act-bears program state asked v.visits.task.range (subst (AffordsPlan program state) v.visits.plans (plan_affords program state v.visits.task.cleared)).1 in
+    subst (λ (e : Entry). CanBear parts.script e.at e.act) (sym shows.entry) (bears-erased parts.script state.label parts.observer asked bears)
+
+-- what a turn takes of the released contents
+pub takes-turn : (old new : LowState) (k : ℕ) (before after : List Content) (asked : Act) (entry : Entry) (m : Moves old new k asked entry)
+    → opened old.observer m.move.act m.move.reply before ≡ Some (record { act = asked; left = after }) → TakesTurn old new k before after entry
+unfolding low
+takes-turn old new k before left asked entry m opens =
+    let c : Configuration = old.configuration in
+    let made : LowTurn = low_with old.observer 0 c k m.task m.move (record { act = asked; left = left }) in
+    record {
+      turn = ap (option_and_then (low_turn old.observer 0 c k before)) m.is
+          ∙ ap (option_and_then (λ (move : Move). option_map (low_with old.observer 0 c k m.task move) (opened old.observer move.act move.reply before))) m.moves
+          ∙ ap (option_map (low_with old.observer 0 c k m.task m.move)) opens
+          ∙ (λ i. Some (record { entry = sym m.entry_is i; next = sym m.next i; left = left }));
+      observer = m.observer;
+    }
+
+-- a release that was told, and one that wasn't
+pub told-opens : (observer : Label) (asked : Act) (reply : Reply) (contents : List Content) → lacks_content observer asked reply ≡ false → opened observer asked reply contents ≡ Some (record { act = asked; left = contents })
+unfolding opened
+told-opens observer (act.Release source target power Hidden) Done contents e =
+    ap (λ (b : Bool). if b then taking_front (act.Release source target power Hidden) (act.Release source target power) contents else Some (record { act = act.Release source target power Hidden; left = contents })) e
+told-opens observer (act.Release source target power (Kept plain)) Done contents e = refl
+told-opens observer (act.Release source target power (Faulted fault)) Done contents e = refl
+told-opens observer (act.Release source target power content) (Got value) contents e = refl
+told-opens observer (act.Release source target power content) (Told told) contents e = refl
+told-opens observer (act.Release source target power content) (Refused fault) contents e = refl
+told-opens observer asked reply contents e = refl
+
+pub untold-opens : (observer : Label) (asked : Act) (reply : Reply) (content : Content) (contents : List Content) → lacks_content observer asked reply ≡ true
+    → opened observer asked reply (content ∷ contents) ≡ Some (record { act = with_content asked content; left = contents })
+unfolding opened
+untold-opens observer (act.Release source target power Hidden) Done content contents e =
+    ap (λ (b : Bool). if b then taking_front (act.Release source target power Hidden) (act.Release source target power) (content ∷ contents) else Some (record { act = act.Release source target power Hidden; left = content ∷ contents })) e
+untold-opens observer (act.Release source target power (Kept plain)) Done content contents e = absurd (true≢false (sym e))
+untold-opens observer (act.Release source target power (Faulted fault)) Done content contents e = absurd (true≢false (sym e))
+untold-opens observer (act.Release source target power held) (Got value) content contents e = absurd (true≢false (sym e))
+untold-opens observer (act.Release source target power held) (Told told) content contents e = absurd (true≢false (sym e))
+untold-opens observer (act.Release source target power held) (Refused fault) content contents e = absurd (true≢false (sym e))
+untold-opens observer asked reply content contents e = absurd (true≢false (sym e))
+
+unopened : (observer : Label) (asked : Act) (reply : Reply) → lacks_content observer asked reply ≡ true → opened observer asked reply [] ≡ None
+unfolding opened
+unopened observer (act.Release source target power Hidden) Done e =
+    ap (λ (b : Bool). if b then taking_front (act.Release source target power Hidden) (act.Release source target power) [] else Some (record { act = act.Release source target power Hidden; left = [] })) e
+unopened observer (act.Release source target power (Kept plain)) Done e = absurd (true≢false (sym e))
+unopened observer (act.Release source target power (Faulted fault)) Done e = absurd (true≢false (sym e))
+unopened observer (act.Release source target power held) (Got value) e = absurd (true≢false (sym e))
+unopened observer (act.Release source target power held) (Told told) e = absurd (true≢false (sym e))
+unopened observer (act.Release source target power held) (Refused fault) e = absurd (true≢false (sym e))
+unopened observer asked reply e = absurd (true≢false (sym e))
+
+-- the move of an act of the task's own
+act-task : (parts : LowParts) (k : ℕ) (asked : Act) (reply : Reply) (p : PlansAct parts k asked reply) → IsTaskOf (low_configuration_of parts.script parts.longest parts.holders) k (state_in parts.script p.task)
+act-task parts k asked reply p = task-low parts.script parts.longest parts.holders k (Some p.task) p.is
+
+same-task : {x y : TaskState} {t : Option TaskState} → t ≡ Some x → t ≡ Some y → x ≡ y
+same-task e f = cc
+
+pub act-move : (parts : LowParts) (new : LowState) (k : ℕ) (asked seen : Act) (reply : Reply) (entry : Entry) → PlansAct parts k asked reply → (m : Moves (low_of parts) new k seen entry) → (m.move.act ≡ asked) × (m.move.reply ≡ reply)
+act-move parts new k asked seen reply entry p m =
+    let c : Configuration = low_configuration_of parts.script parts.longest parts.holders in
+    let same : state_in parts.script p.task ≡ m.task = same-task (act-task parts k asked reply p) m.is in
+    let moves : move_of (cell_at c) (Own asked reply p.onward) ≡ Some m.move = ap (move_of (cell_at c)) (sym p.plans) ∙ ap (λ (t : TaskState). move_of (cell_at c) (plan c.program t)) same ∙ m.moves in
+    let is : own_move asked reply p.onward ≡ m.move = own-moves c asked reply p.onward m.move moves in
+    (sym (ap (λ (x : Move). x.act) is), sym (ap (λ (x : Move). x.reply) is))
+
+pub lacks-release : (parts : LowParts) (k : ℕ) (asked : Act) (reply : Reply) (contents : List Content) → PlansAct parts k asked reply → lacks_content parts.observer asked reply ≡ true → contents ≡ []
+    → LacksRelease parts.observer (low_configuration_of parts.script parts.longest parts.holders) k contents
+unfolding low
+lacks-release parts k asked reply contents p lacks none =
+    let observer : Label = parts.observer in
+    let c : Configuration = low_configuration_of parts.script parts.longest parts.holders in
+    let state : TaskState = state_in parts.script p.task in
+    let move : Move = own_move asked reply p.onward in
+    let is : IsTaskOf c k state = act-task parts k asked reply p in
+    let moves : move_of (cell_at c) (plan c.program state) ≡ Some move = ap (move_of (cell_at c)) p.plans in
+    record {
+      can_move = can-task c k state is ∙ ap (λ (m : Option Move). is_some m) moves;
+      none_left = none;
+      no_turn = ap (option_and_then (low_turn observer 0 c k contents)) is
+          ∙ ap (option_and_then (λ (m : Move). option_map (low_with observer 0 c k state m) (opened observer m.act m.reply contents))) moves
+          ∙ ap (λ (cs : List Content). option_map (low_with observer 0 c k state move) (opened observer asked reply cs)) none
+          ∙ ap (option_map (low_with observer 0 c k state move)) (unopened observer asked reply lacks);
+    }
+
+-- a visit opens nothing
+quiet-opens : (observer : Label) (kind : Kind) (asked : Act) (reply : Reply) (contents : List Content) → kind_met asked ≡ Some kind → opened observer asked reply contents ≡ Some (record { act = asked; left = contents })
+unfolding opened
+quiet-opens observer kind (act.Release source target power content) reply contents e = absurd (cc)
+quiet-opens observer kind asked reply contents e = refl
+
+made-opens : (observer : Label) (asked : Act) (reply : Reply) (contents : List Content) → makes asked ≡ true → opened observer asked reply contents ≡ Some (record { act = asked; left = contents })
+unfolding opened
+made-opens observer (act.Release source target power content) reply contents e = absurd (true≢false (sym e))
+made-opens observer asked reply contents e = refl
+
+-- by which handle a visit meets its node
+pub visit-by : (parts : LowParts) (k n : ℕ) (asked : Act) (p : PlansVisit parts k asked n) → let state : TaskState = state_in parts.script p.task in IsMetBy state asked p.target (handle_ahead state.environment state.items)
+visit-by parts k n asked p = visit_meets_handle (program_of parts.script parts.longest) (state_in parts.script p.task) asked p.target p.onward p.plans
+
+pub visit-node : (parts : LowParts) (k n : ℕ) (asked : Act) (is_it : Bool) (handle : Handle) (p : PlansVisit parts k asked n) → let state : TaskState = state_in parts.script p.task in
+    handle_ahead state.environment state.items ≡ Some handle
+    → ((kind : Kind) → kind_met asked ≡ Some kind → is_it ≡ ready (met (Node kind handle) (cell_at (low_configuration_of parts.script parts.longest parts.holders) handle.number).state) asked) → VisitsNode parts k asked n is_it
+visit-node parts k n asked is_it handle p ahead tells =
+    let state : TaskState = state_in parts.script p.task in
+    let (kind, meets, is) = subst (IsMetBy state asked p.target) ahead (visit-by parts k n asked p) in
+    let number : handle.number ≡ n = sym (ap number_of is) ∙ p.number in
+    record {
+      visits = p;
+      kind = kind;
+      handle = handle;
+      kind_is = meets;
+      target = is;
+      readiness = ap (λ (m : ℕ). ready (met (Node kind handle) (cell_at (low_configuration_of parts.script parts.longest parts.holders) m).state) asked) (sym number) ∙ sym (tells kind meets);
+    }
+
+pub visit-new : (parts : LowParts) (k n : ℕ) (asked : Act) (p : PlansVisit parts k asked n) → let state : TaskState = state_in parts.script p.task in handle_ahead state.environment state.items ≡ None → VisitsNew parts k asked n
+visit-new parts k n asked p ahead =
+    let state : TaskState = state_in parts.script p.task in
+    let (is, makes_node) = subst (IsMetBy state asked p.target) ahead (visit-by parts k n asked p) in
+    record { visits = p; target = is ∙ ap New (sym (ap number_of is) ∙ p.number); makes_node = makes_node }
+
+-- a visit that waits
+pub waits-still : (parts : LowParts) (k n : ℕ) (asked : Act) → VisitsNode parts k asked n false → waits asked ≡ true → can (low_configuration_of parts.script parts.longest parts.holders) k ≡ false
+waits-still parts k n asked v waiting =
+    let c : Configuration = low_configuration_of parts.script parts.longest parts.holders in
+    let p : PlansVisit parts k asked n = v.visits in
+    let state : TaskState = state_in parts.script p.task in
+    let is : IsTaskOf c k state = task-low parts.script parts.longest parts.holders k (Some p.task) p.is in
+    let unready : ready (met p.target (cell_at c n).state) asked ≡ false = ap (λ (t : Target). ready (met t (cell_at c n).state) asked) v.target ∙ v.readiness in
+    can-task c k state is
+    ∙ ap (λ (q : Plan). is_some (move_of (cell_at c) q)) p.plans
+    ∙ ap (λ (m : ℕ). is_some (visit asked p.target p.onward (met p.target (cell_at c m).state))) p.number
+    ∙ ap (λ (m : Option Move). is_some m) (visit-waits asked p.target p.onward (met p.target (cell_at c n).state) waiting unready)
+
+-- a visit's turn
+pub visit-turn : (parts : LowParts) (new : LowState) (k n : ℕ) (asked : Act) (entry : Entry) (contents : List Content) → PlansVisit parts k asked n → Moves (low_of parts) new k asked entry → TakesTurn (low_of parts) new k contents contents entry
+visit-turn parts new k n asked entry contents p m =
+    let c : Configuration = low_configuration_of parts.script parts.longest parts.holders in
+    let state : TaskState = state_in parts.script p.task in
+    let same : state ≡ m.task = same-task (task-low parts.script parts.longest parts.holders k (Some p.task) p.is) m.is in
+    let moves : move_of (cell_at c) (Visit asked p.target p.onward) ≡ Some m.move = ap (move_of (cell_at c)) (sym p.plans) ∙ ap (λ (t : TaskState). move_of (cell_at c) (plan c.program t)) same ∙ m.moves in
+    let is : visit_move c asked p.target p.onward ≡ m.move = visit-moves c asked p.target p.onward m.move moves in
+    takes-turn (low_of parts) new k contents contents asked entry m
+    (ap (λ (a : Act). opened parts.observer a m.move.reply contents) (sym (ap (λ (x : Move). x.act) is)) ∙ opens (handle_ahead state.environment state.items) (visit-by parts k n asked p) m.move.reply)
+  where
+    opens : (named : Option Handle) → IsMetBy (state_in parts.script p.task) asked p.target named → (reply : Reply) → opened parts.observer asked reply contents ≡ Some (record { act = asked; left = contents })
+    opens None meets reply = made-opens parts.observer asked reply contents meets.1
+    opens (Some handle) meets reply = quiet-opens parts.observer meets.0 asked reply contents meets.1
+
+-- the plan that a next turn tells
+pub next-own : (p : Plan) (asked : Act) (reply : Reply) → next_by p ≡ next.Own asked reply → (onward : Onward) × (p ≡ Own asked reply onward)
+next-own Over asked reply e = absurd (cc)
+next-own (Own a r onward) asked reply e = let acts : a ≡ asked = cc in let replies : r ≡ reply = cc in (onward, ap (λ (x : Act). Own x r onward) acts ∙ ap (λ (x : Reply). Own asked x onward) replies)
+next-own (Visit a target onward) asked reply e = absurd (cc)
+
+pub next-visit : (p : Plan) (asked : Act) (n : ℕ) → next_by p ≡ next.Visit asked n → (target : Target) × (onward : Onward) × (p ≡ Visit asked target onward) × (number_of target ≡ n)
+next-visit Over asked n e = absurd (cc)
+next-visit (Own a r onward) asked n e = absurd (cc)
+next-visit (Visit a target onward) asked n e = let acts : a ≡ asked = cc in let numbers : number_of target ≡ n = cc in (target, onward, ap (λ (x : Act). Visit x target onward) acts, numbers)
+
+pub next-over : (p : Plan) → next_by p ≡ next.Over → Over ≡ p
+next-over Over e = refl
+next-over (Own a r onward) e = absurd (cc)
+next-over (Visit a target onward) e = absurd (cc)

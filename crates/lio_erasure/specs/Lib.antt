@@ -1,0 +1,4 @@
+pub mod Acts
+pub mod Low
+pub mod LowParts
+pub mod Turn

@@ -1,0 +1,332 @@
+//! The erased calculus, which takes turns.
+ghost use Rattle.std.specs.Prelude.{◌≡◌, IfOk, slice_get};
+
+use crate::acts::{lacks_content, waits, with_content};
+use crate::cells::LowConfig;
+use crate::hidden::seen;
+use crate::made::made;
+use crate::shown::{Shown, entry_of, gone};
+use lio_clauses::NoMemory;
+use lio_labels::Label;
+use lio_syntax::Script;
+use lio_task::{Holder, Next, Task};
+use lio_values::{Act, Content, Entry, Held, Reply};
+use lio_view::Contents;
+use std::alloc::Global;
+use std::marker::Model;
+use thiserror::Error;
+
+/// Why a task took no turn.
+#[derive(Debug, PartialEq, Drop, Error)]
+pub enum LowFault {
+    /// The task with this number can't take a turn.
+    #[error("task {0} can't take a turn")]
+    Still(u32),
+    /// The task with this number releases a content that wasn't told.
+    #[error("no content is left that task {0} releases")]
+    NoRelease(u32),
+    #[error("out of memory")]
+    NoMemory,
+}
+
+impl From<NoMemory> for LowFault {
+    ghost use Rattle.lio_erasure.specs.declared.low.LowFault.TheVariants.{NoMemory as without_memory};
+
+    ghost from_gives = { λ _ fault. fault ≡ without_memory };
+
+    fn from(_error: NoMemory) -> LowFault {
+        LowFault::NoMemory
+    }
+}
+
+/// What an observer sees of a configuration, which takes the turns that the observer sees.
+#[derive(Drop)]
+pub struct Low {
+    config: LowConfig,
+    observer: Label,
+    script: Script,
+    longest: u32,
+}
+
+impl Model for Low {
+    ghost use Rattle.std.specs.Prelude.{◌≡◌};
+    ghost use Rattle.lio_erasure.specs.Low.{IsErased, LeavesOutBlanks, low_configuration_of};
+    ghost use Rattle.lio_erasure.specs.LowParts.{LowParts, low_code};
+
+    ghost Value = { LowParts };
+
+    ghost coded = { low_code };
+
+    ghost view = { λ low. record { script = low.script; longest = low.longest; observer = low.observer; holders = low.config } };
+
+    ghost invariant = { λ low. IsErased low.observer (low_configuration_of low.script low.longest low.config) × LeavesOutBlanks low.config };
+}
+
+impl Low {
+    ghost use Rattle.std.specs.Prelude.{◌≡◌, List, true, false, IsSome, IsTrue, IfOk, IfErr, OnOk, OnErr};
+    ghost use Rattle.std.specs.Option.{option_map};
+    ghost use Rattle.lio_values.specs.declared.value.Content.{Content};
+    ghost use Rattle.lio_values.specs.Erasure.{erase_entry};
+    ghost use Rattle.lio_calculus.specs.Step.{blank, met_after, waits};
+    ghost use Rattle.lio_calculus.specs.Afforded.{makes};
+    ghost use Rattle.lio_plan.specs.StateOf.{program_of};
+    ghost use Rattle.lio_task.specs.Births.{CanBear};
+    ghost use Rattle.lio_task.specs.Next.{resumed};
+    ghost use Rattle.lio_task.specs.StateOf.{state_in};
+    ghost use Rattle.lio_task.specs.declared.task.Task.{Task};
+    ghost use Rattle.lio_erasure.specs.Low.{IsSeenOfSound, LeavesOutBlanks, is_kept, low_cell_of, low_configuration_of, low_task_in, seen_cell, seen_task};
+    ghost use Rattle.lio_erasure.specs.LowParts.{low_of};
+    ghost use Rattle.lio_erasure.specs.Turn.{IsShown, Moves, PlansAct, PlansOwn, PlansVisit, Stays, TakesTurn, VisitsNew, VisitsNode};
+
+    /// What an observer sees of a well-formed configuration, with its script and how long a text may become in it.
+    #[tactic(none)]
+    pub fn new(config: LowConfig, observer: Label, script: Script, longest: u32) -> Low
+        requires seen { IsSeenOfSound observer (low_configuration_of script longest config) }
+        requires kept { LeavesOutBlanks config }
+        ensures { low_of result ≡ record { observer = observer; configuration = low_configuration_of script longest config } }
+    {
+        Low {
+            config,
+            observer,
+            script,
+            longest,
+        }
+    }
+
+    /// The cells that the observer sees.
+    #[tactic(none)]
+    pub fn config(&self) -> &LowConfig
+        ensures cells { let c = (low_of self.now).configuration in low_configuration_of c.program.procedures c.program.longest result.now ≡ c }
+        ensures kept { LeavesOutBlanks result.now }
+    {
+        &self.config
+    }
+
+    /// What a turn of a task shows, by its entry.
+    fn shown_by(&self, alloc: Global, task: &Task, entry: &Entry) -> Result<Shown, NoMemory>
+        ensures entry { IfOk result (λ shown. shown.entry ≡ erase_entry self.now.observer entry.now) }
+        ensures gone { IfOk result (λ shown. option_map (state_in self.now.script) shown.gone
+            ≡ seen_task self.now.observer (resumed (program_of self.now.script self.now.longest) (state_in self.now.script task.now) entry.now.act entry.now.reply)) }
+    {
+        let seen = entry.erase(alloc, &self.observer)?;
+        match gone(
+            alloc,
+            task,
+            &self.script,
+            self.longest,
+            &self.observer,
+            &entry.act,
+            &entry.reply,
+        ) {
+            Ok(gone) => Ok(Shown { entry: seen, gone }),
+            Err(error) => {
+                drop(seen);
+                Err(error)
+            }
+        }
+    }
+
+    /// What a turn of the task with a number shows.
+    #[tactic(none)]
+    fn shown(
+        &self,
+        alloc: Global,
+        k: u32,
+        target: Option<u32>,
+        act: Act,
+        reply: Reply,
+    ) -> Result<Shown, NoMemory>
+        requires { IsSome (low_task_in self.now.holders k) }
+        ensures { IfOk result (λ shown. (task : Task) → low_task_in self.now.holders k ≡ Some task → IsShown self.now task k target act reply shown) }
+    {
+        let Some(task) = self.config.task(k) else {
+            unreachable!()
+        };
+        let entry = entry_of(alloc, k, target, task.label(), act, reply)?;
+        let shown = self.shown_by(alloc, task, &entry);
+        drop(entry);
+        shown
+    }
+
+    /// Takes the turn of a task that meets no other node, with this act in the place of the one that it plans.
+    #[tactic(none)]
+    fn own(&mut self, alloc: Global, k: u32, act: Act, reply: Reply) -> Result<Entry, NoMemory>
+        requires { PlansOwn self.old k reply }
+        ensures ok { IfOk result (Moves (low_of self.old) (low_of self.new) k act) }
+        ensures err { OnErr result (low_of self.new ≡ low_of self.old) }
+    {
+        let shown = self.shown(alloc, k, None, act, reply)?;
+        if let Err(error) = self.config.reserve(alloc, k, &shown.entry.act) {
+            drop(shown);
+            return Err(error);
+        }
+        self.config.serve(k, &shown.entry.act);
+        self.config.go(k, shown.gone);
+        Ok(shown.entry)
+    }
+
+    /// Takes the turn of a task that meets a node that is ready.
+    #[tactic(none)]
+    fn meet(&mut self, alloc: Global, k: u32, act: Act, n: u32) -> Result<Entry, NoMemory>
+        requires { VisitsNode self.old k act n true }
+        ensures ok { IfOk result (Moves (low_of self.old) (low_of self.new) k act) }
+        ensures err { OnErr result (low_of self.new ≡ low_of self.old) }
+    {
+        let Some(holder) = self.config.holder(n) else {
+            unreachable!()
+        };
+        let reply = match holder.node.answer(alloc, &act) {
+            Ok(reply) => reply,
+            Err(error) => {
+                drop(act);
+                return Err(error);
+            }
+        };
+        let shown = self.shown(alloc, k, Some(n), act, reply)?;
+        if let Err(error) = self.config.reserve(alloc, n, &shown.entry.act) {
+            drop(shown);
+            return Err(error);
+        }
+        self.config.serve(n, &shown.entry.act);
+        self.config.go(k, shown.gone);
+        Ok(shown.entry)
+    }
+
+    /// Takes the turn of a task that writes or sends to a cell that is left out: it changes the actor alone.
+    #[tactic(none)]
+    fn miss(&mut self, alloc: Global, k: u32, act: Act, n: u32) -> Result<Entry, NoMemory>
+        requires visits { VisitsNode self.old k act n false }
+        requires stays { waits act ≡ false }
+        ensures ok { IfOk result (Moves (low_of self.old) (low_of self.new) k act) }
+        ensures err { OnErr result (low_of self.new ≡ low_of self.old) }
+    {
+        let shown = self.shown(alloc, k, Some(n), act, Reply::Done)?;
+        self.config.go(k, shown.gone);
+        Ok(shown.entry)
+    }
+
+    /// Takes the turn of a task that makes a node. It is placed only where nothing is.
+    #[tactic(none)]
+    fn make(&mut self, alloc: Global, k: u32, act: Act, n: u32) -> Result<Entry, NoMemory>
+        requires { VisitsNew self.old k act n }
+        ensures ok { IfOk result (Moves (low_of self.old) (low_of self.new) k act) }
+        ensures err { OnErr result (low_of self.new ≡ low_of self.old) }
+    {
+        let shown = self.shown(alloc, k, Some(n), act, Reply::Done)?;
+        match self.made(alloc, &shown.entry) {
+            Ok(cell) => {
+                self.config.place(n, cell);
+                self.config.go(k, shown.gone);
+                Ok(shown.entry)
+            }
+            Err(error) => {
+                drop(shown);
+                Err(error)
+            }
+        }
+    }
+
+    /// The node that the act of an entry makes, as the observer sees it.
+    #[tactic(none)]
+    fn made(&self, alloc: Global, entry: &Entry) -> Result<Option<Holder>, NoMemory>
+        requires makes { IsTrue (makes entry.now.act) }
+        requires bears { CanBear self.now.script entry.now.at entry.now.act }
+        ensures seen { IfOk result (λ cell. low_cell_of self.now.script cell ≡ seen_cell self.now.observer (met_after (program_of self.now.script self.now.longest) entry.now.at entry.now.act blank)) }
+        ensures kept { IfOk result (λ cell. IsTrue (is_kept cell)) }
+    {
+        let holder = made(alloc, &entry.act, &entry.at, &self.script)?;
+        Ok(seen(holder, &self.observer))
+    }
+
+    /// Takes the turn of a task that meets no other node. A hidden content that it releases to a label below the observer's is the next one
+    /// of those that were released.
+    fn release(
+        &mut self,
+        alloc: Global,
+        k: u32,
+        act: Act,
+        reply: Reply,
+        releases: &mut Contents,
+    ) -> Result<Entry, LowFault>
+        requires { PlansAct self.old k act reply }
+        ensures ok { IfOk result (TakesTurn (low_of self.old) (low_of self.new) k releases.old releases.new) }
+        ensures fault { IfErr result (Stays (low_of self.old) k releases.old) }
+        ensures err { OnErr result ((low_of self.new ≡ low_of self.old) × (releases.new ≡ releases.old)) }
+    {
+        if !lacks_content(&act, &reply, &self.observer) {
+            return Ok(self.own(alloc, k, act, reply)?);
+        }
+        match told(alloc, releases) {
+            Ok(Some(content)) => {
+                let entry = self.own(alloc, k, with_content(act, content), reply)?;
+                drop(releases.take_front());
+                Ok(entry)
+            }
+            Ok(None) => {
+                drop(act);
+                drop(reply);
+                Err(LowFault::NoRelease(k))
+            }
+            Err(NoMemory) => {
+                drop(act);
+                drop(reply);
+                Err(LowFault::NoMemory)
+            }
+        }
+    }
+
+    /// Takes the turn of a task that meets a node. An access waits until its node is ready.
+    fn visit(&mut self, alloc: Global, k: u32, act: Act, n: u32) -> Result<Entry, LowFault>
+        requires { PlansVisit self.old k act n }
+        ensures ok { IfOk result (Moves (low_of self.old) (low_of self.new) k act) }
+        ensures fault { IfErr result (λ fault. (contents : List Content) → Stays (low_of self.old) k contents fault) }
+        ensures err { OnErr result (low_of self.new ≡ low_of self.old) }
+    {
+        let Some(task) = self.config.task(k) else {
+            unreachable!()
+        };
+        let Some(handle) = task.handle(&self.script) else {
+            return Ok(self.make(alloc, k, act, n)?);
+        };
+        if self.config.is_ready(&act, handle) {
+            return Ok(self.meet(alloc, k, act, n)?);
+        }
+        if waits(&act) {
+            drop(act);
+            return Err(LowFault::Still(k));
+        }
+        Ok(self.miss(alloc, k, act, n)?)
+    }
+
+    /// Takes the turn of task `k` in the erased calculus; the entry's ticket is 0. A hidden content that the turn releases to a label below the
+    /// observer's is the first of `releases`, which is taken out of them. After a refusal the configuration and the releases are as before.
+    pub fn turn(
+        &mut self,
+        alloc: Global,
+        k: u32,
+        releases: &mut Contents,
+    ) -> Result<Entry, LowFault>
+        ensures ok { IfOk result (TakesTurn (low_of self.old) (low_of self.new) k releases.old releases.new) }
+        ensures fault { IfErr result (Stays (low_of self.old) k releases.old) }
+        ensures err { OnErr result ((low_of self.new ≡ low_of self.old) × (releases.new ≡ releases.old)) }
+    {
+        let Some(task) = self.config.task(k) else {
+            return Err(LowFault::Still(k));
+        };
+        match task.next(alloc, &self.script, self.longest)? {
+            Next::Over => Err(LowFault::Still(k)),
+            Next::Own(act, reply) => self.release(alloc, k, act, reply, releases),
+            Next::Visit(act, n) => self.visit(alloc, k, act, n),
+        }
+    }
+}
+
+/// The first of the contents that are told, if there is one.
+fn told(alloc: Global, contents: &Contents) -> Result<Option<Held<Content>>, NoMemory>
+    ensures { IfOk result (λ first. first ≡ slice_get contents.now 0) }
+{
+    match contents.as_slice().first() {
+        Some(content) => Ok(Some(Held::new(alloc, content.copy(alloc)?)?)),
+        None => Ok(None),
+    }
+}
