@@ -29,11 +29,11 @@ impl Standing<'_> {
     ghost use Rattle.lio_plan.specs.Planned.{refusal};
 
     /// The fault of a kind, at the task's label.
-    fn fault(&self, alloc: Global, kind: FaultKind) -> Result<Fault, NoMemory>
+    fn fault(&self, alloc: Global, kind: FaultKind) -> Result<Held<Fault>, NoMemory>
         ensures { IfOk result (λ fault. fault ≡ record { kind = kind; at = self.now.label.now }) }
     {
         match self.label.copy(alloc) {
-            Ok(at) => Ok(Fault { kind, at }),
+            Ok(at) => Held::new(alloc, Fault { kind, at }),
             Err(error) => {
                 drop(kind);
                 Err(error)
@@ -69,18 +69,11 @@ impl Standing<'_> {
     }
 }
 
-/// A fault, as a reply shows it.
-fn shown(alloc: Global, fault: &Fault) -> Result<Held<Fault>, NoMemory>
-    ensures { IfOk result (λ shown. shown ≡ fault.now) }
-{
-    Held::new(alloc, fault.copy(alloc)?)
-}
-
-/// An act that is refused with a fault.
-fn throwing(alloc: Global, act: Act, fault: Fault) -> Result<Turn, NoMemory>
+/// An act that is refused with a fault, which its reply shows.
+fn throwing(alloc: Global, act: Act, fault: Held<Fault>) -> Result<Turn, NoMemory>
     ensures { IfOk result (λ planned. planned ≡ turn.Own act (reply.Refused fault) (onward.Throw fault)) }
 {
-    match shown(alloc, &fault) {
+    match fault.copy(alloc) {
         Ok(shown) => Ok(Turn::Own(act, Reply::Refused(shown), Onward::Throw(fault))),
         Err(error) => {
             drop(act);

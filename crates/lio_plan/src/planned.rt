@@ -1,7 +1,7 @@
 //! What a task's next turn does, and how the task goes on after it.
 use lio_control::Environment;
 use lio_labels::Label;
-use lio_values::{Act, Content, Fault, Handle, Plain, Reply, Text, Value};
+use lio_values::{Act, Content, Fault, Handle, Held, Plain, Reply, Text, Value};
 
 /// What a task's next turn does, and how the task goes on after it.
 #[derive(Drop)]
@@ -60,7 +60,7 @@ pub enum Onward {
     /// The name is bound to the value.
     Bind(Text, Value),
     /// The name is bound to the plain value, sealed under the label.
-    Seal(Text, Label, Plain),
+    Seal(Text, Label, Held<Plain>),
     /// With the body of a procedure, which begins at a place, in this environment; the name is bound to what it returns.
     Call(Text, Environment, usize),
     /// With the caller, to which the value is returned.
@@ -70,7 +70,7 @@ pub enum Onward {
     /// At the raised label, with the access of the statement.
     RaiseTo(Label),
     /// At the first label, with the content, which was sealed under the second, bound to the name, or thrown.
-    Unlabel(Text, Label, Label, Content),
+    Unlabel(Text, Label, Held<Label>, Held<Content>),
     /// With the lower clearance.
     Lower(Label),
     /// The name is bound to the content that was released, sealed under the label.
@@ -86,7 +86,7 @@ pub enum Onward {
     /// The name is bound to what was got or told, or the fault that was told is thrown.
     BindReply(Text),
     /// With the nearest handler of the fault.
-    Throw(Fault),
+    Throw(Held<Fault>),
     /// Not at all.
     End,
 }

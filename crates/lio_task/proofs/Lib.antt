@@ -4,5 +4,8 @@ pub mod StepAfter
 pub mod PlannedLemmas
 pub mod HolderLemmas
 pub mod MoveLemmas
+pub mod PairLemmas
+pub mod LentLemmas
+pub mod TurnLemmas
 pub mod PreviewLemmas
 pub mod WellFormedLemmas

@@ -1,44 +1,33 @@
 -- The moves of tasks, and the steps that they make.
-use Rattle.std.proofs.Common.{◌≡◌, ◌∙◌, refl, sym, ap, subst, ℕ, ◌+◌, ◌<◌, ◌^◌, Bool, true, false, true≢false, not, ◌&&◌, ◌||◌, if◌then◌else◌, IsTrue, nat_lt, List, length, get_or, Option, Some, None, option_and_then, is_some, arith}
-use Rattle.std.specs.Option.{option_map, unwrap_or}
+use Rattle.std.proofs.Common.{◌≡◌, ◌∙◌, refl, sym, ap, subst, ℕ, ◌+◌, ◌<◌, ◌^◌, Bool, true, false, true≢false, not, ◌&&◌, if◌then◌else◌, nat_lt, List, length, get_or, Option, Some, None, option_and_then, is_some, arith}
+use Rattle.std.specs.Option.{option_map}
 use Rattle.std.proofs.lemmas.Bool.Decides.{nat_tests}
-use Rattle.lio_labels.specs.declared.label.Label.{Label}
 use Rattle.lio_values.specs.declared.act.Act.{Act}
 use Rattle.lio_values.specs.declared.act.Act.TheVariants as act
-use Rattle.lio_values.specs.declared.act.Reply.{Reply}
-use Rattle.lio_values.specs.declared.entry.Entry.{Entry}
 use Rattle.lio_cells.specs.declared.state.State.{State}
 use Rattle.lio_cells.specs.declared.state.State.TheVariants.{Absent}
-use Rattle.lio_cells.specs.State.{ready as is_ready, answer, is_job}
-use Rattle.lio_cells.specs.Node.{NodeState, takes_part}
+use Rattle.lio_cells.specs.State.{ready as is_ready, answer}
 use Rattle.lio_syntax.specs.Statements.{Procedure}
 use Rattle.lio_syntax.specs.Lines.{script_lines}
 use Rattle.lio_calculus.specs.Task.{TaskState}
-use Rattle.lio_calculus.specs.Going.{gone_on}
 use Rattle.lio_calculus.specs.Going as going
 use Rattle.lio_calculus.specs.Plan.{Over, Program, Target, Visit, plan}
-use Rattle.lio_calculus.specs.Step.{Configuration, Move, Turn, after, born, can, cell_at, entry_of, is_met, met, move_of, number_of, step, turn_of, visit, waits}
+use Rattle.lio_calculus.specs.Step.{Configuration, Move, Turn, after, can, cell_at, entry_of, is_met, met, move_of, number_of, step, turn_of, visit, waits}
 use Rattle.lio_calculus.specs.Sound.{IsSound, IsTaskOf}
 use Rattle.lio_calculus.specs.Afforded.{AffordsAct, AffordsPlan}
 use Rattle.lio_calculus.specs.Meeting.{MeetsNode}
 use Rattle.lio_calculus.proofs.AffordedLemmas.{plan_affords}
 use Rattle.lio_calculus.proofs.MeetingLemmas.{visit_meets_node}
-use Rattle.lio_calculus.proofs.SoundLemmas.{task-job}
 use Rattle.lio_plan.specs.declared.planned.Onward.{Onward}
 use Rattle.lio_plan.specs.declared.planned.Target.{Target as Named}
 use Rattle.lio_plan.specs.Planned.{onward_of, simple_of, target_of}
-use Rattle.lio_plan.specs.StateOf.{program_of}
 use Rattle.lio_task.specs.declared.config.Config.{Config}
 use Rattle.lio_task.specs.declared.config.Holder.{Holder}
-use Rattle.lio_task.specs.declared.go.Way.{Way}
-use Rattle.lio_task.specs.declared.go.Way.TheVariants as way
 use Rattle.lio_task.specs.Births.{CanBear}
-use Rattle.lio_task.specs.Goes.{way_of}
 use Rattle.lio_task.specs.StateOf.{state_in}
-use Rattle.lio_task.specs.Configuration.{cell_of, configuration_of, node_in, task_in}
-use Rattle.lio_task.specs.Takes.{GoesAt, Meets, Moves, PlansOwn, PlansVisit, ServesAt, Steps, server_of}
-use Rattle.lio_task.proofs.HolderLemmas.{cell_at-configuration_of, cells-length, node-cell, task-cell, task-within}
-use Rattle.lio_task.proofs.StepAfter.{gone_at, served_at, parts-after}
+use Rattle.lio_task.specs.Configuration.{cell_of, configuration_of}
+use Rattle.lio_task.specs.Takes.{PlansVisit}
+use Rattle.lio_task.proofs.HolderLemmas.{cell_at-configuration_of, cells-length, task-cell}
 
 -- a task that isn't there, or has no move, can't take a turn
 pub no-task-still : (c : Configuration) (k : ℕ) → (cell_at c k).task ≡ None → can c k ≡ false
@@ -54,31 +43,6 @@ no-move-still c k task there none =
 -- what a task can go by that an ended one can't
 pub over-still : (c : Configuration) (k : ℕ) (task : TaskState) → IsTaskOf c k task → Over ≡ plan c.program task → can c k ≡ false
 over-still c k task there e = no-move-still c k task there (ap (move_of (cell_at c)) (sym e))
-
--- the move of an act of the task's own
-pub owns : (script : List Procedure) (config : Config) (k : ℕ) (asked : Act) (reply : Reply) (w : Way) → IsSound (configuration_of script config) → PlansOwn script config k asked reply w → Moves script config k None asked reply w None
-owns script config k asked reply w sound plans =
-    let c : Configuration = configuration_of script config in
-    let state : TaskState = state_in script plans.task in
-    let there : IsTaskOf c k state = task-cell script config k plans.task plans.is in
-    record {
-      task = plans.task;
-      is = plans.is;
-      can_go = plans.can_go;
-      move = record { act = asked; target = None; reply = reply; onward = way_of (script_lines script) state.items w };
-      moves = ap (move_of (cell_at c)) plans.plans;
-      target_is = refl;
-      act_is = refl;
-      reply_is = refl;
-      onward_is = refl;
-      child_is = refl;
-      meets = tt;
-      serves = record { within = task-within script config k plans.task plans.is; takes_part = job-takes_part (is_ready (cell_at c k).state asked) (is_job (cell_at c k).state) (task-job c k state sound there) };
-    }
-  where
-    job-takes_part : (ready job : Bool) → job ≡ true → (ready || job) ≡ true
-    job-takes_part true job e = refl
-    job-takes_part false job e = e
 
 -- a visit of a node that is ready, and one that waits
 pub visit-ready : (asked : Act) (target : Target) (onward : going.Onward) (state : State) → is_ready state asked ≡ true → visit asked target onward state ≡ Some (record { act = asked; target = Some target; reply = answer state asked; onward = onward })
@@ -111,33 +75,6 @@ meeting script config k asked named onward sound plans =
     visit_meets_node (configuration_of script config) k (state_in script plans.task) asked (target_of named) (onward_of (script_lines script) (simple_of (state_in script plans.task).items) onward) sound
     (task-cell script config k plans.task plans.is) plans.plans
 
-pub visits : (script : List Procedure) (config : Config) (k : ℕ) (asked : Act) (named : Named) (onward : Onward) (reply : Reply) (child : Option TaskState) → IsSound (configuration_of script config)
-    → (plans : PlansVisit script config k asked named onward) → is_ready (cell_at (configuration_of script config) (number_of (target_of named))).state asked ≡ true
-    → reply ≡ answer (cell_at (configuration_of script config) (number_of (target_of named))).state asked → child ≡ born (program_of script config.longest) plans.task.label asked
-    → Moves script config k (Some (number_of (target_of named))) asked reply (way.On onward) child
-visits script config k asked named onward reply child sound plans ready replies bears =
-    let c : Configuration = configuration_of script config in
-    let state : TaskState = state_in script plans.task in
-    let target : Target = target_of named in
-    let there : IsTaskOf c k state = task-cell script config k plans.task plans.is in
-    let on : going.Onward = onward_of (script_lines script) (simple_of state.items) onward in
-    let meets : MeetsNode c k asked target = meeting script config k asked named onward sound plans in
-    record {
-      task = plans.task;
-      is = plans.is;
-      can_go = (plans.at, (subst (AffordsPlan c.program state) plans.plans (plan_affords c.program state (sound.clearance k state there))).0);
-      move = record { act = asked; target = Some target; reply = reply; onward = on };
-      moves = visit-moves c state asked target on plans.plans meets.met ∙ visit-ready asked target on (cell_at c (number_of target)).state ready
-          ∙ ap (λ (r : Reply). let move : Move = record { act = asked; target = Some target; reply = r; onward = on } in Some move) (sym replies);
-      target_is = refl;
-      act_is = refl;
-      reply_is = refl;
-      onward_is = refl;
-      child_is = bears;
-      meets = record { other = meets.other ready; met = meets.met; own = meets.own };
-      serves = record { within = meets.within; takes_part = ap (λ (b : Bool). b || is_job (cell_at c (number_of target)).state) ready };
-    }
-
 -- a visit of a node that isn't ready waits
 pub waits-still : (script : List Procedure) (config : Config) (k : ℕ) (asked : Act) (named : Named) (onward : Onward) → IsSound (configuration_of script config) → PlansVisit script config k asked named onward
     → is_ready (cell_at (configuration_of script config) (number_of (target_of named))).state asked ≡ false → can (configuration_of script config) k ≡ false
@@ -165,47 +102,6 @@ visit-bears script config k asked named onward sound plans =
     let c : Configuration = configuration_of script config in
     let state : TaskState = state_in script plans.task in
     act-bears c.program state asked plans.task.range (subst (AffordsPlan c.program state) plans.plans (plan_affords c.program state (sound.clearance k state (task-cell script config k plans.task plans.is)))).1
-
--- the node that serves
-pub server-is : (k : ℕ) (target : Option Target) (number : Option ℕ) → option_map number_of target ≡ number → unwrap_or number k ≡ server_of k target
-server-is k None number e = ap (λ (n : Option ℕ). unwrap_or n k) (sym e)
-server-is k (Some target) number e = ap (λ (n : Option ℕ). unwrap_or n k) (sym e)
-
--- the parts of a turn make the step
-pub takes : (script : List Procedure) (old mid went new : Config) (ticket k : ℕ) (target : Option ℕ) (asked : Act) (reply : Reply) (w : Way) (child : Option TaskState) (at : Label) (m : Moves script old k target asked reply w child)
-    → at ≡ m.task.label → configuration_of script mid ≡ configuration_of script old → task_in mid k ≡ task_in old k → GoesAt script mid went k w asked reply → ServesAt script went new (server_of k m.move.target) asked child
-    → Steps (configuration_of script old) (configuration_of script new) k ticket (record { ticket = ticket; actor = k; target = target; at = at; act = asked; reply = reply })
-unfolding step
-takes script old mid went new ticket k target asked reply w child at m label same tasks goes serves =
-    let c : Configuration = configuration_of script old in
-    let state : TaskState = state_in script m.task in
-    let gone : TaskState = gone_on state (way_of (script_lines script) state.items w) asked reply in
-    let n : ℕ = server_of k m.move.target in
-    let went_is : configuration_of script went ≡ gone_at c k gone = goes m.task (tasks ∙ m.is) ∙ ap (λ (d : Configuration). gone_at d k gone) same in
-    let gone_is : gone ≡ gone_on state m.move.onward m.move.act m.move.reply =
-    ap (λ (o : going.Onward). gone_on state o asked reply) (sym m.onward_is) ∙ ap (λ (a : Act). gone_on state m.move.onward a reply) (sym m.act_is) ∙ ap (gone_on state m.move.onward m.move.act) (sym m.reply_is) in
-    let new_is : configuration_of script new ≡ after c k state m.move =
-    serves
-    ∙ ap (λ (d : Configuration). served_at d n asked child) went_is
-    ∙ ap (λ (a : Act). served_at (gone_at c k gone) n a child) (sym m.act_is)
-    ∙ ap (served_at (gone_at c k gone) n m.move.act) m.child_is
-    ∙ parts-after c k state gone m.move m.move.target refl (task-within script old k m.task m.is) gone_is (subst (λ (a : Act). Meets c k a m.move.target) (sym m.act_is) m.meets) in
-    let shown : Entry → Configuration → Option Turn = λ entry next. Some (record { entry = entry; next = next }) in
-    ap (option_and_then (turn_of ticket c k)) (task-cell script old k m.task m.is)
-    ∙ ap (option_map (λ (move : Move). let turn : Turn = record { entry = entry_of ticket k state move; next = after c k state move } in turn)) m.moves
-    ∙ ap (shown (entry_of ticket k state m.move)) (sym new_is)
-    ∙ ap (λ (e : Entry). shown e (configuration_of script new)) (entry-is (option_map number_of m.move.target) m.move.act m.move.reply m.target_is (sym label) m.act_is m.reply_is)
-  where
-    entry-is : (t : Option ℕ) (a : Act) (r : Reply) → t ≡ target → m.task.label ≡ at → a ≡ asked → r ≡ reply
-        → ◌≡◌ {A = Entry} (record { ticket = ticket; actor = k; target = t; at = m.task.label; act = a; reply = r }) (record { ticket = ticket; actor = k; target = target; at = at; act = asked; reply = reply })
-    entry-is t a r e f g h = rw e (rw f (rw g (rw h refl)))
-
--- the node that serves takes part
-pub serves-part : (script : List Procedure) (old mid went : Config) (k n : ℕ) (target : Option ℕ) (asked : Act) (reply : Reply) (w : Way) (child : Option TaskState) (m : Moves script old k target asked reply w child)
-    → n ≡ server_of k m.move.target → configuration_of script mid ≡ configuration_of script old → node_in went n ≡ node_in mid n → (node : NodeState) → node_in went n ≡ Some node → IsTrue (takes_part node.state asked)
-serves-part script old mid went k n target asked reply w child m server same nodes node there =
-    let state : (cell_at (configuration_of script old) n).state ≡ node.state = ap (λ (c : Configuration). (cell_at c n).state) (sym same) ∙ node-cell script mid n node (sym nodes ∙ there) in
-    subst (λ (s : State). takes_part s asked ≡ true) (ap (λ (i : ℕ). (cell_at (configuration_of script old) i).state) (sym server) ∙ state) m.serves.takes_part
 
 -- a holder where it was found, and one that wasn't found
 pub found-cell : (script : List Procedure) (config : Config) (n number : ℕ) (holders : List Holder) (holder : Holder) → holders ≡ config.holders.items → n ≡ number → true ≡ nat_lt n (length holders) → holder ≡ get_or holders n holder

@@ -2,7 +2,6 @@
 use Rattle.std.specs.Prelude.{ℕ, List, map, Option, option_and_then, slice_get}
 use Rattle.std.specs.Option.{option_map}
 use Rattle.lio_syntax.specs.Statements.{Procedure}
-use Rattle.lio_cells.specs.Node.{NodeState}
 use Rattle.lio_calculus.specs.Step.{Cell, Configuration}
 use Rattle.lio_plan.specs.StateOf.{program_of}
 use Rattle.lio_task.specs.declared.task.Task.{Task}
@@ -18,9 +17,6 @@ cell_of script holder = record { state = holder.node.state; task = option_map (s
 abbrev pub configuration_of : List Procedure → Config → Configuration
 configuration_of script config = record { program = program_of script config.longest; cells = map (cell_of script) config.holders.items }
 
--- the node and the task with a number
-abbrev pub node_in : Config → ℕ → Option NodeState
-node_in config n = option_map (λ holder. holder.node) (slice_get config.holders.items n)
-
+-- the task with a number
 abbrev pub task_in : Config → ℕ → Option Task
 task_in config k = option_and_then (λ holder. holder.task) (slice_get config.holders.items k)

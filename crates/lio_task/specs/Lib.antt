@@ -4,4 +4,6 @@ pub mod Goes
 pub mod Next
 pub mod Status
 pub mod Configuration
+pub mod Pair
+pub mod Turns
 pub mod Takes

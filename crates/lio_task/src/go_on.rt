@@ -36,7 +36,9 @@ impl Task {
                 Ok(())
             }
             Onward::Bind(name, value) => self.go_bind(alloc, script, &name, value),
-            Onward::Seal(name, label, plain) => self.go_seal(alloc, script, &name, label, plain),
+            Onward::Seal(name, label, plain) => {
+                self.go_seal(alloc, script, &name, label, plain.into_inner())
+            }
             Onward::Call(name, environment, body) => {
                 self.go_call(alloc, script, &name, environment, body)
             }
@@ -48,7 +50,7 @@ impl Task {
             Onward::RaiseTo(label) => self.go_raise_to(script, label),
             Onward::Unlabel(name, label, source, content) => {
                 drop(source);
-                self.go_unlabel(alloc, script, &name, label, content)
+                self.go_unlabel(alloc, script, &name, label, content.into_inner())
             }
             Onward::Lower(clearance) => {
                 self.go_lower(script, clearance);
@@ -72,7 +74,7 @@ impl Task {
                 Ok(())
             }
             Onward::BindReply(name) => self.go_reply(alloc, script, &name, reply),
-            Onward::Throw(fault) => self.go_throw(alloc, script, fault),
+            Onward::Throw(fault) => self.go_throw(alloc, script, fault.into_inner()),
             Onward::End => {
                 self.go_to_end(script);
                 Ok(())

@@ -10,10 +10,12 @@ mod go_on;
 mod going;
 mod handle;
 mod next;
+mod pair;
 mod preview;
 mod status;
 mod steps;
 mod task;
+mod turn;
 
 pub use config::{Config, Holder, StepFault};
 pub use next::Next;

@@ -50,7 +50,6 @@ impl Standing<'_> {
         ensures { IfOk result (λ result_plan. result_plan ≡ planned.Ends (content.Faulted (fault_of self.now kind.NoTurns))) }
     {
         let fault = self.fault(alloc, FaultKind::NoTurns)?;
-        let fault = Held::new(alloc, fault)?;
         Ok(Planned::Ends(Content::Faulted(fault)))
     }
 

@@ -43,12 +43,9 @@ impl Standing<'_> {
                 drop(current);
                 let name = name.copy(alloc)?;
                 let label = label.copy(alloc)?;
-                let plain = plain.copy(alloc)?;
-                Ok(Turn::Own(
-                    Act::Seal(asked),
-                    Reply::Done,
-                    Onward::Seal(name, label, plain),
-                ))
+                let plain = Held::new(alloc, plain.copy(alloc)?)?;
+                let onward = Onward::Seal(name, label, plain);
+                Ok(Turn::Own(Act::Seal(asked), Reply::Done, onward))
             }
             Verdict::No(kind) => self.refused(alloc, Act::Seal(asked), kind),
         }
@@ -71,8 +68,8 @@ impl Standing<'_> {
         match self.verdict(alloc, Op::Unlabel, label)? {
             Verdict::Go(current) => {
                 let name = name.copy(alloc)?;
-                let source = label.copy(alloc)?;
-                let content = content.copy(alloc)?;
+                let source = Held::new(alloc, label.copy(alloc)?)?;
+                let content = Held::new(alloc, content.copy(alloc)?)?;
                 let onward = Onward::Unlabel(name, current, source, content);
                 Ok(Turn::Own(Act::Raise(Op::Unlabel, asked), Reply::Done, onward))
             }
