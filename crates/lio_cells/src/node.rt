@@ -39,19 +39,27 @@ impl Node {
     pub fn of(alloc: Global, state: State) -> Result<Node, NoMemory>
         ensures { IfOk result (λ node. node ≡ node_of state) }
     {
-        let spare = Text::of(alloc, b"")?;
-        Ok(Node {
-            state,
-            room: Room::Nothing,
-            spare,
-        })
+        match Text::of(alloc, b"") {
+            Ok(spare) => Ok(Node {
+                state,
+                room: Room::Nothing,
+                spare,
+            }),
+            Err(refused) => {
+                drop(state);
+                Err(refused)
+            }
+        }
     }
 
     /// A node of an equal state, which keeps nothing ready.
     pub fn copy(&self, alloc: Global) -> Result<Node, NoMemory>
         ensures { IfOk result (λ node. node ≡ node_of self.now.state) }
     {
-        Node::of(alloc, self.state.copy(alloc)?)
+        match self.state.copy(alloc) {
+            Ok(state) => Node::of(alloc, state),
+            Err(refused) => Err(refused),
+        }
     }
 
     /// What it holds.

@@ -5,15 +5,25 @@ ghost use Rattle.lio_cells.specs.State.{answer, full_with, held, result_of};
 
 use crate::state::State;
 use lio_clauses::NoMemory;
-use lio_values::{Act, Held, Reply};
+use lio_values::{Act, Held, Reply, Value};
 use std::alloc::Global;
+
+/// A copy of what a node holds.
+fn answer_held(alloc: Global, value: &Value) -> Result<Reply, NoMemory>
+    ensures { IfOk result (λ reply. reply ≡ Reply.Got value.now) }
+{
+    match value.copy(alloc) {
+        Ok(value) => Ok(Reply::Got(Held::new(alloc, value)?)),
+        Err(refused) => Err(refused),
+    }
+}
 
 /// What a reference holds, where it is one.
 fn answer_read(alloc: Global, state: &State) -> Result<Reply, NoMemory>
     ensures { IfOk result (λ reply. reply ≡ option_map_or Reply.Got (held state.now) Reply.Done) }
 {
     match state {
-        State::Ref(_, value) => Ok(Reply::Got(Held::new(alloc, value.copy(alloc)?)?)),
+        State::Ref(_, value) => answer_held(alloc, value),
         State::Absent => Ok(Reply::Done),
         State::Var(_, _) => Ok(Reply::Done),
         State::Chan(_, _) => Ok(Reply::Done),
@@ -26,7 +36,7 @@ fn answer_take(alloc: Global, state: &State) -> Result<Reply, NoMemory>
     ensures { IfOk result (λ reply. reply ≡ option_map_or Reply.Got (full_with state.now) Reply.Done) }
 {
     match state {
-        State::Var(_, Some(value)) => Ok(Reply::Got(Held::new(alloc, value.copy(alloc)?)?)),
+        State::Var(_, Some(value)) => answer_held(alloc, value),
         State::Var(_, None) => Ok(Reply::Done),
         State::Absent => Ok(Reply::Done),
         State::Ref(_, _) => Ok(Reply::Done),

@@ -6,19 +6,29 @@ ghost use Rattle.lio_cells.specs.Room.{bytes_of, room_for, room_to_send};
 
 use crate::ready::{is_absent, is_job, is_reference, is_variable};
 use crate::room::Room;
-use crate::state::{State, copy_value};
+use crate::state::{State, copy_reference, copy_variable};
 use lio_clauses::NoMemory;
 use lio_labels::Label;
 use lio_values::{Act, Birth, Content, Text, Value};
 use std::alloc::Global;
 use std::mem;
 
+/// A copy of the value that a node will hold.
+fn room_to_hold(alloc: Global, value: &Value) -> Result<Room, NoMemory>
+    ensures { IfOk result (λ room. room ≡ Room.Holds value.now) }
+{
+    match value.copy(alloc) {
+        Ok(value) => Ok(Room::Holds(value)),
+        Err(refused) => Err(refused),
+    }
+}
+
 /// For a reference, a copy of the value that is written.
 fn room_to_write(alloc: Global, state: &State, value: &Value) -> Result<Room, NoMemory>
     ensures { IfOk result (λ room. room ≡ (if is_reference state.now then Room.Holds value.now else Room.Nothing)) }
 {
     if is_reference(state) {
-        Ok(Room::Holds(value.copy(alloc)?))
+        room_to_hold(alloc, value)
     } else {
         Ok(Room::Nothing)
     }
@@ -40,7 +50,7 @@ fn room_to_put(alloc: Global, state: &State, value: &Value) -> Result<Room, NoMe
     ensures { IfOk result (λ room. room ≡ (if is_variable state.now then Room.Holds value.now else Room.Nothing)) }
 {
     if is_variable(state) {
-        Ok(Room::Holds(value.copy(alloc)?))
+        room_to_hold(alloc, value)
     } else {
         Ok(Room::Nothing)
     }
@@ -95,7 +105,10 @@ fn room_for_reference(
     ensures { IfOk result (λ room. room ≡ (if is_absent state.now then Room.Becomes (State.Ref label.now value.now) else Room.Nothing)) }
 {
     if is_absent(state) {
-        Ok(Room::Becomes(State::Ref(label.copy(alloc)?, value.copy(alloc)?)))
+        match copy_reference(alloc, label, value) {
+            Ok(new) => Ok(Room::Becomes(new)),
+            Err(refused) => Err(refused),
+        }
     } else {
         Ok(Room::Nothing)
     }
@@ -111,7 +124,10 @@ fn room_for_variable(
     ensures { IfOk result (λ room. room ≡ (if is_absent state.now then Room.Becomes (State.Var label.now value.now) else Room.Nothing)) }
 {
     if is_absent(state) {
-        Ok(Room::Becomes(State::Var(label.copy(alloc)?, copy_value(alloc, value)?)))
+        match copy_variable(alloc, label, value) {
+            Ok(new) => Ok(Room::Becomes(new)),
+            Err(refused) => Err(refused),
+        }
     } else {
         Ok(Room::Nothing)
     }
@@ -133,7 +149,10 @@ fn room_to_end(alloc: Global, state: &State, content: &Content) -> Result<Room, 
     ensures { IfOk result (λ room. room ≡ (if is_job state.now then Room.Ends content.now else Room.Nothing)) }
 {
     if is_job(state) {
-        Ok(Room::Ends(content.copy(alloc)?))
+        match content.copy(alloc) {
+            Ok(content) => Ok(Room::Ends(content)),
+            Err(refused) => Err(refused),
+        }
     } else {
         Ok(Room::Nothing)
     }

@@ -6,17 +6,33 @@ ghost use Rattle.lio_cells.specs.Room.{left_by, left_with, state_with, with_byte
 use crate::room::Room;
 use crate::state::State;
 use lio_values::{Content, Text, Value};
+use std::mem;
 
 /// A reference or a variable that holds the value.
 fn hold(state: State, value: Value) -> State
     ensures { result ≡ filled (written state value) (Some value) }
 {
     match state {
-        State::Ref(label, _) => State::Ref(label, value),
-        State::Var(label, _) => State::Var(label, Some(value)),
-        State::Absent => State::Absent,
-        State::Chan(label, received) => State::Chan(label, received),
-        State::Job(label, content) => State::Job(label, content),
+        State::Ref(label, before) => {
+            drop(before);
+            State::Ref(label, value)
+        }
+        State::Var(label, before) => {
+            drop(before);
+            State::Var(label, Some(value))
+        }
+        State::Absent => {
+            drop(value);
+            State::Absent
+        }
+        State::Chan(label, received) => {
+            drop(value);
+            State::Chan(label, received)
+        }
+        State::Job(label, content) => {
+            drop(value);
+            State::Job(label, content)
+        }
     }
 }
 
@@ -38,11 +54,26 @@ fn end(state: State, content: Content) -> State
     ensures { result ≡ ended state content }
 {
     match state {
-        State::Job(label, _) => State::Job(label, Some(content)),
-        State::Absent => State::Absent,
-        State::Ref(label, value) => State::Ref(label, value),
-        State::Var(label, value) => State::Var(label, value),
-        State::Chan(label, received) => State::Chan(label, received),
+        State::Job(label, before) => {
+            drop(before);
+            State::Job(label, Some(content))
+        }
+        State::Absent => {
+            drop(content);
+            State::Absent
+        }
+        State::Ref(label, value) => {
+            drop(content);
+            State::Ref(label, value)
+        }
+        State::Var(label, value) => {
+            drop(content);
+            State::Var(label, value)
+        }
+        State::Chan(label, received) => {
+            drop(content);
+            State::Chan(label, received)
+        }
     }
 }
 
@@ -53,7 +84,7 @@ fn receive(state: State, bytes: Text, spare: &mut Text) -> State
 {
     match state {
         State::Chan(label, received) => {
-            *spare = received;
+            drop(mem::replace(spare, received));
             State::Chan(label, bytes)
         }
         State::Absent => State::Absent,

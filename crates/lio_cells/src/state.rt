@@ -22,11 +22,14 @@ pub enum State {
 }
 
 /// An equal value, or none.
-pub fn copy_value(alloc: Global, value: &Option<Value>) -> Result<Option<Value>, NoMemory>
+fn copy_value(alloc: Global, value: &Option<Value>) -> Result<Option<Value>, NoMemory>
     ensures { IfOk result (λ copy. copy ≡ value.now) }
 {
     match value {
-        Some(value) => Ok(Some(value.copy(alloc)?)),
+        Some(value) => match value.copy(alloc) {
+            Ok(value) => Ok(Some(value)),
+            Err(refused) => Err(refused),
+        },
         None => Ok(None),
     }
 }
@@ -36,8 +39,67 @@ fn copy_result(alloc: Global, content: &Option<Content>) -> Result<Option<Conten
     ensures { IfOk result (λ copy. copy ≡ content.now) }
 {
     match content {
-        Some(content) => Ok(Some(content.copy(alloc)?)),
+        Some(content) => match content.copy(alloc) {
+            Ok(content) => Ok(Some(content)),
+            Err(refused) => Err(refused),
+        },
         None => Ok(None),
+    }
+}
+
+/// A reference with copies of its label and value.
+pub fn copy_reference(alloc: Global, label: &Label, value: &Value) -> Result<State, NoMemory>
+    ensures { IfOk result (λ state. state ≡ State.Ref label.now value.now) }
+{
+    let label = label.copy(alloc)?;
+    match value.copy(alloc) {
+        Ok(value) => Ok(State::Ref(label, value)),
+        Err(refused) => {
+            drop(label);
+            Err(refused)
+        }
+    }
+}
+
+/// A variable with copies of its label and, if it is full, its value.
+pub fn copy_variable(alloc: Global, label: &Label, value: &Option<Value>) -> Result<State, NoMemory>
+    ensures { IfOk result (λ state. state ≡ State.Var label.now value.now) }
+{
+    let label = label.copy(alloc)?;
+    match copy_value(alloc, value) {
+        Ok(value) => Ok(State::Var(label, value)),
+        Err(refused) => {
+            drop(label);
+            Err(refused)
+        }
+    }
+}
+
+/// A channel with copies of its label and of what it has received.
+fn copy_channel(alloc: Global, label: &Label, received: &Text) -> Result<State, NoMemory>
+    ensures { IfOk result (λ state. state ≡ State.Chan label.now received.now) }
+{
+    let label = label.copy(alloc)?;
+    match received.copy(alloc) {
+        Ok(received) => Ok(State::Chan(label, received)),
+        Err(refused) => {
+            drop(label);
+            Err(refused)
+        }
+    }
+}
+
+/// A job with copies of its label and, once the task has ended, its result.
+fn copy_job(alloc: Global, label: &Label, content: &Option<Content>) -> Result<State, NoMemory>
+    ensures { IfOk result (λ state. state ≡ State.Job label.now content.now) }
+{
+    let label = label.copy(alloc)?;
+    match copy_result(alloc, content) {
+        Ok(content) => Ok(State::Job(label, content)),
+        Err(refused) => {
+            drop(label);
+            Err(refused)
+        }
     }
 }
 
@@ -48,16 +110,10 @@ impl State {
     {
         match self {
             State::Absent => Ok(State::Absent),
-            State::Ref(label, value) => Ok(State::Ref(label.copy(alloc)?, value.copy(alloc)?)),
-            State::Var(label, value) => {
-                Ok(State::Var(label.copy(alloc)?, copy_value(alloc, value)?))
-            }
-            State::Chan(label, received) => {
-                Ok(State::Chan(label.copy(alloc)?, received.copy(alloc)?))
-            }
-            State::Job(label, content) => {
-                Ok(State::Job(label.copy(alloc)?, copy_result(alloc, content)?))
-            }
+            State::Ref(label, value) => copy_reference(alloc, label, value),
+            State::Var(label, value) => copy_variable(alloc, label, value),
+            State::Chan(label, received) => copy_channel(alloc, label, received),
+            State::Job(label, content) => copy_job(alloc, label, content),
         }
     }
 }

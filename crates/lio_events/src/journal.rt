@@ -54,14 +54,6 @@ impl Journal {
         Ok(())
     }
 
-    /// Takes memory for so many further entries at once.
-    pub fn reserve(&mut self, entries: usize) -> Result<(), NoMemory>
-        ensures { self.new ≡ self.old }
-    {
-        self.entries.reserve(entries)?;
-        Ok(())
-    }
-
     /// The entries in order.
     pub fn entries(&self) -> &[Entry]
         ensures entries { result.now ≡ self.now }

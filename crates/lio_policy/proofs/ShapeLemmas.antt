@@ -1,8 +1,10 @@
 -- On the shape of JSON values.
-use Rattle.std.proofs.Common.{◌≡◌, ℕ, suc, zero, ◌<◌, ◌≤◌, List, [], ◌∷◌, length, drop, map, nat_eq, Bor, true, false, Some, None, if◌then◌else◌, nat_le, refl, sym, ap, arith, ◌∙◌}
+use Rattle.std.proofs.Common.{◌≡◌, ℕ, suc, zero, ◌<◌, ◌≤◌, List, [], ◌∷◌, length, drop, map, nat_eq, Bor, Bool, true, false, codes, Option, Some, None, if◌then◌else◌, nat_le, refl, sym, ap, arith, ◌∙◌}
 use Rattle.serde_json.specs.Data.{Data, no_members}
 use Rattle.serde_json.specs.View.{items_of}
-use Rattle.lio_policy.specs.Shape.{list_of, are_keys, of_32_bits}
+use Rattle.lio_policy.specs.Shape.{list_of, are_keys, of_32_bits, ◌>>=◌, text_at, task_texts, task_parts, task_of}
+use Rattle.lio_policy.specs.declared.draft.TaskDraft.{TaskDraft}
+use Rattle.lio_policy.specs.declared.shape.TaskTexts.{TaskTexts}
 
 -- the items of an array are the list that it was made of
 pub list_of_items : (ds : List Data) → list_of (items_of ds) ≡ ds
@@ -24,3 +26,27 @@ of_32_bits-small n h = let e : nat_le n 4294967295 ≡ true = grind arith in sym
 pub of_32_bits-large : (n : ℕ) → 4294967295 < n → None ≡ of_32_bits n
 unfolding of_32_bits
 of_32_bits-large n h = let e : nat_le n 4294967295 ≡ false = grind arith in sym (ap (λ b. if b then Some n else None) e)
+
+-- without the texts of a task there is no task
+abbrev both : Option (List ℕ) → Option (List ℕ) → Option (List ℕ × List ℕ)
+both n p = n >>= λ a. p >>= λ b. Some (a, b)
+
+abbrev texts_of : List ℕ × List ℕ → List ℕ × List ℕ → TaskTexts
+texts_of names labels = record { name = names.0; proc_name = names.1; label = labels.0; clearance = labels.1 }
+
+either : (b : Bool) (o : Option TaskDraft) → None ≡ o → None ≡ (if b then o else None)
+either true o h = h
+either false o h = refl
+
+no_texts_by : (n p l c : Option (List ℕ)) (rest : List ℕ → List ℕ → List ℕ → List ℕ → Option TaskDraft)
+    → None ≡ (both n p >>= λ names. both l c >>= λ labels. Some (texts_of names labels))
+    → None ≡ (n >>= λ name. p >>= λ proc. l >>= λ label. c >>= λ clearance. rest name proc label clearance)
+no_texts_by None p l c rest h = refl
+no_texts_by (Some n) None l c rest h = refl
+no_texts_by (Some n) (Some p) None c rest h = refl
+no_texts_by (Some n) (Some p) (Some l) None rest h = refl
+no_texts_by (Some n) (Some p) (Some l) (Some c) rest h = absurd (cc)
+
+pub no_texts : (d : Data) → None ≡ task_texts d → None ≡ task_of d
+unfolding task_of
+no_texts d h = either _ (task_parts d) (no_texts_by (text_at (codes "name") d) (text_at (codes "proc") d) (text_at (codes "label") d) (text_at (codes "clearance") d) _ h)

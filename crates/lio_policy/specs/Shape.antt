@@ -8,6 +8,7 @@ use Rattle.lio_policy.specs.Converted.{converted}
 use Rattle.lio_policy.specs.declared.draft.FileDraft.{FileDraft}
 use Rattle.lio_policy.specs.declared.draft.TaskDraft.{TaskDraft}
 use Rattle.lio_policy.specs.declared.draft.ArgDraft.{ArgDraft}
+use Rattle.lio_policy.specs.declared.shape.TaskTexts.{TaskTexts}
 use Rattle.lio_policy.specs.declared.draft.ArgDraft.TheVariants.{Input, Channel, Label, Power, Bytes, Whole, Flag, Unit as unit}
 
 -- one part after another
@@ -81,6 +82,19 @@ arg_of d =
 -- the arguments of a task, each of which has to be one
 abbrev pub args_at : List ℕ → Data → Option (List ArgDraft)
 args_at key d = option_and_then (λ items. result_ok (converted arg_of items)) (items_at key d)
+
+-- the texts at two keys, and those of a task
+abbrev pub texts_at : List ℕ → List ℕ → Data → Option (List ℕ × List ℕ)
+texts_at first second d = do
+  a ← text_at first d
+  b ← text_at second d
+  Some (a, b)
+
+abbrev pub task_texts : Data → Option TaskTexts
+task_texts d = do
+  names ← texts_at (codes "name") (codes "proc") d
+  labels ← texts_at (codes "label") (codes "clearance") d
+  Some (record { name = names.0; proc_name = names.1; label = labels.0; clearance = labels.1 })
 
 -- a task
 abbrev pub task_parts : Data → Option TaskDraft

@@ -1,6 +1,6 @@
 //! Rule 4: names.
 ghost use Rattle.std.specs.Prelude.{◌≡◌, ◌<◌, ◌^◌, ◌++◌, [], ◌∷◌, false, Ok, IfOk};
-ghost use Rattle.lio_policy.specs.Rules.{behind, principal_fails, no_name, entries, names_fail, file_names};
+ghost use Rattle.lio_policy.specs.Rules.{behind, principal_fails, key_fails, no_name, entries, names_fail, file_names, task_names};
 ghost use Rattle.lio_policy.specs.Verdict.{Passes};
 
 use crate::draft::{Draft, FileDraft, TaskDraft};
@@ -90,6 +90,27 @@ impl Key<TaskDraft> for ByName {
     }
 }
 
+/// The names of files, which are entries from the given one on.
+fn read_file_names(alloc: Global, files: &[FileDraft], first: u128) -> Result<Table, PolicyFault>
+    requires { first < 2 ^ 67 }
+    ensures { Passes RULE first (behind (key_fails no_name) [] (file_names files.now)) result
+        (λ table. table ≡ file_names files.now) }
+{
+    let mut table = Table::new(alloc);
+    add_keys(alloc, &ByName, &mut table, files, RULE, first)?;
+    Ok(table)
+}
+
+/// Tests the names of tasks, which are entries from the given one on.
+fn check_task_names(alloc: Global, tasks: &[TaskDraft], first: u128) -> Result<(), PolicyFault>
+    requires { first < 2 ^ 67 }
+    ensures { Passes RULE first (behind (key_fails no_name) [] (task_names tasks.now)) result
+        (λ _. Unit {0}) }
+{
+    let mut table = Table::new(alloc);
+    add_keys(alloc, &ByName, &mut table, tasks, RULE, first)
+}
+
 /// The names of a draft.
 pub(crate) fn read_names(alloc: Global, draft: &Draft) -> Result<Named, PolicyFault>
     ensures { Passes RULE 0 (entries (names_fail draft.now)) result
@@ -98,25 +119,31 @@ pub(crate) fn read_names(alloc: Global, draft: &Draft) -> Result<Named, PolicyFa
         × (named.inputs ≡ file_names draft.now.inputs)) }
 {
     let names = add_principals(alloc, draft.principals.as_slice(), FIRST_PRINCIPAL)?;
-    let mut channels = Table::new(alloc);
-    let files = draft.channels.as_slice();
-    add_keys(
-        alloc,
-        &ByName,
-        &mut channels,
-        files,
-        RULE,
-        first_channel(draft),
-    )?;
-    let mut inputs = Table::new(alloc);
-    let files = draft.inputs.as_slice();
-    add_keys(alloc, &ByName, &mut inputs, files, RULE, first_input(draft))?;
-    let mut tasks = Table::new(alloc);
-    let named = draft.tasks.as_slice();
-    add_keys(alloc, &ByName, &mut tasks, named, RULE, first_task(draft))?;
-    Ok(Named {
+    let channels = match read_file_names(alloc, draft.channels.as_slice(), first_channel(draft)) {
+        Ok(channels) => channels,
+        Err(fault) => {
+            drop(names);
+            return Err(fault);
+        }
+    };
+    let inputs = match read_file_names(alloc, draft.inputs.as_slice(), first_input(draft)) {
+        Ok(inputs) => inputs,
+        Err(fault) => {
+            drop(names);
+            drop(channels);
+            return Err(fault);
+        }
+    };
+    let named = Named {
         names,
         channels,
         inputs,
-    })
+    };
+    match check_task_names(alloc, draft.tasks.as_slice(), first_task(draft)) {
+        Ok(()) => Ok(named),
+        Err(fault) => {
+            drop(named);
+            Err(fault)
+        }
+    }
 }

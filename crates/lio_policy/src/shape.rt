@@ -123,8 +123,69 @@ fn args_at(alloc: Global, value: &Value, key: &str) -> Result<Option<List<ArgDra
     }
 }
 
+/// The texts at two keys.
+fn texts_at(
+    alloc: Global,
+    value: &Value,
+    first: &str,
+    second: &str,
+) -> Result<Option<(Text, Text)>, NoMemory>
+    ensures { IfOk result (λ texts. texts ≡ spec.texts_at first.now second.now (view value.now)) }
+{
+    let Some(first) = text_at(alloc, value, first)? else {
+        return Ok(None);
+    };
+    match text_at(alloc, value, second) {
+        Ok(Some(second)) => Ok(Some((first, second))),
+        Ok(None) => {
+            drop(first);
+            Ok(None)
+        }
+        Err(refused) => {
+            drop(first);
+            Err(refused)
+        }
+    }
+}
+
+/// The texts of a task.
+#[derive(Drop)]
+struct TaskTexts {
+    name: Text,
+    proc_name: Text,
+    label: Text,
+    clearance: Text,
+}
+
+/// The texts of the task that a value is.
+fn task_texts(alloc: Global, value: &Value) -> Result<Option<TaskTexts>, NoMemory>
+    ensures { IfOk result (λ texts. texts ≡ spec.task_texts (view value.now)) }
+{
+    let Some((name, proc_name)) = texts_at(alloc, value, "name", "proc")? else {
+        return Ok(None);
+    };
+    match texts_at(alloc, value, "label", "clearance") {
+        Ok(Some((label, clearance))) => Ok(Some(TaskTexts {
+            name,
+            proc_name,
+            label,
+            clearance,
+        })),
+        Ok(None) => {
+            drop(name);
+            drop(proc_name);
+            Ok(None)
+        }
+        Err(refused) => {
+            drop(name);
+            drop(proc_name);
+            Err(refused)
+        }
+    }
+}
+
 /// The task that a value is.
-#[tactic(auto, unfolding(crate::specs::Shape::task_of))]
+#[tactic(auto, using(crate::proofs::ShapeLemmas::no_texts), unfolding(crate::specs::Shape::task_of))]
 fn task_draft(alloc: Global, value: &Value) -> Result<Option<TaskDraft>, NoMemory>
     ensures { IfOk result (λ draft. draft ≡ spec.task_of (view value.now)) }
 {
@@ -142,31 +203,30 @@ fn task_draft(alloc: Global, value: &Value) -> Result<Option<TaskDraft>, NoMemor
     ) {
         return Ok(None);
     }
-    let Some(name) = text_at(alloc, value, "name")? else {
-        return Ok(None);
-    };
-    let Some(proc_name) = text_at(alloc, value, "proc")? else {
-        return Ok(None);
-    };
-    let Some(label) = text_at(alloc, value, "label")? else {
-        return Ok(None);
-    };
-    let Some(clearance) = text_at(alloc, value, "clearance")? else {
+    let Some(texts) = task_texts(alloc, value)? else {
         return Ok(None);
     };
     let (Some(turns), Some(cells)) = (count_at(value, "turns"), count_at(value, "cells")) else {
+        drop(texts);
         return Ok(None);
     };
-    let Some(args) = args_at(alloc, value, "args")? else {
-        return Ok(None);
-    };
-    Ok(Some(TaskDraft {
-        name,
-        proc_name,
-        label,
-        clearance,
-        turns,
-        cells,
-        args,
-    }))
+    match args_at(alloc, value, "args") {
+        Ok(Some(args)) => Ok(Some(TaskDraft {
+            name: texts.name,
+            proc_name: texts.proc_name,
+            label: texts.label,
+            clearance: texts.clearance,
+            turns,
+            cells,
+            args,
+        })),
+        Ok(None) => {
+            drop(texts);
+            Ok(None)
+        }
+        Err(refused) => {
+            drop(texts);
+            Err(refused)
+        }
+    }
 }

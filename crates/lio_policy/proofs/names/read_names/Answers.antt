@@ -12,38 +12,35 @@ returns-in_err-names c =
     let h = rw c.as_slice.ensures at c.in_err-names.ensures in
     rw (p.1, p.2) (fault_at_principals RULE (names_fail d) c.in_err-names.field-0.0 refl h)
 
-pub returns-in_err-add_keys : goal.returns-in_err-add_keys
-returns-in_err-add_keys c =
+pub returns-in-Err : goal.returns-in-Err
+returns-in-Err c =
     let d = c.args.draft.now in
-    let p = err_from_is_err_and c.from_residual-in_err-add_keys.result c.from_residual-in_err-add_keys.ensures.1 in
     let np = rw c.as_slice.ensures at c.in_ok-names.ensures.0 in
-    let h = rw (c.new-channels.ensures, c.as_slice-files.ensures, c.first_channel.ensures.number) at c.in_err-add_keys.ensures in
-    rw (p.1, p.2) (fault_in_channels RULE _ _ _ (names_fail d) c.in_err-add_keys.field-0.0 (names_lengths d) refl np h)
+    let h = rw (c.as_slice-2.ensures, c.first_channel.ensures.number) at c.in-Err.ensures in
+    fault_in_channels RULE _ _ _ (names_fail d) c.in-Err.fault (names_lengths d) refl np h
 
-pub returns-in_err-add_keys-2 : goal.returns-in_err-add_keys-2
-returns-in_err-add_keys-2 c =
+pub returns-in-Err-read_file_names : goal.returns-in-Err-read_file_names
+returns-in-Err-read_file_names c =
     let d = c.args.draft.now in
-    let p = err_from_is_err_and c.from_residual-in_err-add_keys-2.result c.from_residual-in_err-add_keys-2.ensures.1 in
     let np = rw c.as_slice.ensures at c.in_ok-names.ensures.0 in
-    let nc = rw (c.new-channels.ensures, c.as_slice-files.ensures, c.first_channel.ensures.number) at c.in_ok-add_keys.ensures.0 in
-    let h = rw (c.new-inputs.ensures, c.as_slice-files-2.ensures, c.first_input.ensures.number) at c.in_err-add_keys-2.ensures in
-    rw (p.1, p.2) (fault_in_inputs RULE _ _ _ (names_fail d) c.in_err-add_keys-2.field-0.0 (names_lengths d) refl np nc h)
+    let nc = rw (c.as_slice-2.ensures, c.first_channel.ensures.number) at c.in-Ok.ensures.0 in
+    let h = rw (c.as_slice-3.ensures, c.first_input.ensures.number) at c.in-Err-read_file_names.ensures in
+    fault_in_inputs RULE _ _ _ (names_fail d) c.in-Err-read_file_names.fault (names_lengths d) refl np nc h
 
-pub returns-in_err-add_keys-3 : goal.returns-in_err-add_keys-3
-returns-in_err-add_keys-3 c =
+pub returns-in-Err-check_task_names : goal.returns-in-Err-check_task_names
+returns-in-Err-check_task_names c =
     let d = c.args.draft.now in
-    let p = err_from_is_err_and c.from_residual-in_err-add_keys-3.result c.from_residual-in_err-add_keys-3.ensures.1 in
     let np = rw c.as_slice.ensures at c.in_ok-names.ensures.0 in
-    let nc = rw (c.new-channels.ensures, c.as_slice-files.ensures, c.first_channel.ensures.number) at c.in_ok-add_keys.ensures.0 in
-    let ni = rw (c.new-inputs.ensures, c.as_slice-files-2.ensures, c.first_input.ensures.number) at c.in_ok-add_keys-2.ensures.0 in
-    let h = rw (c.new-tasks.ensures, c.as_slice-named.ensures, c.first_task.ensures.number) at c.in_err-add_keys-3.ensures in
-    rw (p.1, p.2) (fault_in_tasks RULE _ _ _ (names_fail d) c.in_err-add_keys-3.field-0.0 (names_lengths d) refl np nc ni h)
+    let nc = rw (c.as_slice-2.ensures, c.first_channel.ensures.number) at c.in-Ok.ensures.0 in
+    let ni = rw (c.as_slice-3.ensures, c.first_input.ensures.number) at c.in-Ok-read_file_names.ensures.0 in
+    let h = rw (c.as_slice-4.ensures, c.first_task.ensures.number) at c.in-Err-check_task_names.ensures in
+    fault_in_tasks RULE _ _ _ (names_fail d) c.in-Err-check_task_names.fault (names_lengths d) refl np nc ni h
 
-pub returns : goal.returns
-returns c =
+pub returns-in-Ok-check_task_names : goal.returns-in-Ok-check_task_names
+returns-in-Ok-check_task_names c =
     let d = c.args.draft.now in
     let np = rw c.as_slice.ensures at c.in_ok-names.ensures in
-    let nc = rw (c.new-channels.ensures, c.as_slice-files.ensures, c.first_channel.ensures.number) at c.in_ok-add_keys.ensures in
-    let ni = rw (c.new-inputs.ensures, c.as_slice-files-2.ensures, c.first_input.ensures.number) at c.in_ok-add_keys-2.ensures in
-    let nt = rw (c.new-tasks.ensures, c.as_slice-named.ensures, c.first_task.ensures.number) at c.in_ok-add_keys-3.ensures in
+    let nc = rw (c.as_slice-2.ensures, c.first_channel.ensures.number) at c.in-Ok.ensures in
+    let ni = rw (c.as_slice-3.ensures, c.first_input.ensures.number) at c.in-Ok-read_file_names.ensures in
+    let nt = rw (c.as_slice-4.ensures, c.first_task.ensures.number) at c.in-Ok-check_task_names.ensures in
     (none_in_all _ _ _ (names_fail d) (names_lengths d) refl np.0 nc.0 ni.0 nt.0, (np.1, nc.1, ni.1))
