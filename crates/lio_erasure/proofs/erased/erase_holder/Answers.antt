@@ -1,15 +1,15 @@
 use Rattle.std.proofs.Common.{refl, ◌∙◌, sym}
+use Rattle.std.proofs.lemmas.Result.{IfOk-from_err}
 use Rattle.lio_calculus.proofs.InvisibleLemmas.{erase_cell-seen, erase_cell-unseen}
 use Rattle.lio_task.specs.Configuration.{cell_of}
 use Rattle.lio_erasure.proofs.KeptLemmas.{hidden-kept}
-use Rattle.lio_erasure.proofs.ResultLemmas.{if_ok-err}
 use Rattle.lio_erasure.proofs.erased.erase_holder.Goals as goal
 
 pub returns-in_err-hidden-clause-erased : goal.returns-in_err-hidden-clause-erased
-returns-in_err-hidden-clause-erased c = if_ok-err _ c.from_residual.result c.from_residual.ensures.0
+returns-in_err-hidden-clause-erased c = IfOk-from_err c.from_residual.result _ c.from_residual.ensures.0
 
 pub returns-in_err-hidden-clause-kept : goal.returns-in_err-hidden-clause-kept
-returns-in_err-hidden-clause-kept c = if_ok-err _ c.from_residual.result c.from_residual.ensures.0
+returns-in_err-hidden-clause-kept c = IfOk-from_err c.from_residual.result _ c.from_residual.ensures.0
 
 pub returns-in_ok-hidden-clause-erased : goal.returns-in_ok-hidden-clause-erased
 returns-in_ok-hidden-clause-erased c = λ script. c.in_ok-hidden.ensures script ∙ sym (erase_cell-seen c.args.observer.now (cell_of script c.args.holder.now) (sym (c.if-is_seen.ensures script)))

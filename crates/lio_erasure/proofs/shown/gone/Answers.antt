@@ -1,4 +1,5 @@
 use Rattle.std.proofs.Common.{◌∙◌, ap, Bool, if◌then◌else◌, Some, None}
+use Rattle.std.proofs.lemmas.Result.{IfOk-from_err}
 use Rattle.lio_labels.specs.declared.label.Label.{Label}
 use Rattle.lio_labels.specs.Flow.{flows}
 use Rattle.lio_syntax.specs.Lines.{script_lines}
@@ -8,14 +9,13 @@ use Rattle.lio_plan.specs.StateOf.{program_of}
 use Rattle.lio_task.specs.Next.{resumed}
 use Rattle.lio_task.specs.StateOf.{state_in}
 use Rattle.lio_erasure.specs.Low.{seen_task}
-use Rattle.lio_erasure.proofs.ResultLemmas.{if_ok-err}
 use Rattle.lio_erasure.proofs.shown.gone.Goals as goal
 
 pub returns-in_err-gone : goal.returns-in_err-gone
-returns-in_err-gone c = if_ok-err _ c.from_residual.result c.from_residual.ensures.0
+returns-in_err-gone c = IfOk-from_err c.from_residual.result _ c.from_residual.ensures.0
 
 pub returns-in_err-erased : goal.returns-in_err-erased
-returns-in_err-erased c = if_ok-err _ c.from_residual-in_err-erased.result c.from_residual-in_err-erased.ensures.0
+returns-in_err-erased c = IfOk-from_err c.from_residual-in_err-erased.result _ c.from_residual-in_err-erased.ensures.0
 
 pub returns-in_ok-erased : goal.returns-in_ok-erased
 returns-in_ok-erased c =

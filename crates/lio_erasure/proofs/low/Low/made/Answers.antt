@@ -1,10 +1,10 @@
 use Rattle.std.proofs.Common.{◌≡◌, ◌∙◌, sym, ap, subst}
+use Rattle.std.proofs.lemmas.Result.{IfOk-from_err}
 use Rattle.lio_calculus.specs.Step.{blank, met_after}
 use Rattle.lio_plan.specs.StateOf.{program_of}
 use Rattle.lio_task.specs.Births.{CanBear}
 use Rattle.lio_erasure.specs.Low.{low_cell_of, seen_cell}
 use Rattle.lio_erasure.specs.LowParts.{LowParts}
-use Rattle.lio_erasure.proofs.ResultLemmas.{if_ok-err}
 use Rattle.lio_erasure.proofs.low.Low.made.Goals as goal
 
 pub made-requires-clause-makes : goal.made-requires-clause-makes
@@ -14,10 +14,10 @@ pub made-requires-clause-bears : goal.made-requires-clause-bears
 made-requires-clause-bears c = subst (λ (parts : LowParts). CanBear parts.script c.args.entry.now.at c.args.entry.now.act) (sym c.self.view_is) c.requires.bears
 
 pub returns-in_err-holder-clause-seen : goal.returns-in_err-holder-clause-seen
-returns-in_err-holder-clause-seen c = if_ok-err _ c.from_residual.result c.from_residual.ensures.0
+returns-in_err-holder-clause-seen c = IfOk-from_err c.from_residual.result _ c.from_residual.ensures.0
 
 pub returns-in_err-holder-clause-kept : goal.returns-in_err-holder-clause-kept
-returns-in_err-holder-clause-kept c = if_ok-err _ c.from_residual.result c.from_residual.ensures.0
+returns-in_err-holder-clause-kept c = IfOk-from_err c.from_residual.result _ c.from_residual.ensures.0
 
 pub returns-clause-seen : goal.returns-clause-seen
 returns-clause-seen c =

@@ -1,11 +1,12 @@
 use Rattle.std.proofs.Common.{◌∙◌, refl, ap, Option, is_some}
+use Rattle.std.proofs.lemmas.Result.{IfOk-from_err}
 use Rattle.lio_values.specs.declared.entry.Entry.{Entry}
 use Rattle.lio_calculus.specs.Afforded.{makes}
 use Rattle.lio_task.specs.declared.task.Task.{Task}
 use Rattle.lio_erasure.specs.LowParts.{LowParts}
 use Rattle.lio_erasure.proofs.ActLemmas.{makes-erased}
 use Rattle.lio_erasure.proofs.FieldLemmas.{new-goes, new-stays}
-use Rattle.lio_erasure.proofs.ResultLemmas.{if_ok-err, on_err}
+use Rattle.lio_erasure.proofs.ResultLemmas.{on_err}
 use Rattle.lio_erasure.proofs.TurnLemmas.{new-bears}
 use Rattle.lio_erasure.proofs.low.Low.make.Goals as goal
 
@@ -16,7 +17,7 @@ pub same-self : goal.same-self
 same-self c = refl
 
 pub returns-in_err-shown-clause-ok : goal.returns-in_err-shown-clause-ok
-returns-in_err-shown-clause-ok c = if_ok-err _ c.from_residual.result c.from_residual.ensures.0
+returns-in_err-shown-clause-ok c = IfOk-from_err c.from_residual.result _ c.from_residual.ensures.0
 
 pub returns-in_err-shown-clause-err : goal.returns-in_err-shown-clause-err
 returns-in_err-shown-clause-err c = on_err _ c.from_residual.result refl

@@ -1,4 +1,5 @@
 use Rattle.std.proofs.Common.{◌≡◌, ◌∙◌, refl, sym, ap, subst, true, Option, Some, is_some}
+use Rattle.std.proofs.lemmas.Result.{IfOk-from_err}
 use Rattle.lio_values.specs.Erasure.{erase_act}
 use Rattle.lio_values.specs.declared.entry.Entry.{Entry}
 use Rattle.lio_cells.specs.Node.{takes_part}
@@ -12,7 +13,7 @@ use Rattle.lio_erasure.specs.LowParts.{LowParts, LowState, low_of}
 use Rattle.lio_erasure.specs.Turn.{VisitsNode}
 use Rattle.lio_erasure.proofs.FieldLemmas.{met-goes}
 use Rattle.lio_erasure.proofs.HolderLemmas.{cell-low, some-there, task-low}
-use Rattle.lio_erasure.proofs.ResultLemmas.{if_ok-err, on_err}
+use Rattle.lio_erasure.proofs.ResultLemmas.{on_err}
 use Rattle.lio_erasure.proofs.ServeLemmas.{can-serve}
 use Rattle.lio_erasure.proofs.TurnLemmas.{met-holder, met-part, ready-state}
 use Rattle.lio_erasure.proofs.low.Low.meet.Goals as goal
@@ -45,7 +46,7 @@ pub same-self-in_err-shown : goal.same-self-in_err-shown
 same-self-in_err-shown c = refl
 
 pub returns-in_err-shown-clause-ok : goal.returns-in_err-shown-clause-ok
-returns-in_err-shown-clause-ok c = if_ok-err _ c.from_residual.result c.from_residual.ensures.0
+returns-in_err-shown-clause-ok c = IfOk-from_err c.from_residual.result _ c.from_residual.ensures.0
 
 pub returns-in_err-shown-clause-err : goal.returns-in_err-shown-clause-err
 returns-in_err-shown-clause-err c = on_err _ c.from_residual.result refl

@@ -1,9 +1,10 @@
 use Rattle.std.proofs.Common.{◌∙◌, refl, ap, Option, is_some}
+use Rattle.std.proofs.lemmas.Result.{IfOk-from_err}
 use Rattle.lio_task.specs.declared.task.Task.{Task}
 use Rattle.lio_erasure.specs.Low.{low_task_in}
 use Rattle.lio_erasure.specs.LowParts.{LowParts}
 use Rattle.lio_erasure.proofs.FieldLemmas.{missed-goes}
-use Rattle.lio_erasure.proofs.ResultLemmas.{if_ok-err, on_err}
+use Rattle.lio_erasure.proofs.ResultLemmas.{on_err}
 use Rattle.lio_erasure.proofs.ServeLemmas.{task-there}
 use Rattle.lio_erasure.proofs.low.Low.miss.Goals as goal
 
@@ -14,7 +15,7 @@ pub same-self : goal.same-self
 same-self c = refl
 
 pub returns-in_err-shown-clause-ok : goal.returns-in_err-shown-clause-ok
-returns-in_err-shown-clause-ok c = if_ok-err _ c.from_residual.result c.from_residual.ensures.0
+returns-in_err-shown-clause-ok c = IfOk-from_err c.from_residual.result _ c.from_residual.ensures.0
 
 pub returns-in_err-shown-clause-err : goal.returns-in_err-shown-clause-err
 returns-in_err-shown-clause-err c = on_err _ c.from_residual.result refl

@@ -1,5 +1,6 @@
 use Rattle.std.proofs.Common.{◌≡◌, ◌∙◌, sym, ap, true≢false, Option, Some, is_some, []}
 use Rattle.std.specs.Option.{option_map}
+use Rattle.std.proofs.lemmas.Result.{IfOk-from_err}
 use Rattle.lio_labels.specs.declared.label.Label.{Label}
 use Rattle.lio_values.specs.declared.entry.Entry.{Entry}
 use Rattle.lio_values.specs.Erasure.{erase_entry}
@@ -11,7 +12,7 @@ use Rattle.lio_erasure.specs.declared.shown.Shown.{Shown}
 use Rattle.lio_erasure.specs.Low.{low_task_in, seen_task}
 use Rattle.lio_erasure.specs.LowParts.{LowParts}
 use Rattle.lio_erasure.proofs.HolderLemmas.{same-code_task}
-use Rattle.lio_erasure.proofs.ResultLemmas.{if_ok-both, if_ok-err}
+use Rattle.lio_erasure.proofs.ResultLemmas.{if_ok-both}
 use Rattle.lio_erasure.proofs.low.Low.shown.Goals as goal
 
 pub unreachable-requires : goal.unreachable-requires
@@ -22,7 +23,7 @@ pub unreachable-unreachable : goal.unreachable-unreachable
 unreachable-unreachable c = c.unreachable.result
 
 pub returns-in_err-entry : goal.returns-in_err-entry
-returns-in_err-entry c = if_ok-err _ c.from_residual.result c.from_residual.ensures.0
+returns-in_err-entry c = IfOk-from_err c.from_residual.result _ c.from_residual.ensures.0
 
 pub returns : goal.returns
 returns c =

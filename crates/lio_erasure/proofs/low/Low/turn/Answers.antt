@@ -1,4 +1,5 @@
 use Rattle.std.proofs.Common.{◌≡◌, ◌∙◌, refl, sym, ap, None, Some}
+use Rattle.std.proofs.lemmas.Result.{IfErr-weaker, IfOk-weaker, on_err_weaker}
 use Rattle.lio_calculus.specs.Plan.{plan}
 use Rattle.lio_plan.specs.StateOf.{program_of}
 use Rattle.lio_task.proofs.MoveLemmas.{no-task-still, over-still}
@@ -9,7 +10,6 @@ use Rattle.lio_erasure.specs.Low.{low_configuration_of, low_task_in}
 use Rattle.lio_erasure.specs.LowParts.{LowParts, low_of}
 use Rattle.lio_erasure.specs.Turn.{Moves, PlansVisit}
 use Rattle.lio_erasure.proofs.HolderLemmas.{task-low}
-use Rattle.lio_erasure.proofs.ResultLemmas.{if_err-map, if_ok-map, on_err-map}
 use Rattle.lio_erasure.proofs.TurnLemmas.{next-over, next-own, next-visit, visit-turn}
 use Rattle.lio_erasure.proofs.low.Low.turn.Goals as goal
 
@@ -62,11 +62,11 @@ visits c =
 
 pub returns-in-Visit-clause-ok : goal.returns-in-Visit-clause-ok
 returns-in-Visit-clause-ok c =
-    if_ok-map (Moves (low_of c.args.self.now) (low_of c.visit.new.self) c.args.k c.in-Visit.act) _ c.visit.result
+    IfOk-weaker c.visit.result (Moves (low_of c.args.self.now) (low_of c.visit.new.self) c.args.k c.in-Visit.act) _
     (λ entry m. visit-turn c.args.self.now (low_of c.visit.new.self) c.args.k c.in-Visit.n c.in-Visit.act entry c.args.releases.now (visits c) m) c.visit.ensures.ok
 
 pub returns-in-Visit-clause-fault : goal.returns-in-Visit-clause-fault
-returns-in-Visit-clause-fault c = if_err-map _ _ c.visit.result (λ fault stays. stays c.args.releases.now) c.visit.ensures.fault
+returns-in-Visit-clause-fault c = IfErr-weaker c.visit.result _ _ (λ fault stays. stays c.args.releases.now) c.visit.ensures.fault
 
 pub returns-in-Visit-clause-err : goal.returns-in-Visit-clause-err
-returns-in-Visit-clause-err c = on_err-map _ _ c.visit.result (λ same. (same, refl)) c.visit.ensures.err
+returns-in-Visit-clause-err c = on_err_weaker c.visit.result (λ same. (same, refl)) c.visit.ensures.err
