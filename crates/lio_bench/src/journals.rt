@@ -1,33 +1,63 @@
-//! The printing of a journal, repeated.
+//! What is made of a journal, repeated: its text, what an observer sees of it, and what is released to the observer.
 ghost use Rattle.std.specs.Prelude.{◌≡◌, All, IfOk, true, length, []};
 ghost use Rattle.lio_events.specs.JournalText.{journal_text};
-ghost use Rattle.lio_events.specs.Printable.{IsPrintable};
+ghost use Rattle.lio_events.specs.Printable.{IsActNamed, IsPrintable, IsRaiseOf};
 
-use lio_clauses::{Names, NoMemory};
+use lio_clauses::{Formula, Names, NoMemory};
 use lio_events::{Journal, print_journal};
-use lio_labels::Label;
-use lio_values::{Act, Entry, Reply, Text};
+use lio_labels::{Label, Priv};
+use lio_values::{Act, Content, Entry, Held, Plain, Reply, Text};
+use lio_view::{releases, view};
 use std::alloc::Global;
 
-/// What each turn sends.
-const SENT: &[u8] = b"abcdefghijklmnopqrst";
+/// What each turn sends or releases.
+const TEXT: &[u8] = b"abcdefghijklmnopqrst";
 
-/// A turn that sends a text of twenty bytes.
+/// A release of a text from the greatest label to the public one.
+fn release(alloc: Global) -> Result<Act, NoMemory>
+    ensures named { IfOk result (IsActNamed []) }
+    ensures raise { IfOk result IsRaiseOf }
+{
+    let content = Content::Kept(Plain::Bytes(Text::of(alloc, TEXT)?));
+    let content = Held::new(alloc, content)?;
+    let source = Held::new(alloc, Label::greatest(alloc)?)?;
+    let target = Held::new(alloc, Label::public(alloc)?)?;
+    let power = Priv {
+        power: Formula::falsity(alloc)?,
+    };
+    Ok(Act::Release(source, target, power, content))
+}
+
+/// What a turn does: it sends a text where its ticket is even, and else releases it.
+fn act_of(alloc: Global, ticket: u32) -> Result<Act, NoMemory>
+    ensures named { IfOk result (IsActNamed []) }
+    ensures raise { IfOk result IsRaiseOf }
+{
+    if ticket % 2 == 0 {
+        Ok(Act::Send(Text::of(alloc, TEXT)?))
+    } else {
+        release(alloc)
+    }
+}
+
+/// A public turn.
 fn entry_of(alloc: Global, ticket: u32) -> Result<Entry, NoMemory>
     ensures ticket { IfOk result (λ entry. entry.ticket ≡ ticket) }
     ensures printable { IfOk result (λ entry. IsPrintable [] entry) }
 {
+    let at = Label::public(alloc)?;
+    let act = act_of(alloc, ticket)?;
     Ok(Entry {
         ticket: ticket as u64,
         actor: 1,
-        target: Some(0),
-        at: Label::public(alloc)?,
-        act: Act::Send(Text::of(alloc, SENT)?),
+        target: None,
+        at,
+        act,
         reply: Reply::Done,
     })
 }
 
-/// A journal of so many turns that send.
+/// A journal of so many turns that send and release.
 fn journal_of(alloc: Global, entries: u32) -> Result<Journal, NoMemory>
     ensures count { IfOk result (λ journal. length journal ≡ entries) }
     ensures printable { IfOk result (λ journal. All (IsPrintable []) journal) }
@@ -54,4 +84,30 @@ pub fn print_times(alloc: Global, entries: u32, times: u32) -> Result<(), NoMemo
         let _text = text_of(alloc, &journal)?;
     }
     Ok(())
+}
+
+/// Takes what an observer sees of a journal, and what is released to it.
+fn look(alloc: Global, journal: &Journal, observer: &Label) -> Result<(), NoMemory> {
+    let seen = view(alloc, journal, observer)?;
+    drop(seen);
+    let released = releases(alloc, journal, observer)?;
+    drop(released);
+    Ok(())
+}
+
+/// Takes so many times what everyone sees of a journal, and what is released to everyone.
+fn look_at(alloc: Global, journal: &Journal, times: u32) -> Result<(), NoMemory> {
+    let observer = Label::public(alloc)?;
+    for _ in 0..times {
+        look(alloc, journal, &observer)?;
+    }
+    Ok(())
+}
+
+/// Makes a journal, and takes so many times what everyone sees of it, and what is released to everyone.
+pub fn look_times(alloc: Global, entries: u32, times: u32) -> Result<(), NoMemory> {
+    let journal = journal_of(alloc, entries)?;
+    let looked = look_at(alloc, &journal, times);
+    drop(journal);
+    looked
 }

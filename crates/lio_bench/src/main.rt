@@ -5,6 +5,7 @@ mod asked;
 mod journals;
 mod labels;
 mod policies;
+mod turns;
 
 use asked::Asked;
 use lio_outside::RealStore;

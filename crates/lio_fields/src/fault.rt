@@ -1,6 +1,7 @@
 //! Why fields are not read.
 
 use lio_clauses::{NoMemory, TextFault};
+use std::alloc::{AllocError, AllocFailed};
 
 /// Why fields are not read.
 #[derive(Debug, Drop)]
@@ -20,6 +21,18 @@ impl From<TextFault> for FieldFault {
 
 impl From<NoMemory> for FieldFault {
     fn from(_: NoMemory) -> FieldFault {
+        FieldFault::NoMemory
+    }
+}
+
+impl From<AllocError> for FieldFault {
+    fn from(_: AllocError) -> FieldFault {
+        FieldFault::NoMemory
+    }
+}
+
+impl<T: Drop> From<AllocFailed<T>> for FieldFault {
+    fn from(_: AllocFailed<T>) -> FieldFault {
         FieldFault::NoMemory
     }
 }

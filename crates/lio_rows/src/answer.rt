@@ -1,17 +1,15 @@
 //! What a command answers, and how it is written.
 
-use crate::escape::escape;
 use lio_clauses::{FormFault, NameFault, NoMemory, TextFault};
-use lio_fields::{FieldFault, Words};
+use lio_fields::{FieldFault, Words, escape};
 use lio_policy::PolicyFault;
 use lio_start::StartFault;
 use std::alloc::{AllocError, AllocFailed, Global};
 use std::io;
 use std::io::Write;
-use thiserror::Error;
 
 /// What a command answers where nothing refuses.
-#[derive(Debug, Drop)]
+#[derive(Drop)]
 pub enum Answer {
     /// The text of a value.
     Text(Vec<u8>),
@@ -20,31 +18,40 @@ pub enum Answer {
 }
 
 /// Why a command has no other answer.
-#[derive(Debug, Drop, Error)]
+#[derive(Drop)]
 pub enum Refusal {
     /// The line is no command.
-    #[error("no command")]
     NoCommand,
-    #[error("{0:?}")]
-    Name(#[from] NameFault),
-    #[error("{0:?}")]
-    Text(#[from] TextFault),
-    #[error("{0:?}")]
-    Form(#[from] FormFault),
+    Name(NameFault),
+    Text(TextFault),
+    Form(FormFault),
     /// The rule that a policy breaks, and the entry.
-    #[error("BadPolicy({0}, {1})")]
     BadPolicy(u32, u32),
     /// The line of a script that breaks a rule, and the rule.
-    #[error("BadScript({0}, {1})")]
     BadScript(u32, u32),
     /// The place of a task that can't begin, and why.
-    #[error("BadStart({0}, {1:?})")]
     BadStart(u32, StartFault),
     /// Another number of inputs than the policy has.
-    #[error("inputs")]
     Inputs,
-    #[error("NoMemory")]
     NoMemory,
+}
+
+impl From<NameFault> for Refusal {
+    fn from(fault: NameFault) -> Refusal {
+        Refusal::Name(fault)
+    }
+}
+
+impl From<TextFault> for Refusal {
+    fn from(fault: TextFault) -> Refusal {
+        Refusal::Text(fault)
+    }
+}
+
+impl From<FormFault> for Refusal {
+    fn from(fault: FormFault) -> Refusal {
+        Refusal::Form(fault)
+    }
 }
 
 impl From<FieldFault> for Refusal {
@@ -93,12 +100,31 @@ impl<T: Drop> From<AllocFailed<T>> for Refusal {
     }
 }
 
+/// What is answered where the command is one of a group; none where it is no command of the group.
+pub type Answered = Option<Result<Answer, Refusal>>;
+
 /// The answer of a command, if no field is left.
-pub fn finished(answer: Answer, words: &Words) -> Result<Option<Answer>, Refusal> {
+pub fn finished(answer: Result<Answer, Refusal>, words: &Words) -> Result<Answer, Refusal> {
+    let answer = answer?;
     if words.is_empty() {
-        Ok(Some(answer))
+        Ok(answer)
     } else {
         Err(Refusal::NoCommand)
+    }
+}
+
+/// Writes a refusal.
+fn write_refusal<W: Write>(refusal: &Refusal, output: &mut W) -> io::Result<()> {
+    match refusal {
+        Refusal::NoCommand => output.write_all(b"no command"),
+        Refusal::Name(fault) => write!(output, "{fault:?}"),
+        Refusal::Text(fault) => write!(output, "{fault:?}"),
+        Refusal::Form(fault) => write!(output, "{fault:?}"),
+        Refusal::BadPolicy(rule, entry) => write!(output, "BadPolicy({rule}, {entry})"),
+        Refusal::BadScript(line, rule) => write!(output, "BadScript({line}, {rule})"),
+        Refusal::BadStart(place, fault) => write!(output, "BadStart({place}, {fault:?})"),
+        Refusal::Inputs => output.write_all(b"inputs"),
+        Refusal::NoMemory => output.write_all(b"NoMemory"),
     }
 }
 
@@ -112,6 +138,6 @@ pub fn write_answer<W: Write>(
         Ok(Answer::Text(text)) => output.write_all(escape(alloc, text.as_slice())?.as_slice()),
         Ok(Answer::Truth(flag)) => write!(output, "{flag}"),
         Ok(Answer::Number(number)) => write!(output, "{number}"),
-        Err(refusal) => write!(output, "{refusal}"),
+        Err(refusal) => write_refusal(&refusal, output),
     }
 }

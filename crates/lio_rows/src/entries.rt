@@ -1,7 +1,7 @@
 //! Commands on entries and journals.
 ghost use Rattle.lio_events.specs.Printable.{IsPrintable};
 
-use crate::answer::{Answer, Refusal, finished};
+use crate::answer::{Answer, Answered, Refusal, finished};
 use lio_clauses::Names;
 use lio_events::laws::erased_is_printable;
 use lio_events::{channel_bytes, print_entry, print_journal};
@@ -11,20 +11,15 @@ use lio_values::Entry;
 use std::alloc::Global;
 
 /// What a command on entries answers, if the word is that of one.
-pub fn answer(
-    alloc: Global,
-    names: &Names,
-    word: &[u8],
-    fields: &[Vec<u8>],
-) -> Result<Option<Answer>, Refusal> {
+pub fn answer(alloc: Global, names: &Names, word: &[u8], fields: &[Vec<u8>]) -> Answered {
     let mut words = Words::new(fields);
     match word {
-        b"entry" => finished(shown(&mut words, alloc, names)?, &words),
-        b"erased" => finished(erased(&mut words, alloc, names)?, &words),
-        b"equal_entries" => finished(equal(&mut words, alloc, names)?, &words),
-        b"journal" => finished(history(&mut words, alloc, names)?, &words),
-        b"bytes" => finished(bytes(&mut words, alloc, names)?, &words),
-        _ => Ok(None),
+        b"entry" => Some(finished(shown(&mut words, alloc, names), &words)),
+        b"erased" => Some(finished(erased(&mut words, alloc, names), &words)),
+        b"equal_entries" => Some(finished(equal(&mut words, alloc, names), &words)),
+        b"journal" => Some(finished(history(&mut words, alloc, names), &words)),
+        b"bytes" => Some(finished(bytes(&mut words, alloc, names), &words)),
+        _ => None,
     }
 }
 
@@ -85,12 +80,16 @@ fn equal_to_next(
 /// `journal COUNT ENTRY..`: the lines of the journal, with their tickets.
 fn history(words: &mut Words, alloc: Global, names: &Names) -> Result<Answer, Refusal> {
     let journal = read_journal(words, alloc, names)?;
-    Ok(Answer::Text(print_journal(alloc, &journal, true, names)?))
+    let text = print_journal(alloc, &journal, true, names);
+    drop(journal);
+    Ok(Answer::Text(text?))
 }
 
 /// `bytes NUMBER COUNT ENTRY..`: what the channel with this number has received, by the journal.
 fn bytes(words: &mut Words, alloc: Global, names: &Names) -> Result<Answer, Refusal> {
     let channel = words.number()?;
     let journal = read_journal(words, alloc, names)?;
-    Ok(Answer::Text(channel_bytes(alloc, &journal, channel)?))
+    let bytes = channel_bytes(alloc, &journal, channel);
+    drop(journal);
+    Ok(Answer::Text(bytes?))
 }

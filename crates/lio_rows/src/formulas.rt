@@ -2,40 +2,28 @@
 ghost use Rattle.std.specs.Prelude.{IfOk};
 ghost use Rattle.lio_clauses.specs.FormulaPrint.{AreNamed};
 
-use crate::answer::{Answer, Refusal};
+use crate::answer::{Answer, Answered, Refusal};
 use lio_clauses::laws::{conjunction_is_named, disjunction_is_named};
-use lio_clauses::{Formula, Names, TextFault};
+use lio_clauses::{FormFault, Formula, Names, TextFault};
+use lio_fields::{read_formulas, read_set};
 use std::alloc::Global;
 use std::fmt::Write;
 
 /// What a command on formulas answers, if the word and the number of fields are those of one.
-pub fn answer(
-    alloc: Global,
-    names: &Names,
-    word: &[u8],
-    fields: &[Vec<u8>],
-) -> Result<Option<Answer>, Refusal> {
-    let answer = match (word, fields) {
-        (b"formula", [text]) => formula(alloc, names, text)?,
-        (b"and", [one, other]) => and(alloc, names, one, other)?,
-        (b"or", [one, other]) => or(alloc, names, one, other)?,
-        (b"implies", [one, other]) => implies(alloc, names, one, other)?,
-        (b"satisfied", [text, who]) => satisfied(alloc, names, text, who)?,
-        (b"equal", [one, other]) => equal(alloc, names, one, other)?,
-        (b"copy", [text]) => copy(alloc, names, text)?,
-        (b"constant", [name]) => constant(alloc, names, name)?,
-        (b"principal", [name]) => principal(alloc, names, name)?,
-        (b"clauses", clauses) => of_clauses(alloc, names, clauses)?,
-        _ => return Ok(None),
-    };
-    Ok(Some(answer))
-}
-
-/// The formula of a text.
-pub fn read(alloc: Global, names: &Names, text: &[u8]) -> Result<Formula, TextFault>
-    ensures { IfOk result (AreNamed names.now) }
-{
-    Formula::read(alloc, text, names)
+pub fn answer(alloc: Global, names: &Names, word: &[u8], fields: &[Vec<u8>]) -> Answered {
+    match (word, fields) {
+        (b"formula", [text]) => Some(formula(alloc, names, text)),
+        (b"and", [one, other]) => Some(and(alloc, names, one, other)),
+        (b"or", [one, other]) => Some(or(alloc, names, one, other)),
+        (b"implies", [one, other]) => Some(implies(alloc, names, one, other)),
+        (b"satisfied", [text, who]) => Some(satisfied(alloc, names, text, who)),
+        (b"equal", [one, other]) => Some(equal(alloc, names, one, other)),
+        (b"copy", [text]) => Some(copy(alloc, names, text)),
+        (b"constant", [name]) => Some(constant(alloc, names, name)),
+        (b"principal", [name]) => Some(principal(alloc, names, name)),
+        (b"clauses", clauses) => Some(of_clauses(alloc, names, clauses)),
+        _ => None,
+    }
 }
 
 /// The answer with the text of a formula.
@@ -45,70 +33,71 @@ pub fn shown(alloc: Global, names: &Names, formula: &Formula) -> Result<Answer, 
     Ok(Answer::Text(formula.print(alloc, names)?))
 }
 
+/// The answer with the text of a formula, if it was made.
+fn made(
+    alloc: Global,
+    names: &Names,
+    formula: Result<Formula, FormFault>,
+) -> Result<Answer, Refusal>
+    requires { IfOk formula (AreNamed names.now) }
+{
+    let formula = formula?;
+    shown(alloc, names, &formula)
+}
+
 /// `formula TEXT`: the formula of the text.
 fn formula(alloc: Global, names: &Names, text: &[u8]) -> Result<Answer, Refusal> {
-    shown(alloc, names, &read(alloc, names, text)?)
+    let formula = Formula::read(alloc, text, names)?;
+    shown(alloc, names, &formula)
 }
 
 /// `and F G`: the conjunction.
 fn and(alloc: Global, names: &Names, one: &[u8], other: &[u8]) -> Result<Answer, Refusal> {
-    let one = read(alloc, names, one)?;
-    let other = read(alloc, names, other)?;
+    let (one, other) = read_formulas(alloc, names, one, other)?;
     conjunction_is_named();
-    let both = one.and(alloc, &other)?;
-    shown(alloc, names, &both)
+    made(alloc, names, one.and(alloc, &other))
 }
 
 /// `or F G`: the disjunction.
 fn or(alloc: Global, names: &Names, one: &[u8], other: &[u8]) -> Result<Answer, Refusal> {
-    let one = read(alloc, names, one)?;
-    let other = read(alloc, names, other)?;
+    let (one, other) = read_formulas(alloc, names, one, other)?;
     disjunction_is_named();
-    let either = one.or(alloc, &other)?;
-    shown(alloc, names, &either)
+    made(alloc, names, one.or(alloc, &other))
 }
 
 /// `implies F G`: whether the one implies the other.
 fn implies(alloc: Global, names: &Names, one: &[u8], other: &[u8]) -> Result<Answer, Refusal> {
-    let one = read(alloc, names, one)?;
-    let other = read(alloc, names, other)?;
+    let (one, other) = read_formulas(alloc, names, one, other)?;
     Ok(Answer::Truth(one.implies(&other)))
 }
 
 /// `satisfied F NAMES`: whether the set of principals with these names, with one blank between two, satisfies the formula.
 fn satisfied(alloc: Global, names: &Names, text: &[u8], who: &[u8]) -> Result<Answer, Refusal> {
-    let formula = read(alloc, names, text)?;
-    Ok(Answer::Truth(formula.satisfied_by(read_set(names, who)?)))
-}
-
-/// The set of the principals with these names; bit n of it stands for principal n.
-fn read_set(names: &Names, who: &[u8]) -> Result<u64, TextFault> {
-    let mut set = 0;
-    if who.is_empty() {
-        return Ok(set);
+    let formula = Formula::read(alloc, text, names)?;
+    match read_set(names, who) {
+        Ok(set) => Ok(Answer::Truth(formula.satisfied_by(set))),
+        Err(fault) => Err(Refusal::Text(fault)),
     }
-    let mut place = 0usize;
-    for name in who.split(|byte| *byte == b' ') {
-        let Some(number) = names.find(name) else {
-            return Err(TextFault::Unknown(u32::try_from(place).unwrap_or(u32::MAX)));
-        };
-        set |= 1u64 << number;
-        place = place.saturating_add(name.len()).saturating_add(1);
-    }
-    Ok(set)
 }
 
 /// `equal F G`: whether the two formulas are equal.
 fn equal(alloc: Global, names: &Names, one: &[u8], other: &[u8]) -> Result<Answer, Refusal> {
-    let one = read(alloc, names, one)?;
-    let other = read(alloc, names, other)?;
+    let (one, other) = read_formulas(alloc, names, one, other)?;
     Ok(Answer::Truth(one == other))
+}
+
+/// The answer with the text of a copy of a formula.
+pub fn copied(alloc: Global, names: &Names, formula: &Formula) -> Result<Answer, Refusal>
+    requires { AreNamed names.now formula.now }
+{
+    let copy = formula.copy(alloc)?;
+    shown(alloc, names, &copy)
 }
 
 /// `copy F`: a copy of the formula.
 fn copy(alloc: Global, names: &Names, text: &[u8]) -> Result<Answer, Refusal> {
-    let copy = read(alloc, names, text)?.copy(alloc)?;
-    shown(alloc, names, &copy)
+    let formula = Formula::read(alloc, text, names)?;
+    copied(alloc, names, &formula)
 }
 
 /// `constant NAME`: the formula `truth` or `falsity`.

@@ -2,11 +2,10 @@
 #![tactic(auto)]
 
 mod answer;
-mod command;
 mod entries;
-mod escape;
 mod formulas;
 mod labels;
+mod low;
 mod names;
 mod operators;
 mod policies;

@@ -2,7 +2,7 @@
 ghost use Rattle.lio_events.specs.Named.{IsKindNamed, IsValueNamed};
 ghost use Rattle.lio_rows.specs.Given.{IsGivenNamed};
 
-use crate::answer::{Answer, Refusal, finished};
+use crate::answer::{Answer, Answered, Refusal, finished};
 use lio_clauses::Names;
 use lio_events::{print_content, print_value};
 use lio_fields::{Words, read_value};
@@ -13,17 +13,12 @@ use lio_words::{One, Two};
 use std::alloc::Global;
 
 /// What a command on operators answers, if the word is that of one.
-pub fn answer(
-    alloc: Global,
-    names: &Names,
-    word: &[u8],
-    fields: &[Vec<u8>],
-) -> Result<Option<Answer>, Refusal> {
+pub fn answer(alloc: Global, names: &Names, word: &[u8], fields: &[Vec<u8>]) -> Answered {
     let mut words = Words::new(fields);
     match word {
-        b"operate1" => finished(one(&mut words, alloc, names)?, &words),
-        b"operate2" => finished(two(&mut words, alloc, names)?, &words),
-        _ => Ok(None),
+        b"operate1" => Some(finished(one(&mut words, alloc, names), &words)),
+        b"operate2" => Some(finished(two(&mut words, alloc, names), &words)),
+        _ => None,
     }
 }
 

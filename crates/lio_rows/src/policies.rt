@@ -1,26 +1,25 @@
 //! Commands on policies.
 
-use crate::answer::{Answer, Refusal};
+use crate::answer::{Answer, Answered, Refusal};
+use lio_fields::read_number;
 use lio_policy::{EntryAt, EntryKind, Policy, entry_at, read_policy};
 use std::alloc::{AllocError, Global};
-use std::str;
 
 /// What a command on policies answers, if the word and the number of fields are those of one.
-pub fn answer(alloc: Global, word: &[u8], fields: &[Vec<u8>]) -> Result<Option<Answer>, Refusal> {
+pub fn answer(alloc: Global, word: &[u8], fields: &[Vec<u8>]) -> Answered {
     match (word, fields) {
-        (b"policy", [json]) => Ok(Some(policy(alloc, json.as_slice())?)),
-        (b"policy_entry", [number, json]) => match number_of(number.as_slice()) {
-            Some(number) => Ok(Some(entry(alloc, number, json.as_slice())?)),
-            None => Ok(None),
-        },
-        _ => Ok(None),
+        (b"policy", [json]) => Some(policy(alloc, json.as_slice())),
+        (b"policy_entry", [number, json]) => Some(entry(alloc, number, json)),
+        _ => None,
     }
 }
 
 /// `policy JSON`: `ok` and its numbers of principals, channels, inputs and tasks.
 fn policy(alloc: Global, json: &[u8]) -> Result<Answer, Refusal> {
     let policy = read_policy(alloc, json)?;
-    Ok(Answer::Text(counts(alloc, &policy)?))
+    let text = counts(alloc, &policy);
+    drop(policy);
+    Ok(Answer::Text(text?))
 }
 
 /// The text of a policy's numbers of principals, channels, inputs and tasks.
@@ -33,17 +32,13 @@ fn counts(alloc: Global, policy: &Policy) -> Result<Vec<u8>, AllocError> {
     Ok(text.into_bytes())
 }
 
-/// The number that a field is.
-fn number_of(field: &[u8]) -> Option<u32> {
-    str::from_utf8(field).ok()?.parse::<u32>().ok()
-}
-
 /// `policy_entry NUMBER JSON`: the kind of the entry with this number, its place in its list and its name, or `none`.
-fn entry(alloc: Global, number: u32, json: &[u8]) -> Result<Answer, Refusal> {
-    match entry_at(alloc, json, number)? {
-        Some(entry) => Ok(Answer::Text(entry_text(alloc, &entry)?)),
-        None => Ok(Answer::Text(Vec::from_slice(alloc, b"none")?)),
-    }
+fn entry(alloc: Global, number: &[u8], json: &[u8]) -> Result<Answer, Refusal> {
+    let text = match entry_at(alloc, json, read_number(number)?)? {
+        Some(entry) => entry_text(alloc, &entry),
+        None => Vec::from_slice(alloc, b"none"),
+    };
+    Ok(Answer::Text(text?))
 }
 
 /// The word for a kind of entry.

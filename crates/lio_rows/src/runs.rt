@@ -5,40 +5,44 @@ ghost use Rattle.lio_events.specs.Printable.{IsPrintable};
 ghost use Rattle.lio_start.specs.Fits.{fits};
 ghost use Rattle.lio_syntax.specs.Verdict.{IsOver};
 
-use crate::answer::{Answer, Refusal};
-use lio_clauses::Names;
+use crate::answer::{Answer, Answered, Refusal};
+use lio_clauses::{Names, NoMemory};
 use lio_events::{Journal, print_content, print_journal};
 use lio_labels::Label;
 use lio_policy::{Policy, read_policy};
-use lio_run::run;
+use lio_run::{Ran, run};
 use lio_start::fits;
 use lio_syntax::{Script, read_script};
 use lio_values::{Act, Content, Entry, Text};
-use lio_view::{releases, view};
-use std::alloc::Global;
+use lio_view::{Contents, releases, view};
+use std::alloc::{AllocError, Global};
+
+/// What is run under a policy: a script, and the inputs.
+#[derive(Clone, Copy)]
+pub struct Source<'a> {
+    pub script: &'a [u8],
+    pub inputs: &'a [Vec<u8>],
+}
 
 /// What a command on runs answers, if the word and the number of fields are those of one.
-pub fn answer(
-    alloc: Global,
-    names: &Names,
-    word: &[u8],
-    fields: &[Vec<u8>],
-) -> Result<Option<Answer>, Refusal> {
+pub fn answer(alloc: Global, names: &Names, word: &[u8], fields: &[Vec<u8>]) -> Answered {
     match (word, fields) {
-        (b"eval", [expression]) => Ok(Some(eval(alloc, names, expression)?)),
-        (b"run", [json, script, inputs @ ..]) => Ok(Some(history(alloc, json, script, inputs)?)),
+        (b"eval", [expression]) => Some(eval(alloc, names, expression)),
+        (b"run", [json, script, inputs @ ..]) => {
+            Some(history(alloc, json, Source { script, inputs }))
+        }
         (b"view", [label, json, script, inputs @ ..]) => {
-            Ok(Some(seen(alloc, label, json, script, inputs)?))
+            Some(seen(alloc, label, json, Source { script, inputs }))
         }
         (b"releases", [label, json, script, inputs @ ..]) => {
-            Ok(Some(released(alloc, label, json, script, inputs)?))
+            Some(told(alloc, label, json, Source { script, inputs }))
         }
-        _ => Ok(None),
+        _ => None,
     }
 }
 
 /// The texts of inputs.
-fn texts_of(alloc: Global, inputs: &[Vec<u8>]) -> Result<Vec<Text>, Refusal> {
+fn texts_of(alloc: Global, inputs: &[Vec<u8>]) -> Result<Vec<Text>, NoMemory> {
     let mut texts = Vec::new(alloc);
     for input in inputs {
         texts.push(Text::of(alloc, input)?)?;
@@ -46,73 +50,132 @@ fn texts_of(alloc: Global, inputs: &[Vec<u8>]) -> Result<Vec<Text>, Refusal> {
     Ok(texts)
 }
 
+/// The texts of a policy's inputs.
+fn inputs_of(alloc: Global, policy: &Policy, inputs: &[Vec<u8>]) -> Result<Vec<Text>, Refusal>
+    ensures { IfOk result (λ texts. length texts.items ≡ length policy.now.inputs) }
+{
+    let texts = texts_of(alloc, inputs)?;
+    if texts.len() == policy.inputs.as_slice().len() {
+        Ok(texts)
+    } else {
+        Err(Refusal::Inputs)
+    }
+}
+
+/// A script that fits a policy.
+fn script_of(alloc: Global, policy: &Policy, script: &[u8]) -> Result<Script, Refusal>
+    ensures fits { IfOk result (λ script. fits policy.now.tasks script ≡ None) }
+    ensures over { IfOk result (IsOver policy.now.names) }
+{
+    let script = read_script(alloc, script, &policy.names)?;
+    match fits(policy, &script) {
+        None => Ok(script),
+        Some(fault) => {
+            drop(script);
+            Err(Refusal::from(fault))
+        }
+    }
+}
+
 /// A script that fits a policy, and the texts of the policy's inputs.
 pub fn prepared(
     alloc: Global,
     policy: &Policy,
-    script: &[u8],
-    inputs: &[Vec<u8>],
+    source: Source<'_>,
 ) -> Result<(Script, Vec<Text>), Refusal>
     ensures fits { IfOk result (λ it. fits policy.now.tasks it.0 ≡ None) }
     ensures over { IfOk result (λ it. IsOver policy.now.names it.0) }
     ensures inputs { IfOk result (λ it. length it.1.items ≡ length policy.now.inputs) }
 {
-    let script = read_script(alloc, script, &policy.names)?;
-    if let Some(fault) = fits(policy, &script) {
-        return Err(Refusal::from(fault));
+    let script = script_of(alloc, policy, source.script)?;
+    match inputs_of(alloc, policy, source.inputs) {
+        Ok(texts) => Ok((script, texts)),
+        Err(refusal) => {
+            drop(script);
+            Err(refusal)
+        }
     }
-    let texts = texts_of(alloc, inputs)?;
-    if texts.len() != policy.inputs.as_slice().len() {
-        return Err(Refusal::Inputs);
-    }
-    Ok((script, texts))
 }
 
 /// The journal of the run by rounds of a script under a policy.
-fn journal_of(
-    alloc: Global,
-    policy: &Policy,
-    script: &[u8],
-    inputs: &[Vec<u8>],
-) -> Result<Journal, Refusal>
+fn journal_of(alloc: Global, policy: &Policy, source: Source<'_>) -> Result<Journal, Refusal>
     ensures { IfOk result (λ journal. All (IsPrintable policy.now.names) journal) }
 {
-    let (script, texts) = prepared(alloc, policy, script, inputs)?;
-    let ran = run(alloc, policy, script, texts.as_slice())?;
-    Ok(ran.journal)
+    let (script, texts) = prepared(alloc, policy, source)?;
+    let ran = run(alloc, policy, script, texts.as_slice());
+    drop(texts);
+    let Ran { journal, config } = ran?;
+    drop(config);
+    Ok(journal)
+}
+
+/// The history of a run.
+fn history_of(alloc: Global, policy: &Policy, source: Source<'_>) -> Result<Answer, Refusal> {
+    let journal = journal_of(alloc, policy, source)?;
+    let text = print_journal(alloc, &journal, true, &policy.names);
+    drop(journal);
+    Ok(Answer::Text(text?))
 }
 
 /// `run JSON SCRIPT INPUT ..`: the history of the run.
-fn history(
-    alloc: Global,
-    json: &[u8],
-    script: &[u8],
-    inputs: &[Vec<u8>],
-) -> Result<Answer, Refusal> {
+fn history(alloc: Global, json: &[u8], source: Source<'_>) -> Result<Answer, Refusal> {
     let policy = read_policy(alloc, json)?;
-    let journal = journal_of(alloc, &policy, script, inputs)?;
-    let text = print_journal(alloc, &journal, true, &policy.names)?;
-    Ok(Answer::Text(text))
+    history_of(alloc, &policy, source)
+}
+
+/// A policy, and the label of an observer over its principals.
+#[derive(Drop)]
+pub struct Viewer {
+    pub policy: Policy,
+    pub observer: Label,
+}
+
+/// The policy of a text, and the label of a text over its principals.
+pub fn read_viewer(alloc: Global, label: &[u8], json: &[u8]) -> Result<Viewer, Refusal> {
+    let policy = read_policy(alloc, json)?;
+    match Label::read(alloc, label, &policy.names) {
+        Ok(observer) => Ok(Viewer { policy, observer }),
+        Err(fault) => {
+            drop(policy);
+            Err(Refusal::Text(fault))
+        }
+    }
+}
+
+/// The view of a journal, as text.
+fn view_of(
+    alloc: Global,
+    journal: &Journal,
+    observer: &Label,
+    names: &Names,
+) -> Result<Vec<u8>, NoMemory>
+    requires { All (IsPrintable names.now) journal.now }
+{
+    let seen = view(alloc, journal, observer)?;
+    print_journal(alloc, &seen, false, names)
+}
+
+/// The view of a run at an observer's label.
+fn seen_of(
+    alloc: Global,
+    policy: &Policy,
+    observer: &Label,
+    source: Source<'_>,
+) -> Result<Answer, Refusal> {
+    let journal = journal_of(alloc, policy, source)?;
+    let text = view_of(alloc, &journal, observer, &policy.names);
+    drop(journal);
+    Ok(Answer::Text(text?))
 }
 
 /// `view LABEL JSON SCRIPT INPUT ..`: the view of the run at the label.
-fn seen(
-    alloc: Global,
-    label: &[u8],
-    json: &[u8],
-    script: &[u8],
-    inputs: &[Vec<u8>],
-) -> Result<Answer, Refusal> {
-    let policy = read_policy(alloc, json)?;
-    let observer = Label::read(alloc, label, &policy.names)?;
-    let journal = journal_of(alloc, &policy, script, inputs)?;
-    let seen = view(alloc, &journal, &observer)?;
-    let text = print_journal(alloc, &seen, false, &policy.names)?;
-    Ok(Answer::Text(text))
+fn seen(alloc: Global, label: &[u8], json: &[u8], source: Source<'_>) -> Result<Answer, Refusal> {
+    let it = read_viewer(alloc, label, json)?;
+    seen_of(alloc, &it.policy, &it.observer, source)
 }
 
 /// The lines of contents.
-fn lines_of(alloc: Global, contents: &[Content], names: &Names) -> Result<Vec<u8>, Refusal>
+fn lines_of(alloc: Global, contents: &[Content], names: &Names) -> Result<Vec<u8>, NoMemory>
     requires { All (IsContentNamed names.now) contents.now }
 {
     let mut text = Vec::new(alloc);
@@ -123,25 +186,43 @@ fn lines_of(alloc: Global, contents: &[Content], names: &Names) -> Result<Vec<u8
     Ok(text)
 }
 
-/// `releases LABEL JSON SCRIPT INPUT ..`: the contents that the run releases to the label.
-fn released(
+/// The contents that the run by rounds releases to an observer.
+pub fn released(
     alloc: Global,
-    label: &[u8],
-    json: &[u8],
-    script: &[u8],
-    inputs: &[Vec<u8>],
-) -> Result<Answer, Refusal> {
-    let policy = read_policy(alloc, json)?;
-    let observer = Label::read(alloc, label, &policy.names)?;
-    let journal = journal_of(alloc, &policy, script, inputs)?;
-    let contents = releases(alloc, &journal, &observer)?;
-    let text = lines_of(alloc, contents.as_slice(), &policy.names)?;
-    Ok(Answer::Text(text))
+    policy: &Policy,
+    observer: &Label,
+    source: Source<'_>,
+) -> Result<Contents, Refusal>
+    ensures { IfOk result (All (IsContentNamed policy.now.names)) }
+{
+    let journal = journal_of(alloc, policy, source)?;
+    let contents = releases(alloc, &journal, observer);
+    drop(journal);
+    Ok(contents?)
 }
 
-/// The policy of one public task that has 20 turns and runs `main` without arguments, over principals.
-fn task_policy(alloc: Global, names: &Names) -> Result<Policy, Refusal> {
-    let mut json = Vec::from_slice(alloc, br#"{"version":1,"longest":4096,"principals":["#)?;
+/// The contents that a run releases to an observer, as text.
+fn told_of(
+    alloc: Global,
+    policy: &Policy,
+    observer: &Label,
+    source: Source<'_>,
+) -> Result<Answer, Refusal> {
+    let contents = released(alloc, policy, observer, source)?;
+    let text = lines_of(alloc, contents.as_slice(), &policy.names);
+    drop(contents);
+    Ok(Answer::Text(text?))
+}
+
+/// `releases LABEL JSON SCRIPT INPUT ..`: the contents that the run releases to the label.
+fn told(alloc: Global, label: &[u8], json: &[u8], source: Source<'_>) -> Result<Answer, Refusal> {
+    let it = read_viewer(alloc, label, json)?;
+    told_of(alloc, &it.policy, &it.observer, source)
+}
+
+/// The names of principals as a policy lists them.
+fn listed(alloc: Global, names: &Names) -> Result<Vec<u8>, AllocError> {
+    let mut json = Vec::new(alloc);
     for number in 0..names.len() {
         if number > 0 {
             json.push(b',')?;
@@ -150,10 +231,25 @@ fn task_policy(alloc: Global, names: &Names) -> Result<Policy, Refusal> {
         json.extend_from_slice(names.name(number))?;
         json.push(b'"')?;
     }
+    Ok(json)
+}
+
+/// The policy of one public task that has 20 turns and runs `main` without arguments, over principals.
+fn task_policy(alloc: Global, names: &Names) -> Result<Policy, Refusal> {
+    let mut json = Vec::from_slice(alloc, br#"{"version":1,"longest":4096,"principals":["#)?;
+    json.extend_from_slice(listed(alloc, names)?.as_slice())?;
     json.extend_from_slice(
         br#"],"channels":[],"inputs":[],"tasks":[{"name":"main","proc":"main","label":"True %% True","clearance":"True %% True","turns":20,"cells":0,"args":[]}]}"#,
     )?;
     Ok(read_policy(alloc, json.as_slice())?)
+}
+
+/// The script of a task that binds a name to an expression and returns what is bound.
+fn task_script(alloc: Global, expression: &[u8]) -> Result<Vec<u8>, AllocError> {
+    let mut script = Vec::from_slice(alloc, b"proc main\nlet x = ")?;
+    script.extend_from_slice(expression)?;
+    script.extend_from_slice(b"\nreturn x\nend\n")?;
+    Ok(script)
 }
 
 /// The content with which a turn ends a task.
@@ -166,18 +262,32 @@ fn ended(alloc: Global, entry: &Entry, names: &Names) -> Result<Answer, Refusal>
     }
 }
 
+/// The content with which the last turn of a journal ends a task.
+fn last_ended(alloc: Global, journal: &Journal, names: &Names) -> Result<Answer, Refusal>
+    requires { All (IsPrintable names.now) journal.now }
+{
+    match journal.entries().last() {
+        Some(entry) => ended(alloc, entry, names),
+        None => Err(Refusal::NoCommand),
+    }
+}
+
+/// The content with which a script ends the one task of a policy.
+fn ended_by(alloc: Global, policy: &Policy, script: &[u8]) -> Result<Answer, Refusal> {
+    let source = Source {
+        script,
+        inputs: &[],
+    };
+    let journal = journal_of(alloc, policy, source)?;
+    last_ended(alloc, &journal, &policy.names)
+}
+
 /// `eval EXPRESSION`: the content with which a public task ends that binds a name to the expression and returns what is bound.
 fn eval(alloc: Global, names: &Names, expression: &[u8]) -> Result<Answer, Refusal> {
     if expression.contains(&b'\n') {
         return Err(Refusal::BadScript(2, 1));
     }
+    let script = task_script(alloc, expression)?;
     let policy = task_policy(alloc, names)?;
-    let mut script = Vec::from_slice(alloc, b"proc main\nlet x = ")?;
-    script.extend_from_slice(expression)?;
-    script.extend_from_slice(b"\nreturn x\nend\n")?;
-    let journal = journal_of(alloc, &policy, script.as_slice(), &[])?;
-    match journal.entries().last() {
-        Some(entry) => ended(alloc, entry, &policy.names),
-        None => Err(Refusal::NoCommand),
-    }
+    ended_by(alloc, &policy, script.as_slice())
 }

@@ -1,34 +1,42 @@
 //! Commands on scripts.
+ghost use Rattle.lio_syntax.specs.Verdict.{IsOver};
 
-use crate::answer::{Answer, Refusal};
-use lio_clauses::Names;
-use lio_syntax::{ScriptFault, print_script, read_script};
+use crate::answer::{Answer, Answered, Refusal};
+use lio_clauses::{Names, NoMemory};
+use lio_syntax::{Script, ScriptFault, print_script, read_script};
 use std::alloc::Global;
 
 /// What a command on scripts answers, if the word and the number of fields are those of one.
-pub fn answer(
-    alloc: Global,
-    names: &Names,
-    word: &[u8],
-    fields: &[Vec<u8>],
-) -> Result<Option<Answer>, Refusal> {
+pub fn answer(alloc: Global, names: &Names, word: &[u8], fields: &[Vec<u8>]) -> Answered {
     match (word, fields) {
-        (b"script", [text]) => Ok(Some(script(alloc, names, text)?)),
-        (b"copy_script", [text]) => Ok(Some(copy(alloc, names, text)?)),
-        _ => Ok(None),
+        (b"script", [text]) => Some(script(alloc, names, text)),
+        (b"copy_script", [text]) => Some(copy(alloc, names, text)),
+        _ => None,
     }
 }
 
 /// `script TEXT`: the canonical text of the script.
 fn script(alloc: Global, names: &Names, text: &[u8]) -> Result<Answer, Refusal> {
     let script = read_script(alloc, text, names)?;
-    Ok(Answer::Text(print_script(alloc, &script, names)?))
+    let text = print_script(alloc, &script, names);
+    drop(script);
+    Ok(Answer::Text(text?))
+}
+
+/// The canonical text of a copy of a script.
+fn copied(alloc: Global, names: &Names, script: &Script) -> Result<Vec<u8>, NoMemory>
+    requires { IsOver names.now script.now }
+{
+    let copy = script.copy(alloc)?;
+    print_script(alloc, &copy, names)
 }
 
 /// `copy_script TEXT`: the canonical text of a copy of the script.
 fn copy(alloc: Global, names: &Names, text: &[u8]) -> Result<Answer, Refusal> {
-    let copy = read_script(alloc, text, names)?.copy(alloc)?;
-    Ok(Answer::Text(print_script(alloc, &copy, names)?))
+    let script = read_script(alloc, text, names)?;
+    let text = copied(alloc, names, &script);
+    drop(script);
+    Ok(Answer::Text(text?))
 }
 
 impl From<ScriptFault> for Refusal {

@@ -1,9 +1,9 @@
 //! What a command finds from those before it, and which command does what.
 
-use crate::answer::{Answer, Refusal};
-use crate::command::read_command;
-use crate::{entries, formulas, labels, names, operators, policies, runs, scripts, turns};
+use crate::answer::{Answer, Answered, Refusal};
+use crate::{entries, formulas, labels, low, names, operators, policies, runs, scripts, turns};
 use lio_clauses::{Names, NoMemory};
+use lio_fields::read_command;
 use std::alloc::Global;
 
 /// What the commands so far have made.
@@ -29,38 +29,36 @@ impl Session {
             b"names" => names::begin(alloc, &mut self.names, fields),
             b"add" => names::add(alloc, &mut self.names, fields),
             b"find" => names::find(alloc, &self.names, fields),
-            word => answer(alloc, &self.names, word, fields)?.ok_or(Refusal::NoCommand),
+            word => answer(alloc, &self.names, word, fields).unwrap_or(Err(Refusal::NoCommand)),
         }
     }
 }
 
 /// What a command answers that changes nothing, if the word and the number of fields are those of one.
-fn answer(
-    alloc: Global,
-    names: &Names,
-    word: &[u8],
-    fields: &[Vec<u8>],
-) -> Result<Option<Answer>, Refusal> {
-    if let Some(answer) = formulas::answer(alloc, names, word, fields)? {
-        return Ok(Some(answer));
+fn answer(alloc: Global, names: &Names, word: &[u8], fields: &[Vec<u8>]) -> Answered {
+    if let Some(answer) = formulas::answer(alloc, names, word, fields) {
+        return Some(answer);
     }
-    if let Some(answer) = labels::answer(alloc, names, word, fields)? {
-        return Ok(Some(answer));
+    if let Some(answer) = labels::answer(alloc, names, word, fields) {
+        return Some(answer);
     }
-    if let Some(answer) = entries::answer(alloc, names, word, fields)? {
-        return Ok(Some(answer));
+    if let Some(answer) = entries::answer(alloc, names, word, fields) {
+        return Some(answer);
     }
-    if let Some(answer) = operators::answer(alloc, names, word, fields)? {
-        return Ok(Some(answer));
+    if let Some(answer) = operators::answer(alloc, names, word, fields) {
+        return Some(answer);
     }
-    if let Some(answer) = scripts::answer(alloc, names, word, fields)? {
-        return Ok(Some(answer));
+    if let Some(answer) = scripts::answer(alloc, names, word, fields) {
+        return Some(answer);
     }
-    if let Some(answer) = policies::answer(alloc, word, fields)? {
-        return Ok(Some(answer));
+    if let Some(answer) = policies::answer(alloc, word, fields) {
+        return Some(answer);
     }
-    if let Some(answer) = turns::answer(alloc, word, fields)? {
-        return Ok(Some(answer));
+    if let Some(answer) = turns::answer(alloc, word, fields) {
+        return Some(answer);
+    }
+    if let Some(answer) = low::answer(alloc, word, fields) {
+        return Some(answer);
     }
     runs::answer(alloc, names, word, fields)
 }

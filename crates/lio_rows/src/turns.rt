@@ -2,40 +2,30 @@
 ghost use Rattle.std.specs.Prelude.{All, IfOk};
 ghost use Rattle.lio_events.specs.Printable.{IsPrintable};
 
-use crate::answer::{Answer, Refusal};
-use crate::runs::prepared;
+use crate::answer::{Answer, Answered, Refusal};
+use crate::runs::{Source, prepared};
 use lio_events::{Journal, print_journal};
+use lio_fields::read_numbers;
 use lio_policy::{Policy, read_policy};
 use lio_run::{Ran, Scheduled, run_by_schedule};
-use std::alloc::Global;
-use std::str;
+use std::alloc::{AllocError, Global};
 
 /// What a command on turns answers, if the word and the number of fields are those of one.
-pub fn answer(alloc: Global, word: &[u8], fields: &[Vec<u8>]) -> Result<Option<Answer>, Refusal> {
+pub fn answer(alloc: Global, word: &[u8], fields: &[Vec<u8>]) -> Answered {
     match word {
-        b"turns" => Ok(Some(turns(alloc, fields)?)),
-        _ => Ok(None),
+        b"turns" => Some(turns(alloc, fields)),
+        _ => None,
     }
 }
 
-/// A number of 32 bits.
-fn number(word: &[u8]) -> Result<u32, Refusal> {
-    let Ok(text) = str::from_utf8(word) else {
-        return Err(Refusal::NoCommand);
-    };
-    text.parse::<u32>().map_err(|_| Refusal::NoCommand)
-}
-
-/// The numbers in a field, with one blank between two.
-fn numbers(alloc: Global, field: &[u8]) -> Result<Vec<u32>, Refusal> {
-    let mut numbers = Vec::new(alloc);
-    if field.is_empty() {
-        return Ok(numbers);
-    }
-    for word in field.split(|byte| *byte == b' ') {
-        numbers.push(number(word)?)?;
-    }
-    Ok(numbers)
+/// Appends why a task takes no turn.
+pub fn push_refused(
+    alloc: Global,
+    text: &mut Vec<u8>,
+    why: &str,
+    k: u32,
+) -> Result<(), AllocError> {
+    text.extend_from_slice(format!(in alloc; "{why} {k}")?.as_bytes())
 }
 
 /// What a schedule gave: the journal, and of each task of the schedule whether it took its turn.
@@ -49,20 +39,15 @@ struct Taken {
 fn turns_of(
     alloc: Global,
     policy: &Policy,
-    script: &[u8],
-    inputs: &[Vec<u8>],
+    source: Source<'_>,
     schedule: &[u32],
 ) -> Result<Taken, Refusal>
     ensures { IfOk result (λ taken. All (IsPrintable policy.now.names) taken.journal) }
 {
-    let (script, texts) = prepared(alloc, policy, script, inputs)?;
-    let Scheduled { ran, taken } = run_by_schedule(
-        alloc,
-        policy,
-        script,
-        texts.as_slice(),
-        schedule,
-    )?;
+    let (script, texts) = prepared(alloc, policy, source)?;
+    let scheduled = run_by_schedule(alloc, policy, script, texts.as_slice(), schedule);
+    drop(texts);
+    let Scheduled { ran, taken } = scheduled?;
     let Ran { journal, config } = ran;
     drop(config);
     Ok(Taken { journal, taken })
@@ -74,18 +59,33 @@ fn lines(
     history: &[u8],
     schedule: &[u32],
     taken: &[bool],
-) -> Result<Vec<u8>, Refusal> {
+) -> Result<Vec<u8>, AllocError> {
     let mut entries = history.split(|byte| *byte == b'\n');
     let mut text = Vec::new(alloc);
     for (i, k) in schedule.iter().enumerate() {
         if taken.get(i) == Some(&true) {
             text.extend_from_slice(entries.next().unwrap_or(b""))?;
         } else {
-            text.extend_from_slice(format!(in alloc; "still {k}")?.as_bytes())?;
+            push_refused(alloc, &mut text, "still", *k)?;
         }
         text.push(b'\n')?;
     }
     Ok(text)
+}
+
+/// The turns of the tasks of a schedule, each told by its entry, or as `still` where the task can't take it.
+fn told(
+    alloc: Global,
+    policy: &Policy,
+    source: Source<'_>,
+    schedule: &[u32],
+) -> Result<Answer, Refusal> {
+    let Taken { journal, taken } = turns_of(alloc, policy, source, schedule)?;
+    let history = print_journal(alloc, &journal, true, &policy.names);
+    drop(journal);
+    let history = history?;
+    let text = lines(alloc, history.as_slice(), schedule, taken.as_slice())?;
+    Ok(Answer::Text(text))
 }
 
 /// `turns ACTORS JSON SCRIPT INPUT ..`: the turns of these tasks one after another, each told by its entry, or as `still` where the task can't take it.
@@ -93,15 +93,8 @@ fn turns(alloc: Global, fields: &[Vec<u8>]) -> Result<Answer, Refusal> {
     let [actors, json, script, inputs @ ..] = fields else {
         return Err(Refusal::NoCommand);
     };
-    let schedule = numbers(alloc, actors)?;
+    let schedule = read_numbers(alloc, actors)?;
     let policy = read_policy(alloc, json)?;
-    let turns = turns_of(alloc, &policy, script, inputs, schedule.as_slice())?;
-    let history = print_journal(alloc, &turns.journal, true, &policy.names)?;
-    let text = lines(
-        alloc,
-        history.as_slice(),
-        schedule.as_slice(),
-        turns.taken.as_slice(),
-    )?;
-    Ok(Answer::Text(text))
+    let source = Source { script, inputs };
+    told(alloc, &policy, source, schedule.as_slice())
 }

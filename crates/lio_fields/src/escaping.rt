@@ -1,7 +1,8 @@
 //! How bytes are written in a line: a line end as `~n`, a tab as `~t`, and `~` as `~7e`.
 ghost use Rattle.std.specs.Prelude.{◌≡◌, ◌++◌, ◌<◌, length, IfOk, IfSome, OnOk};
-ghost use Rattle.lio_rows.specs.Escape.{byte_text, escaped};
+ghost use Rattle.lio_fields.specs.Escape.{byte_text, escaped};
 
+use crate::fault::FieldFault;
 use std::alloc::{AllocError, Global};
 
 /// Appends how a byte is written.
@@ -56,15 +57,15 @@ fn split_first(text: &[u8]) -> Option<(u8, &[u8])>
 }
 
 /// The bytes that a text stands for, where each `~` in it begins one of the forms `~n`, `~t` and `~` with two digits.
-pub fn unescape(alloc: Global, text: &[u8]) -> Result<Option<Vec<u8>>, AllocError> {
+pub(crate) fn unescape(alloc: Global, text: &[u8]) -> Result<Vec<u8>, FieldFault> {
     let mut bytes = Vec::new(alloc);
     let mut rest = text;
     while !rest.is_empty() {
         let Some((byte, after)) = split_first(rest) else {
-            return Ok(None);
+            return Err(FieldFault::Invalid);
         };
         bytes.push(byte)?;
         rest = after;
     }
-    Ok(Some(bytes))
+    Ok(bytes)
 }

@@ -1,5 +1,5 @@
 use Rattle.std.proofs.Common.{length}
-use Rattle.lio_rows.proofs.escape.unescape.Given as goal
+use Rattle.lio_fields.proofs.escaping.unescape.Given as goal
 
 abbrev pub invariant-loop-rest : goal.invariant-loop-rest
 invariant-loop-rest l = Unit {0}

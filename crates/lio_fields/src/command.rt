@@ -1,7 +1,7 @@
 //! Commands: a word, one blank, and fields with one tab between two.
 
-use crate::answer::Refusal;
-use crate::escape::unescape;
+use crate::escaping::unescape;
+use crate::fault::FieldFault;
 use std::alloc::Global;
 
 /// A command: its word, and the bytes that its fields stand for.
@@ -12,25 +12,22 @@ pub struct Command<'a> {
 }
 
 /// The bytes that the fields of a text stand for.
-fn read_fields(alloc: Global, text: &[u8]) -> Result<Vec<Vec<u8>>, Refusal> {
+fn read_fields(alloc: Global, text: &[u8]) -> Result<Vec<Vec<u8>>, FieldFault> {
     let mut fields = Vec::new(alloc);
     for field in text.split(|byte| *byte == b'\t') {
-        let Some(bytes) = unescape(alloc, field)? else {
-            return Err(Refusal::NoCommand);
-        };
-        fields.push(bytes)?;
+        fields.push(unescape(alloc, field)?)?;
     }
     Ok(fields)
 }
 
 /// The command of a line.
-pub fn read_command(alloc: Global, line: &[u8]) -> Result<Command<'_>, Refusal> {
+pub fn read_command(alloc: Global, line: &[u8]) -> Result<Command<'_>, FieldFault> {
     let blank = line.iter().position(|byte| *byte == b' ');
     match blank {
         Some(place) if place < line.len() => Ok(Command {
             word: &line[..place],
             fields: read_fields(alloc, &line[place + 1..])?,
         }),
-        _ => Err(Refusal::NoCommand),
+        _ => Err(FieldFault::Invalid),
     }
 }

@@ -1,0 +1,228 @@
+//! Commands on turns of the erased calculus.
+ghost use Rattle.std.specs.Prelude.{◌≡◌, All, IfOk, None, length};
+ghost use Rattle.lio_events.specs.Named.{IsContentNamed};
+ghost use Rattle.lio_events.specs.Printable.{IsPrintable};
+ghost use Rattle.lio_calculus.specs.Erased.{erase};
+ghost use Rattle.lio_start.specs.Fits.{fits};
+ghost use Rattle.lio_start.specs.Start.{start_of};
+ghost use Rattle.lio_syntax.specs.Verdict.{IsOver};
+ghost use Rattle.lio_named.specs.Configuration.{NamesOnly};
+ghost use Rattle.lio_erasure.specs.Low.{LeavesOutBlanks, low_configuration_of};
+ghost use Rattle.lio_erasure.specs.LowParts.{low_of};
+
+use crate::answer::{Answer, Answered, Refusal};
+use crate::runs::{Source, prepared, read_viewer, released};
+use crate::turns::push_refused;
+use lio_clauses::{Names, NoMemory};
+use lio_erasure::{Low, LowConfig, LowFault, erase_config};
+use lio_events::print_entry;
+use lio_fields::read_numbers;
+use lio_labels::Label;
+use lio_policy::Policy;
+use lio_policy::laws::policy_keeps_rules;
+use lio_start::start;
+use lio_syntax::Script;
+use lio_values::{Entry, Text};
+use lio_view::Contents;
+use std::alloc::Global;
+
+/// What a command on the erased calculus answers, if the word is that of one.
+pub fn answer(alloc: Global, word: &[u8], fields: &[Vec<u8>]) -> Answered {
+    match word {
+        b"low" => Some(low(alloc, fields, true)),
+        b"low_without" => Some(low(alloc, fields, false)),
+        _ => None,
+    }
+}
+
+/// What an observer sees of the first configuration.
+fn seen_start(
+    alloc: Global,
+    policy: &Policy,
+    script: &Script,
+    texts: &[Text],
+    observer: &Label,
+) -> Result<LowConfig, NoMemory>
+    requires fits { fits policy.now.tasks script.now ≡ None }
+    requires inputs { length texts.now ≡ length policy.now.inputs }
+    ensures seen { IfOk result (λ seen. low_configuration_of script.now policy.now.longest seen ≡ erase observer.now (start_of policy.now script.now texts.now)) }
+    ensures kept { IfOk result LeavesOutBlanks }
+{
+    let config = start(alloc, policy, script, texts)?;
+    let seen = erase_config(alloc, &config, observer);
+    drop(config);
+    seen
+}
+
+/// The erased calculus, from what an observer sees of the first configuration.
+fn low_start(
+    alloc: Global,
+    policy: &Policy,
+    script: Script,
+    texts: &[Text],
+    observer: &Label,
+) -> Result<Low, NoMemory>
+    requires fits { fits policy.now.tasks script ≡ None }
+    requires over { IsOver policy.now.names script }
+    requires inputs { length texts.now ≡ length policy.now.inputs }
+    ensures { IfOk result (λ low. NamesOnly policy.now.names (low_of low).configuration) }
+{
+    policy_keeps_rules(policy);
+    let _ = script.lines();
+    match seen_start(alloc, policy, &script, texts, observer) {
+        Ok(seen) => match observer.copy(alloc) {
+            Ok(observer) => Ok(Low::new(seen, observer, script, policy.longest)),
+            Err(error) => {
+                drop(seen);
+                drop(script);
+                Err(error)
+            }
+        },
+        Err(error) => {
+            drop(script);
+            Err(error)
+        }
+    }
+}
+
+/// The turn of a task. It names only principals that have names.
+#[tactic(none)]
+fn turn(
+    alloc: Global,
+    low: &mut Low,
+    contents: &mut Contents,
+    names: &Names,
+    k: u32,
+) -> Result<Entry, LowFault>
+    requires named { NamesOnly names.now (low_of low.old).configuration }
+    requires contents { All (IsContentNamed names.now) contents.old }
+    ensures entry { IfOk result (IsPrintable names.now) }
+    ensures named { NamesOnly names.now (low_of low.new).configuration }
+    ensures contents { All (IsContentNamed names.now) contents.new }
+{
+    let _ = names;
+    low.turn(alloc, k, contents)
+}
+
+/// Appends the line of an entry, without its ticket.
+fn push_entry(alloc: Global, text: &mut Vec<u8>, entry: Entry, names: &Names) -> Result<(), Refusal>
+    requires { IsPrintable names.now entry }
+{
+    let line = print_entry(alloc, &entry, false, names);
+    drop(entry);
+    Ok(text.extend_from_slice(line?.as_slice())?)
+}
+
+/// The turns of tasks, up to the first that takes none, and how many released contents are left.
+fn turns(
+    alloc: Global,
+    low: &mut Low,
+    contents: &mut Contents,
+    names: &Names,
+    schedule: &[u32],
+) -> Result<Vec<u8>, Refusal>
+    requires named { NamesOnly names.now (low_of low.old).configuration }
+    requires contents { All (IsContentNamed names.now) contents.old }
+{
+    let mut text = Vec::new(alloc);
+    for k in schedule {
+        match turn(alloc, low, contents, names, *k) {
+            Ok(entry) => push_entry(alloc, &mut text, entry, names)?,
+            Err(LowFault::Still(_)) => {
+                push_refused(alloc, &mut text, "still", *k)?;
+                return Ok(text);
+            }
+            Err(LowFault::NoRelease(_)) => {
+                push_refused(alloc, &mut text, "no release", *k)?;
+                return Ok(text);
+            }
+            Err(LowFault::NoMemory) => return Err(Refusal::NoMemory),
+        }
+    }
+    let left = contents.as_slice().len();
+    text.extend_from_slice(format!(in alloc; "left {left}")?.as_bytes())?;
+    Ok(text)
+}
+
+/// The contents that an observer is told: those that the run by rounds releases to it, or none.
+fn told(
+    alloc: Global,
+    policy: &Policy,
+    observer: &Label,
+    source: Source<'_>,
+    is_told: bool,
+) -> Result<Contents, Refusal>
+    ensures { IfOk result (All (IsContentNamed policy.now.names)) }
+{
+    if is_told {
+        released(alloc, policy, observer, source)
+    } else {
+        Ok(Contents::new(alloc))
+    }
+}
+
+/// The erased calculus at the start of the run.
+fn begun(
+    alloc: Global,
+    policy: &Policy,
+    observer: &Label,
+    source: Source<'_>,
+) -> Result<Low, Refusal>
+    ensures { IfOk result (λ low. NamesOnly policy.now.names (low_of low).configuration) }
+{
+    let (script, texts) = prepared(alloc, policy, source)?;
+    let low = low_start(alloc, policy, script, texts.as_slice(), observer);
+    drop(texts);
+    Ok(low?)
+}
+
+/// The turns of tasks from the start of the run, with these contents.
+fn turns_with(
+    alloc: Global,
+    policy: &Policy,
+    observer: &Label,
+    contents: &mut Contents,
+    schedule: &[u32],
+    source: Source<'_>,
+) -> Result<Vec<u8>, Refusal>
+    requires { All (IsContentNamed policy.now.names) contents.old }
+{
+    let mut low = begun(alloc, policy, observer, source)?;
+    let text = turns(alloc, &mut low, contents, &policy.names, schedule);
+    drop(low);
+    text
+}
+
+/// The turns of tasks from the start of the run, with the contents that the observer is told.
+fn turns_of(
+    alloc: Global,
+    policy: &Policy,
+    observer: &Label,
+    schedule: &[u32],
+    source: Source<'_>,
+    is_told: bool,
+) -> Result<Answer, Refusal> {
+    let mut contents = told(alloc, policy, observer, source, is_told)?;
+    let text = turns_with(alloc, policy, observer, &mut contents, schedule, source);
+    drop(contents);
+    Ok(Answer::Text(text?))
+}
+
+/// `low LABEL ACTORS JSON SCRIPT INPUT ..`: the turns of these tasks in the erased calculus, from what an observer at the label sees of the start
+/// of the run, with what the run releases to it; `low_without`: the same with nothing released.
+fn low(alloc: Global, fields: &[Vec<u8>], is_told: bool) -> Result<Answer, Refusal> {
+    let [label, actors, json, script, inputs @ ..] = fields else {
+        return Err(Refusal::NoCommand);
+    };
+    let schedule = read_numbers(alloc, actors)?;
+    let seen = read_viewer(alloc, label, json)?;
+    let source = Source { script, inputs };
+    turns_of(
+        alloc,
+        &seen.policy,
+        &seen.observer,
+        schedule.as_slice(),
+        source,
+        is_told,
+    )
+}
