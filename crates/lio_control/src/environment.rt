@@ -12,6 +12,7 @@ use lio_values::{Text, Value};
 use std::alloc::Global;
 use std::cmp::Ordering;
 use std::marker::Model;
+use std::mem;
 
 /// What names are bound to, seen as the list of the bindings in the order of names.
 #[derive(Drop)]
@@ -70,14 +71,16 @@ impl Environment {
     {
         match self.place_for(name) {
             Ok(at) => {
-                self.bindings[at].value = value;
+                drop(mem::replace(&mut self.bindings[at].value, value));
                 Ok(())
             }
-            Err(at) => {
-                let name = name.copy(alloc)?;
-                self.bindings.insert(at, Binding { name, value })?;
-                Ok(())
-            }
+            Err(at) => match name.copy(alloc) {
+                Ok(name) => Ok(self.bindings.insert(at, Binding { name, value })?),
+                Err(error) => {
+                    drop(value);
+                    Err(error)
+                }
+            },
         }
     }
 

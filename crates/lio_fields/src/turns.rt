@@ -2,16 +2,17 @@
 ghost use Rattle.std.specs.Prelude.{All, IfOk};
 ghost use Rattle.lio_labels.specs.LabelPrint.{AreNamed};
 ghost use Rattle.lio_events.specs.Named.{IsContentNamed, IsValueNamed};
+ghost use Rattle.lio_values.specs.PlainText.{IsPowerNamed};
 ghost use Rattle.lio_events.specs.Printable.{IsOptionNamed, IsBirthNamed, IsActNamed, IsRaising, IsRaiseOf, IsReplyNamed, IsPrintable};
 ghost use Rattle.lio_fields.specs.Turns.{CanPrint};
 
 use crate::fault::FieldFault;
-use crate::values::{content, fault, power, read_label, read_value, values};
+use crate::values::{content, fault, power, read_label, read_value, two_labels, values};
 use crate::words::Words;
 use lio_clauses::Names;
 use lio_events::Journal;
-use lio_labels::Label;
-use lio_values::{Act, Birth, Content, Entry, Held, Op, Reply, Text, Value};
+use lio_labels::{Label, Priv};
+use lio_values::{Act, Birth, Content, Entry, Held, Op, Reply, Text, Value, Values};
 use std::alloc::Global;
 
 /// The operation of a raise.
@@ -29,28 +30,47 @@ fn op(words: &mut Words) -> Result<Op, FieldFault>
     }
 }
 
+/// What a child is given: turns, first number, how many numbers, and the arguments with their number before them.
+fn share(
+    words: &mut Words,
+    alloc: Global,
+    names: &Names,
+) -> Result<(u32, u32, u32, Values), FieldFault>
+    ensures { IfOk result (λ share. All (IsValueNamed names.now) share.3) }
+{
+    let turns = words.number()?;
+    let first = words.number()?;
+    let cells = words.number()?;
+    let args = values(words, alloc, names)?;
+    Ok((turns, first, cells, args))
+}
+
 /// A birth: the procedure's place, the label of the result, the clearance, turns, first number, how many numbers, and the arguments with
 /// their number before them.
 fn birth(words: &mut Words, alloc: Global, names: &Names) -> Result<Held<Birth>, FieldFault>
     ensures { IfOk result (IsBirthNamed names.now) }
 {
     let proc_at = words.number()?;
-    let result = read_label(words, alloc, names)?;
-    let clearance = read_label(words, alloc, names)?;
-    let turns = words.number()?;
-    let first = words.number()?;
-    let cells = words.number()?;
-    let args = values(words, alloc, names)?;
-    let birth = Birth {
-        proc_at,
-        args,
-        result,
-        clearance,
-        turns,
-        first,
-        cells,
-    };
-    Ok(Held::new(alloc, birth)?)
+    let (result, clearance) = two_labels(words, alloc, names)?;
+    match share(words, alloc, names) {
+        Ok((turns, first, cells, args)) => Ok(Held::new(
+            alloc,
+            Birth {
+                proc_at,
+                args,
+                result,
+                clearance,
+                turns,
+                first,
+                cells,
+            },
+        )?),
+        Err(fault) => {
+            drop(result);
+            drop(clearance);
+            Err(fault)
+        }
+    }
 }
 
 /// A value on the heap.
@@ -93,15 +113,34 @@ fn variable(
     }
 }
 
+/// A privilege, and the content that is released by it.
+fn power_and_content(
+    words: &mut Words,
+    alloc: Global,
+    names: &Names,
+) -> Result<(Priv, Held<Content>), FieldFault>
+    ensures power { IfOk result (λ told. IsPowerNamed names.now told.0) }
+    ensures content { IfOk result (λ told. IsContentNamed names.now told.1) }
+{
+    let power = power(words, alloc, names)?;
+    let content = held_content(words, alloc, names)?;
+    Ok((power, content))
+}
+
 /// A release: the label that it comes from, the label that it comes to, the privilege's formula, and the content.
 fn release(words: &mut Words, alloc: Global, names: &Names) -> Result<Act, FieldFault>
     ensures { IfOk result (CanPrint names.now) }
 {
     let source = held_label(words, alloc, names)?;
     let target = held_label(words, alloc, names)?;
-    let power = power(words, alloc, names)?;
-    let content = held_content(words, alloc, names)?;
-    Ok(Act::Release(source, target, power, content))
+    match power_and_content(words, alloc, names) {
+        Ok((power, content)) => Ok(Act::Release(source, target, power, content)),
+        Err(fault) => {
+            drop(source);
+            drop(target);
+            Err(fault)
+        }
+    }
 }
 
 /// An act that makes a node.
@@ -166,6 +205,25 @@ fn reply(words: &mut Words, alloc: Global, names: &Names) -> Result<Reply, Field
     }
 }
 
+/// An act, and the reply to it.
+fn act_and_reply(
+    words: &mut Words,
+    alloc: Global,
+    names: &Names,
+) -> Result<(Act, Reply), FieldFault>
+    ensures act { IfOk result (λ turn. CanPrint names.now turn.0) }
+    ensures reply { IfOk result (λ turn. IsReplyNamed names.now turn.1) }
+{
+    let act = act(words, alloc, names)?;
+    match reply(words, alloc, names) {
+        Ok(reply) => Ok((act, reply)),
+        Err(fault) => {
+            drop(act);
+            Err(fault)
+        }
+    }
+}
+
 /// An entry: ticket, actor, target, the label before the turn, act and reply.
 pub fn read_entry(words: &mut Words, alloc: Global, names: &Names) -> Result<Entry, FieldFault>
     ensures { IfOk result (IsPrintable names.now) }
@@ -174,16 +232,20 @@ pub fn read_entry(words: &mut Words, alloc: Global, names: &Names) -> Result<Ent
     let actor = words.number()?;
     let target = words.optional()?;
     let at = read_label(words, alloc, names)?;
-    let act = act(words, alloc, names)?;
-    let reply = reply(words, alloc, names)?;
-    Ok(Entry {
-        ticket,
-        actor,
-        target,
-        at,
-        act,
-        reply,
-    })
+    match act_and_reply(words, alloc, names) {
+        Ok((act, reply)) => Ok(Entry {
+            ticket,
+            actor,
+            target,
+            at,
+            act,
+            reply,
+        }),
+        Err(fault) => {
+            drop(at);
+            Err(fault)
+        }
+    }
 }
 
 /// A number, and a journal of so many entries.
@@ -196,6 +258,7 @@ pub fn read_journal(words: &mut Words, alloc: Global, names: &Names) -> Result<J
     for _ in 0..count {
         let entry = read_entry(words, alloc, names)?;
         if entry.ticket < next || entry.ticket == u64::MAX {
+            drop(entry);
             return Err(FieldFault::Invalid);
         }
         next = entry.ticket + 1;

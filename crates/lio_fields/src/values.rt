@@ -56,7 +56,11 @@ fn plain(words: &mut Words, alloc: Global, names: &Names) -> Result<Plain, Field
 }
 
 /// Two labels.
-fn two_labels(words: &mut Words, alloc: Global, names: &Names) -> Result<(Label, Label), FieldFault>
+pub(crate) fn two_labels(
+    words: &mut Words,
+    alloc: Global,
+    names: &Names,
+) -> Result<(Label, Label), FieldFault>
     ensures first { IfOk result (λ labels. AreNamed names.now labels.0) }
     ensures second { IfOk result (λ labels. AreNamed names.now labels.1) }
 {
@@ -118,8 +122,13 @@ pub(crate) fn fault(words: &mut Words, alloc: Global, names: &Names) -> Result<F
     ensures { IfOk result (IsFaultNamed names.now) }
 {
     let kind = kind(words, alloc, names)?;
-    let at = read_label(words, alloc, names)?;
-    Ok(Fault { kind, at })
+    match read_label(words, alloc, names) {
+        Ok(at) => Ok(Fault { kind, at }),
+        Err(fault) => {
+            drop(kind);
+            Err(fault)
+        }
+    }
 }
 
 /// A content.

@@ -24,8 +24,13 @@ impl<'a> Words<'a> {
         ensures invalid { IfErr result (λ fault. fault ≡ LineFault.Invalid → spec.one names.now self.old ≡ None) }
     {
         let a = self.operand(alloc, names)?;
-        self.end()?;
-        Ok(a)
+        match self.end() {
+            Ok(()) => Ok(a),
+            Err(fault) => {
+                drop(a);
+                Err(fault)
+            }
+        }
     }
 
     /// `A A`
@@ -40,8 +45,13 @@ impl<'a> Words<'a> {
         ensures invalid { IfErr result (λ fault. fault ≡ LineFault.Invalid → spec.two names.now self.old ≡ None) }
     {
         let a = self.operand(alloc, names)?;
-        let b = self.one(alloc, names)?;
-        Ok((a, b))
+        match self.one(alloc, names) {
+            Ok(b) => Ok((a, b)),
+            Err(fault) => {
+                drop(a);
+                Err(fault)
+            }
+        }
     }
 
     /// `A A A`
@@ -56,8 +66,13 @@ impl<'a> Words<'a> {
         ensures invalid { IfErr result (λ fault. fault ≡ LineFault.Invalid → spec.three names.now self.old ≡ None) }
     {
         let a = self.operand(alloc, names)?;
-        let (b, c) = self.two(alloc, names)?;
-        Ok((a, b, c))
+        match self.two(alloc, names) {
+            Ok((b, c)) => Ok((a, b, c)),
+            Err(fault) => {
+                drop(a);
+                Err(fault)
+            }
+        }
     }
 
     /// `X A`
@@ -210,9 +225,21 @@ impl<'a> Words<'a> {
         ensures invalid { IfErr result (λ fault. fault ≡ LineFault.Invalid → spec.spawn names.now self.old ≡ None) }
     {
         let t = self.operand(alloc, names)?;
-        let c = self.operand(alloc, names)?;
-        let (p, arguments) = self.called(alloc, names)?;
-        Ok((t, c, p, arguments))
+        let c = match self.operand(alloc, names) {
+            Ok(c) => c,
+            Err(fault) => {
+                drop(t);
+                return Err(fault);
+            }
+        };
+        match self.called(alloc, names) {
+            Ok((p, arguments)) => Ok((t, c, p, arguments)),
+            Err(fault) => {
+                drop(t);
+                drop(c);
+                Err(fault)
+            }
+        }
     }
 
     /// `X L T C P A ..`
@@ -227,8 +254,20 @@ impl<'a> Words<'a> {
         ensures invalid { IfErr result (λ fault. fault ≡ LineFault.Invalid → spec.fork names.now self.old ≡ None) }
     {
         let x = self.name(alloc)?;
-        let l = self.operand(alloc, names)?;
-        let (t, c, p, arguments) = self.spawn(alloc, names)?;
-        Ok((x, l, t, c, p, arguments))
+        let l = match self.operand(alloc, names) {
+            Ok(l) => l,
+            Err(fault) => {
+                drop(x);
+                return Err(fault);
+            }
+        };
+        match self.spawn(alloc, names) {
+            Ok((t, c, p, arguments)) => Ok((x, l, t, c, p, arguments)),
+            Err(fault) => {
+                drop(x);
+                drop(l);
+                Err(fault)
+            }
+        }
     }
 }

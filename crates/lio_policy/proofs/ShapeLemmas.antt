@@ -2,7 +2,8 @@
 use Rattle.std.proofs.Common.{◌≡◌, ℕ, suc, zero, ◌<◌, ◌≤◌, List, [], ◌∷◌, length, drop, map, nat_eq, Bor, Bool, true, false, codes, Option, Some, None, if◌then◌else◌, nat_le, refl, sym, ap, arith, ◌∙◌}
 use Rattle.serde_json.specs.Data.{Data, no_members}
 use Rattle.serde_json.specs.View.{items_of}
-use Rattle.lio_policy.specs.Shape.{list_of, are_keys, of_32_bits, ◌>>=◌, text_at, task_texts, task_parts, task_of}
+use Rattle.lio_policy.specs.Shape.{list_of, are_keys, of_32_bits, ◌>>=◌, text_at, texts_at, file_parts, file_of, task_texts, task_parts, task_of}
+use Rattle.lio_policy.specs.declared.draft.FileDraft.{FileDraft}
 use Rattle.lio_policy.specs.declared.draft.TaskDraft.{TaskDraft}
 use Rattle.lio_policy.specs.declared.shape.TaskTexts.{TaskTexts}
 
@@ -34,7 +35,7 @@ both n p = n >>= λ a. p >>= λ b. Some (a, b)
 abbrev texts_of : List ℕ × List ℕ → List ℕ × List ℕ → TaskTexts
 texts_of names labels = record { name = names.0; proc_name = names.1; label = labels.0; clearance = labels.1 }
 
-either : (b : Bool) (o : Option TaskDraft) → None ≡ o → None ≡ (if b then o else None)
+either : {A : Type 0} (b : Bool) (o : Option A) → None ≡ o → None ≡ (if b then o else None)
 either true o h = h
 either false o h = refl
 
@@ -50,3 +51,13 @@ no_texts_by (Some n) (Some p) (Some l) (Some c) rest h = absurd (cc)
 pub no_texts : (d : Data) → None ≡ task_texts d → None ≡ task_of d
 unfolding task_of
 no_texts d h = either _ (task_parts d) (no_texts_by (text_at (codes "name") d) (text_at (codes "proc") d) (text_at (codes "label") d) (text_at (codes "clearance") d) _ h)
+
+-- without the name and the label of a channel or an input there is none
+no_file_by : (n l f : Option (List ℕ)) (rest : List ℕ → List ℕ → List ℕ → Option FileDraft) → None ≡ both n l → None ≡ (n >>= λ name. l >>= λ label. f >>= λ file. rest name label file)
+no_file_by None l f rest h = refl
+no_file_by (Some n) None f rest h = refl
+no_file_by (Some n) (Some l) f rest h = absurd (cc)
+
+pub no_file : (d : Data) → None ≡ texts_at (codes "name") (codes "label") d → None ≡ file_of d
+unfolding file_of
+no_file d h = either _ (file_parts d) (no_file_by (text_at (codes "name") d) (text_at (codes "label") d) (text_at (codes "file") d) _ h)

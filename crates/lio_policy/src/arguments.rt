@@ -12,6 +12,7 @@ use crate::fault::PolicyFault;
 use crate::policy::{Arg, FileEntries, TaskEntries, TaskEntry};
 use crate::table::Table;
 use lio_clauses::NoMemory;
+use lio_labels::Label;
 use lio_values::{Handle, Plain, Text};
 use std::alloc::Global;
 
@@ -75,6 +76,17 @@ impl Conversion<LabelledTask, TaskEntry> for Known {
     }
 }
 
+/// Copies of the names of a task and of its procedure, of its label and of its clearance.
+fn copied_parts(alloc: Global, task: &LabelledTask) -> Result<(Text, Text, Label, Label), NoMemory>
+    ensures { IfOk result (λ parts. (parts.0 ≡ task.now.name) × (parts.1 ≡ task.now.proc_name) × (parts.2 ≡ task.now.label) × (parts.3 ≡ task.now.clearance)) }
+{
+    let name = task.name.copy(alloc)?;
+    let proc_name = task.proc_name.copy(alloc)?;
+    let label = task.label.copy(alloc)?;
+    let clearance = task.clearance.copy(alloc)?;
+    Ok((name, proc_name, label, clearance))
+}
+
 /// A task with its arguments, if what they name is known.
 #[tactic(auto, unfolding(crate::specs::Rules::task_entry))]
 fn task_entry(
@@ -87,15 +99,21 @@ fn task_entry(
     let Ok(args) = each(alloc, known, task.args.as_slice())? else {
         return Ok(None);
     };
-    Ok(Some(TaskEntry {
-        name: task.name.copy(alloc)?,
-        proc_name: task.proc_name.copy(alloc)?,
-        label: task.label.copy(alloc)?,
-        clearance: task.clearance.copy(alloc)?,
-        turns: task.turns,
-        cells: task.cells,
-        args,
-    }))
+    match copied_parts(alloc, task) {
+        Ok((name, proc_name, label, clearance)) => Ok(Some(TaskEntry {
+            name,
+            proc_name,
+            label,
+            clearance,
+            turns: task.turns,
+            cells: task.cells,
+            args,
+        })),
+        Err(error) => {
+            drop(args);
+            Err(error)
+        }
+    }
 }
 
 /// The tasks of a draft with their arguments.

@@ -48,23 +48,29 @@ impl Conversion<Value, TaskDraft> for Shape {
 }
 
 /// The channel or input that a value is.
-#[tactic(auto, unfolding(crate::specs::Shape::file_of))]
+#[tactic(auto, using(crate::proofs::ShapeLemmas::no_file), unfolding(crate::specs::Shape::file_of))]
 fn file_draft(alloc: Global, value: &Value) -> Result<Option<FileDraft>, NoMemory>
     ensures { IfOk result (λ draft. draft ≡ spec.file_of (view value.now)) }
 {
     if !has_keys(value, &["file", "label", "name"]) {
         return Ok(None);
     }
-    let Some(name) = text_at(alloc, value, "name")? else {
+    let Some((name, label)) = texts_at(alloc, value, "name", "label")? else {
         return Ok(None);
     };
-    let Some(label) = text_at(alloc, value, "label")? else {
-        return Ok(None);
-    };
-    let Some(file) = text_at(alloc, value, "file")? else {
-        return Ok(None);
-    };
-    Ok(Some(FileDraft { name, label, file }))
+    match text_at(alloc, value, "file") {
+        Ok(Some(file)) => Ok(Some(FileDraft { name, label, file })),
+        Ok(None) => {
+            drop(name);
+            drop(label);
+            Ok(None)
+        }
+        Err(refused) => {
+            drop(name);
+            drop(label);
+            Err(refused)
+        }
+    }
 }
 
 /// The argument that a value is.

@@ -1,5 +1,6 @@
 //! What a turn does, and what it is answered.
 ghost use Rattle.std.specs.Prelude.{◌≡◌, IfOk};
+ghost use Rattle.lio_values.specs.declared.act.Act.TheVariants as act;
 
 use crate::fault::Fault;
 use crate::held::Held;
@@ -141,6 +142,46 @@ impl Held<Label> {
     }
 }
 
+/// Copies of two labels.
+fn copied_labels(
+    alloc: Global,
+    first: &Held<Label>,
+    second: &Held<Label>,
+) -> Result<(Held<Label>, Held<Label>), NoMemory>
+    ensures { IfOk result (λ labels. (labels.0 ≡ first.now) × (labels.1 ≡ second.now)) }
+{
+    let first = first.copy(alloc)?;
+    let second = second.copy(alloc)?;
+    Ok((first, second))
+}
+
+/// A release of a content, with copies of its labels and of its privilege.
+pub(crate) fn released(
+    alloc: Global,
+    source: &Held<Label>,
+    target: &Held<Label>,
+    power: &Priv,
+    content: Held<Content>,
+) -> Result<Act, NoMemory>
+    ensures { IfOk result (λ release. release ≡ act.Release source.now target.now power.now content) }
+{
+    match copied_labels(alloc, source, target) {
+        Ok((source, target)) => match power.copy(alloc) {
+            Ok(power) => Ok(Act::Release(source, target, power, content)),
+            Err(error) => {
+                drop(source);
+                drop(target);
+                drop(content);
+                Err(error)
+            }
+        },
+        Err(error) => {
+            drop(content);
+            Err(error)
+        }
+    }
+}
+
 impl Act {
     /// An equal act.
     pub fn copy(&self, alloc: Global) -> Result<Act, NoMemory>
@@ -151,12 +192,9 @@ impl Act {
             Act::Seal(label) => Ok(Act::Seal(label.copy(alloc)?)),
             Act::Raise(op, label) => Ok(Act::Raise(*op, label.copy(alloc)?)),
             Act::Lower(label) => Ok(Act::Lower(label.copy(alloc)?)),
-            Act::Release(from, to, power, content) => Ok(Act::Release(
-                from.copy(alloc)?,
-                to.copy(alloc)?,
-                power.copy(alloc)?,
-                content.copy(alloc)?,
-            )),
+            Act::Release(source, target, power, content) => {
+                released(alloc, source, target, power, content.copy(alloc)?)
+            }
             Act::NewRef(label, value) => Ok(Act::NewRef(label.copy(alloc)?, value.copy(alloc)?)),
             Act::NewVar(label, value) => Ok(Act::NewVar(label.copy(alloc)?, value.copy(alloc)?)),
             Act::Fork(birth) => Ok(Act::Fork(birth.copy(alloc)?)),

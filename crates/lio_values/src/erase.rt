@@ -3,7 +3,7 @@ ghost use Rattle.std.specs.Prelude.{◌≡◌, IfOk, map};
 ghost use Rattle.std.specs.Option.{option_map};
 ghost use Rattle.lio_values.specs.Erasure.{erase_content, erase_value, erase_birth, erase_act, erase_reply, erase_entry};
 
-use crate::act::{Act, Birth, Reply};
+use crate::act::{Act, Birth, Reply, released};
 use crate::entry::Entry;
 use crate::held::Held;
 use crate::list::List;
@@ -111,12 +111,10 @@ impl Act {
         ensures { IfOk result (λ act. act ≡ erase_act observer.now self.now) }
     {
         match self {
-            Act::Release(source, target, power, content) => Ok(Act::Release(
-                source.copy(alloc)?,
-                target.copy(alloc)?,
-                power.copy(alloc)?,
-                content.erase(alloc, observer, target.get())?,
-            )),
+            Act::Release(source, target, power, content) => {
+                let content = content.erase(alloc, observer, target.get())?;
+                released(alloc, source, target, power, content)
+            }
             Act::NewRef(label, value) => Ok(Act::NewRef(
                 label.copy(alloc)?,
                 value.erase(alloc, observer)?,

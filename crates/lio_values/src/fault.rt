@@ -101,8 +101,8 @@ impl Fault {
     pub fn copy(&self, alloc: Global) -> Result<Fault, NoMemory>
         ensures { IfOk result (λ fault. fault ≡ self.now) }
     {
-        let kind = self.kind.copy(alloc)?;
         let at = self.at.copy(alloc)?;
+        let kind = self.kind.copy(alloc)?;
         Ok(Fault { kind, at })
     }
 }
