@@ -10,8 +10,8 @@ use Rattle.lio_powers.specs.Laws.{ReleasesByPowers}
 use Rattle.lio_run.specs.declared.by_rounds.Ran.{Ran}
 use Rattle.lio_run.specs.Runs.{IsSeen, RunsByRounds, SeesChannels, ran_of}
 use Rattle.lio_host.specs.declared.job.Job.{Job}
-use Rattle.lio_host.specs.declared.status.HostStatus.{HostStatus}
-use Rattle.lio_host.specs.declared.status.HostStatus.TheVariants.{Done, BadWords, Missing, ReadFault, BadPolicy, BadScript, BadStart, WriteFault, NoMemory, Clash}
+use Rattle.lio_status.specs.declared.status.HostStatus.{HostStatus}
+use Rattle.lio_status.specs.declared.status.HostStatus.TheVariants.{Done, BadWords, Missing, ReadFault, BadPolicy, BadScript, BadStart, WriteFault, NoMemory, Clash}
 use Rattle.lio_host.specs.Command.{Command, command_of}
 use Rattle.lio_host.specs.Preparing.{IsPrepared, PrepareSays}
 use Rattle.lio_host.specs.Headline.{IsRunOf}

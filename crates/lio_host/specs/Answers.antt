@@ -7,8 +7,8 @@ use Rattle.lio_outside.specs.Count.{Rose}
 use Rattle.lio_front.specs.Laws.{HoldsEachChannel}
 use Rattle.lio_front.specs.Outputs.{kept, outputs, KeepsFirst, StopsAt}
 use Rattle.lio_host.specs.declared.job.Job.{Job}
-use Rattle.lio_host.specs.declared.status.HostStatus.{HostStatus}
-use Rattle.lio_host.specs.declared.status.HostStatus.TheVariants.{Done, BadWords, Missing, ReadFault, BadPolicy, BadScript, BadStart, WriteFault, NoMemory, Clash}
+use Rattle.lio_status.specs.declared.status.HostStatus.{HostStatus}
+use Rattle.lio_status.specs.declared.status.HostStatus.TheVariants.{Done, BadWords, Missing, ReadFault, BadPolicy, BadScript, BadStart, WriteFault, NoMemory, Clash}
 use Rattle.lio_host.specs.Command.{Command, command_of}
 use Rattle.lio_host.specs.Preparing.{ReadsFile}
 use Rattle.lio_host.specs.Verdict.{Fetched, found, verdict}

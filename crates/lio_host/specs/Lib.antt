@@ -3,4 +3,3 @@ pub mod Verdict
 pub mod Headline
 pub mod Answers
 pub mod Preparing
-pub mod ExitStatus

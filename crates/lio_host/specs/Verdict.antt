@@ -2,25 +2,15 @@
 use Rattle.std.specs.Prelude.{ℕ, List, Option, Some, None, Result, Ok, Err}
 use Rattle.lio_outside.specs.FileMap.{FileMap}
 use Rattle.lio_outside.specs.Fetch.{given}
-use Rattle.lio_front.specs.declared.fault.FrontFault.{FrontFault}
-use Rattle.lio_front.specs.declared.fault.FrontFault.TheVariants as front_fault
 use Rattle.lio_front.specs.declared.loading.Front.{Front}
 use Rattle.lio_front.specs.Steps.{◌>>=◌, or_refused, unless, told_as}
 use Rattle.lio_front.specs.Loading.{loaded, texts_of, most_policy_bytes, most_script_bytes}
 use Rattle.lio_front.specs.Clash.{clash}
 use Rattle.lio_host.specs.declared.job.Job.{Job}
-use Rattle.lio_host.specs.declared.status.HostStatus.{HostStatus}
-use Rattle.lio_host.specs.declared.status.HostStatus.TheVariants.{BadWords, Missing, ReadFault, BadPolicy, BadScript, BadStart, NoMemory, Clash}
+use Rattle.lio_status.specs.declared.status.HostStatus.{HostStatus}
+use Rattle.lio_status.specs.declared.status.HostStatus.TheVariants.{BadWords, Clash}
+use Rattle.lio_status.specs.StatusOf.{status_of}
 use Rattle.lio_host.specs.Command.{Command, command_of}
-
--- the answer that a fault of a step is
-abbrev pub status_of : FrontFault → HostStatus
-status_of (front_fault.Missing name) = Missing name
-status_of (front_fault.ReadFault name) = ReadFault name
-status_of (front_fault.BadPolicy rule entry) = BadPolicy rule entry
-status_of (front_fault.BadScript line rule) = BadScript line rule
-status_of (front_fault.BadStart place cause) = BadStart place cause
-status_of front_fault.NoMemory = NoMemory
 
 -- what was found under the names of the policy and of the script, and under each name with the limit of inputs; nothing where no file has the name
 pub record Fetched : Type 0 where

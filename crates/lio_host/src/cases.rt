@@ -1,9 +1,8 @@
 //! Reads the worked runs of `rows.rt`, runs each over a store in memory, and compares.
 
-use crate::detail::detail_of;
 use crate::host::host_main;
-use crate::refusal::refusal_text;
 use lio_outside::MemStore;
+use lio_refusals::{detail_of, refusal_text};
 use std::alloc::{AllocError, Global};
 use std::test::Fail;
 

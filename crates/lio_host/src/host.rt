@@ -6,13 +6,20 @@ ghost use Rattle.lio_host.specs.Answers.{Says, Follows};
 
 use crate::command::read_command;
 use crate::job::{Job, prepare};
-use crate::status::{HostStatus, Outcome};
 use lio_events::Journal;
 use lio_front::{OutFault, write_out};
 use lio_outside::Store;
 use lio_policy::laws::policy_keeps_rules;
 use lio_run::run;
+use lio_status::HostStatus;
 use std::alloc::Global;
+
+/// How a call of the host ended, and the journal of what it ran.
+#[derive(Drop)]
+pub struct Outcome {
+    pub status: HostStatus,
+    pub journal: Journal,
+}
 
 /// The outcome of a call that ran nothing.
 fn refused(alloc: Global, status: HostStatus) -> Outcome

@@ -8,10 +8,10 @@ ghost use Rattle.lio_front.specs.Clash.{clash};
 ghost use Rattle.lio_host.specs.Preparing.{named, IsPrepared, PrepareSays, TakingSays};
 
 use crate::command::Command;
-use crate::status::HostStatus;
 use lio_front::{clash as find_clash, load, load_inputs};
 use lio_outside::Store;
 use lio_policy::Policy;
+use lio_status::HostStatus;
 use lio_syntax::Script;
 use lio_values::{List, Text};
 use std::alloc::Global;

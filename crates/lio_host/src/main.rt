@@ -4,22 +4,18 @@
 #[cfg(test)]
 mod cases;
 mod command;
-mod detail;
 mod host;
 mod job;
-mod refusal;
 #[cfg(test)]
 mod rows;
-mod status;
 #[cfg(test)]
 mod tests;
 #[cfg(test)]
 mod worked;
 
-use detail::refusal_detail;
 use host::host_main;
 use lio_outside::RealStore;
-use refusal::print_refusal;
+use lio_refusals::{print_refusal, refusal_detail};
 use std::process::ExitCode;
 use std::{env, io};
 

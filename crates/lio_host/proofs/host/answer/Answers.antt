@@ -5,7 +5,7 @@ use Rattle.lio_values.specs.declared.entry.Entry.{Entry}
 use Rattle.lio_front.specs.Outputs.{Output, kept, outputs, KeepsFirst, StopsAt}
 use Rattle.lio_front.proofs.LawLemmas.{outputs_hold_each_channel}
 use Rattle.lio_host.specs.declared.job.Job.{Job}
-use Rattle.lio_host.specs.declared.status.HostStatus.TheVariants.{BadWords, NoMemory}
+use Rattle.lio_status.specs.declared.status.HostStatus.TheVariants.{BadWords, NoMemory}
 use Rattle.lio_host.specs.Command.{bytes_of_words}
 use Rattle.lio_host.specs.Headline.{IsRunOf}
 use Rattle.lio_host.specs.Answers.{Call, RunsJob}

@@ -4,7 +4,7 @@ use Rattle.lio_outside.specs.FileMap.{FileMap}
 use Rattle.lio_front.specs.Causes.{AreInputs, IsLoaded, LoadSays}
 use Rattle.lio_front.specs.Clash.{clash}
 use Rattle.lio_front.specs.declared.loading.Front.{Front}
-use Rattle.lio_host.specs.declared.status.HostStatus.{HostStatus}
+use Rattle.lio_status.specs.declared.status.HostStatus.{HostStatus}
 use Rattle.lio_host.specs.Preparing.{named, TakingSays}
 use Rattle.lio_host.proofs.Prepares.{prepared-job, says-load, says-taking}
 use Rattle.lio_host.proofs.job.prepare.Goals as goal

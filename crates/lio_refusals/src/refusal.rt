@@ -1,9 +1,8 @@
 //! What is printed of a refusal: the answer as its type writes it, what was refused and where, and how to mend it.
 
 use crate::detail::{Detail, Hint};
-use crate::status::HostStatus;
 use lio_policy::{EntryAt, EntryKind};
-use lio_start::StartFault;
+use lio_status::{HostStatus, Shown};
 use lio_values::Text;
 use std::alloc::{AllocError, Global};
 use std::fmt::Write;
@@ -12,60 +11,6 @@ use std::{fmt, io, str};
 /// What the words are to be.
 const USAGE: &str =
     "usage: lio_host POLICY SCRIPT\n  POLICY and SCRIPT are the names of two files; a name isn't empty and doesn't begin with `-`";
-
-/// A name as it is shown: in one line, with its control characters escaped.
-#[derive(Clone, Copy)]
-struct Shown<'a>(&'a Text);
-
-impl fmt::Display for Shown<'_> {
-    fn fmt<W: fmt::Write>(&self, f: &mut fmt::Formatter<W>) -> fmt::Result {
-        for character in str::from_utf8(self.0.bytes()).unwrap_or("a file").chars() {
-            match character {
-                '\n' => f.write_str("\\n")?,
-                '\u{0}'..='\u{1f}' | '\u{7f}'..='\u{9f}' => {
-                    let code = character as u32;
-                    write!(f, "\\x{code:02x}")?;
-                }
-                _ => f.write_char(character)?,
-            }
-        }
-        Ok(())
-    }
-}
-
-impl fmt::Display for HostStatus {
-    fn fmt<W: fmt::Write>(&self, f: &mut fmt::Formatter<W>) -> fmt::Result {
-        match self {
-            HostStatus::Done => f.write_str("Done"),
-            HostStatus::BadWords => f.write_str("BadWords"),
-            HostStatus::Missing(name) => {
-                let name = Shown(name);
-                write!(f, "Missing({name})")
-            }
-            HostStatus::ReadFault(name) => {
-                let name = Shown(name);
-                write!(f, "ReadFault({name})")
-            }
-            HostStatus::BadPolicy(rule, entry) => write!(f, "BadPolicy({rule}, {entry})"),
-            HostStatus::BadScript(line, rule) => write!(f, "BadScript({line}, {rule})"),
-            HostStatus::BadStart(task, StartFault::NoProc(place)) => {
-                write!(f, "BadStart({task}, NoProc({place}))")
-            }
-            HostStatus::BadStart(task, StartFault::Arity(place)) => {
-                write!(f, "BadStart({task}, Arity({place}))")
-            }
-            HostStatus::WriteFault(name) => {
-                let name = Shown(name);
-                write!(f, "WriteFault({name})")
-            }
-            HostStatus::NoMemory => f.write_str("NoMemory"),
-            HostStatus::Clash(name) => {
-                let name = Shown(name);
-                write!(f, "Clash({name})")
-            }
-        }
-    }
-}
 
 /// The word at a place, where there is one.
 fn word(words: &[String], place: usize) -> &str {

@@ -3,7 +3,6 @@
 ghost use Rattle.std.specs.Prelude.{◌≡◌};
 
 use lio_clauses::NoMemory;
-use lio_events::Journal;
 use lio_front::FrontFault;
 use lio_start::StartFault;
 use lio_values::Text;
@@ -33,15 +32,8 @@ pub enum HostStatus {
     Clash(Text),
 }
 
-/// How a call of the host ended, and the journal of what it ran.
-#[derive(Drop)]
-pub struct Outcome {
-    pub status: HostStatus,
-    pub journal: Journal,
-}
-
 impl From<NoMemory> for HostStatus {
-    ghost use Rattle.lio_host.specs.declared.status.HostStatus.TheVariants.{NoMemory as without_memory};
+    ghost use Rattle.lio_status.specs.declared.status.HostStatus.TheVariants.{NoMemory as without_memory};
 
     ghost from_gives = { λ _ status. status ≡ without_memory };
 
@@ -51,7 +43,7 @@ impl From<NoMemory> for HostStatus {
 }
 
 impl From<FrontFault> for HostStatus {
-    ghost use Rattle.lio_host.specs.Verdict.{status_of};
+    ghost use Rattle.lio_status.specs.StatusOf.{status_of};
 
     ghost from_gives = { λ fault status. status ≡ status_of fault };
 
@@ -69,7 +61,7 @@ impl From<FrontFault> for HostStatus {
 
 impl HostStatus {
     ghost use Rattle.std.specs.Prelude.{◌≡◌};
-    ghost use Rattle.lio_host.specs.ExitStatus.{exit_status};
+    ghost use Rattle.lio_status.specs.ExitStatus.{exit_status};
 
     /// The exit status of the program.
     pub fn number(&self) -> u8

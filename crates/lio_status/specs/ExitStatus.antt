@@ -1,7 +1,7 @@
 -- The program's exit status.
 use Rattle.std.specs.Prelude.{ℕ}
-use Rattle.lio_host.specs.declared.status.HostStatus.{HostStatus}
-use Rattle.lio_host.specs.declared.status.HostStatus.TheVariants.{Done, BadWords, Missing, ReadFault, BadPolicy, BadScript, BadStart, WriteFault, NoMemory, Clash}
+use Rattle.lio_status.specs.declared.status.HostStatus.{HostStatus}
+use Rattle.lio_status.specs.declared.status.HostStatus.TheVariants.{Done, BadWords, Missing, ReadFault, BadPolicy, BadScript, BadStart, WriteFault, NoMemory, Clash}
 
 -- the number with which the program ends; 8 and 10 belong to answers that the host doesn't have so far
 abbrev pub exit_status : HostStatus → ℕ
