@@ -4,12 +4,16 @@ use Rattle.lio_labels.specs.declared.label.Label.{Label}
 use Rattle.lio_values.specs.declared.fault.Fault.{Fault}
 use Rattle.lio_values.specs.declared.fault.FaultKind.{FaultKind}
 use Rattle.lio_values.specs.declared.value.Handle.{Handle}
+use Rattle.lio_values.specs.declared.value.Plain.{Plain}
+use Rattle.lio_values.specs.declared.value.Content.{Content}
 use Rattle.lio_values.specs.declared.value.Value.{Value}
 use Rattle.lio_values.specs.declared.act.Act.{Act}
 use Rattle.lio_values.specs.declared.act.Act.TheVariants as act
 use Rattle.lio_values.specs.declared.act.Op.{Op}
 use Rattle.lio_values.specs.declared.act.Op.TheVariants as op
 use Rattle.lio_values.specs.declared.act.Reply.TheVariants as reply
+use Rattle.lio_words.specs.declared.operators.One.{One}
+use Rattle.lio_operators.specs.Operators.{operate1}
 use Rattle.lio_lines.specs.declared.line.Line.{Line}
 use Rattle.lio_lines.specs.declared.line.Line.TheVariants as says
 use Rattle.lio_lines.specs.declared.line.Operand.{Operand}
@@ -71,6 +75,11 @@ onward_of lines simple onward.End = going.End
 abbrev pub onward_in : Turn → Onward
 onward_in (turn.Own act reply onward) = onward
 onward_in (turn.Visit act target onward) = onward
+
+-- a turn's act
+abbrev pub act_in : Turn → Act
+act_in (turn.Own act reply onward) = act
+act_in (turn.Visit act target onward) = act
 
 -- the plan of a statement that opens no block, or of its access
 abbrev pub turn_of : List Line → Simple → Turn → plan.Plan
@@ -160,13 +169,14 @@ refusal task act kind = turn.Own act (reply.Refused (fault_of task kind)) (onwar
 abbrev pub Computes : Standing → List ℕ → Result Value FaultKind → Turn → Type 0
 Computes task name answer turn = Is task turn (λ lines. plan.computed (state_of lines task) name answer)
 
+-- what an operator on one operand makes is bound, or is the refusal
+abbrev pub ComputesOne : Standing → ℕ → List ℕ → One → Option Value → Turn → Type 0
+ComputesOne task longest name op seen turn =
+    Is task turn (λ lines. plan.with_seen (state_of lines task) seen (λ value. plan.computed (state_of lines task) name (operate1 longest op value)))
+
 -- the raise of a statement that has an access
 abbrev pub Raises : Standing → Op → Handle → Turn → Type 0
 Raises task op handle turn = (access : Simple) → IsFor task access turn (λ lines. plan.raising (state_of lines task) op access handle)
-
--- a new variable
-abbrev pub MakesVariable : Standing → List ℕ → Label → Option Value → Turn → Type 0
-MakesVariable task name label value turn = Is task turn (λ lines. plan.new_variable (state_of lines task) name label value)
 
 -- an act that makes a node, where there is a number for it
 abbrev pub MakesNode : Standing → Act → Onward → Turn → Type 0
@@ -178,11 +188,52 @@ abbrev pub GivesTurns : Standing → Act → ℕ → Onward → Turn → Type 0
 GivesTurns task act turns onward turn =
     (simple : Simple) → IsFor task simple turn (λ lines. plan.with_turns (state_of lines task) act turns (plan.Visit act (plan.New task.first) (onward_of lines simple onward)))
 
+-- a turn, where a guard lets its act go
+abbrev pub Guards : Standing → Op → Label → Turn → Turn → Type 0
+Guards task operation label taken turn =
+    (simple : Simple) → IsFor task simple turn (λ lines. plan.with_verdict (state_of lines task) (act_in taken) (plan.verdict_on (state_of lines task) operation label) (λ current. turn_of lines simple taken))
+
+-- an act that makes a node, where a guard lets it go and there is a number for it
+abbrev pub GuardsNode : Standing → Op → Label → Act → Onward → Turn → Type 0
+GuardsNode task operation label act onward turn =
+    (simple : Simple) → IsFor task simple turn (λ lines. plan.with_verdict (state_of lines task) act (plan.verdict_on (state_of lines task) operation label)
+    (λ current. plan.with_cells (state_of lines task) act 1 (plan.Visit act (plan.New task.first) (onward_of lines simple onward))))
+
+-- a new reference
+abbrev pub MakesReference : Standing → List ℕ → Label → Value → Turn → Type 0
+MakesReference task name label value made = GuardsNode task op.NewRef label (act.NewRef label value) (onward.HoldReference name label) made
+
+-- a new variable
+abbrev pub MakesVariable : Standing → List ℕ → Label → Option Value → Turn → Type 0
+MakesVariable task name label value made = GuardsNode task op.NewVar label (act.NewVar label value) (onward.HoldVariable name label) made
+
 -- the write of a value to a reference
 abbrev pub Writes : Standing → Handle → Value → Turn → Type 0
-Writes task handle value turn =
-    Is task turn (λ lines. plan.with_verdict (state_of lines task) (act.Write value) (plan.verdict_on (state_of lines task) op.Write handle.label)
-    (λ current. plan.Visit (act.Write value) (plan.Node kind.Reference handle) going.Advance))
+Writes task handle value made = Guards task op.Write handle.label (turn.Visit (act.Write value) (target.Reference handle) onward.Advance) made
+
+-- the message of a text to a channel
+abbrev pub Sends : Standing → Handle → List ℕ → Turn → Type 0
+Sends task handle text made = Guards task op.Send handle.label (turn.Visit (act.Send text) (target.Channel handle) onward.Advance) made
+
+-- the seal of a plain value under a label
+abbrev pub Seals : Standing → List ℕ → Label → Plain → Turn → Type 0
+Seals task name label plain made = Guards task op.Seal label (turn.Own (act.Seal label) reply.Done (onward.Seal name label plain)) made
+
+-- the new clearance
+abbrev pub Lowers : Standing → Label → Turn → Type 0
+Lowers task label made = Guards task op.Lower label (turn.Own (act.Lower label) reply.Done (onward.Lower label)) made
+
+-- the raise to a label
+abbrev pub Taints : Standing → Label → Turn → Type 0
+Taints task label made =
+    Is task made (λ lines. plan.with_verdict (state_of lines task) (act.Raise op.Taint label) (plan.verdict_on (state_of lines task) op.Taint label)
+    (λ current. plan.Own (act.Raise op.Taint label) reply.Done (going.Raise current)))
+
+-- the raise to a label, under which a content is sealed
+abbrev pub Unlabels : Standing → List ℕ → Label → Content → Turn → Type 0
+Unlabels task name label content made =
+    Is task made (λ lines. plan.with_verdict (state_of lines task) (act.Raise op.Unlabel label) (plan.verdict_on (state_of lines task) op.Unlabel label)
+    (λ current. plan.Own (act.Raise op.Unlabel label) reply.Done (going.Unlabel name current label content)))
 
 -- an act that makes a child, where there are enough numbers and turns for it
 abbrev pub MakesChild : Standing → Act → ℕ → ℕ → Onward → Turn → Type 0

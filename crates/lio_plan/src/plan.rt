@@ -7,13 +7,13 @@ mod labels;
 mod nodes;
 mod simple;
 
-ghost use Rattle.std.specs.Prelude.{◌≡◌, IfOk};
+ghost use Rattle.std.specs.Prelude.{◌≡◌, IfOk, Ok};
 ghost use Rattle.lio_values.specs.declared.act.Act.TheVariants as act;
 ghost use Rattle.lio_values.specs.declared.act.Reply.TheVariants as reply;
 ghost use Rattle.lio_plan.specs.declared.planned.Turn.TheVariants as turn;
 ghost use Rattle.lio_plan.specs.declared.planned.Onward.TheVariants as onward;
 
-use crate::planned::{Onward, Turn};
+use crate::planned::{Attempt, Onward, Turn};
 use crate::standing::Standing;
 use lio_clauses::NoMemory;
 use lio_guards::{Verdict, guard};
@@ -26,7 +26,7 @@ impl Standing<'_> {
     ghost use Rattle.lio_values.specs.declared.act.Act.TheVariants as act;
     ghost use Rattle.lio_values.specs.declared.fault.FaultKind.TheVariants as kind;
     ghost use Rattle.lio_guards.specs.Guard.{guarded};
-    ghost use Rattle.lio_plan.specs.Planned.{refusal};
+    ghost use Rattle.lio_plan.specs.Planned.{Guards, refusal};
 
     /// The fault of a kind, at the task's label.
     fn fault(&self, alloc: Global, kind: FaultKind) -> Result<Held<Fault>, NoMemory>
@@ -42,7 +42,7 @@ impl Standing<'_> {
     }
 
     /// A refused act, which throws the fault that its reply shows.
-    fn refused(&self, alloc: Global, act: Act, kind: FaultKind) -> Result<Turn, NoMemory>
+    fn refused(&self, alloc: Global, act: Act, kind: FaultKind) -> Attempt
         ensures { IfOk result (λ planned. planned ≡ refusal self.now act kind) }
     {
         match self.fault(alloc, kind) {
@@ -55,7 +55,7 @@ impl Standing<'_> {
     }
 
     /// The refusal where an operand isn't bound or isn't of the needed kind.
-    fn bad_type(&self, alloc: Global) -> Result<Turn, NoMemory>
+    fn bad_type(&self, alloc: Global) -> Attempt
         ensures { IfOk result (λ planned. planned ≡ refusal self.now act.Step kind.BadType) }
     {
         self.refused(alloc, Act::Step, FaultKind::BadType)
@@ -67,10 +67,27 @@ impl Standing<'_> {
     {
         guard(alloc, op, self.label, self.clearance, target)
     }
+
+    /// A turn, where a guard lets its act go.
+    fn guarded(&self, alloc: Global, op: Op, label: &Label, turn: Turn) -> Attempt
+        ensures { IfOk result (Guards self.now op label.now turn) }
+    {
+        match self.verdict(alloc, op, label) {
+            Ok(Verdict::Go(current)) => {
+                drop(current);
+                Ok(turn)
+            }
+            Ok(Verdict::No(kind)) => self.refused(alloc, turn.act(), kind),
+            Err(error) => {
+                drop(turn);
+                Err(error)
+            }
+        }
+    }
 }
 
 /// An act that is refused with a fault, which its reply shows.
-fn throwing(alloc: Global, act: Act, fault: Held<Fault>) -> Result<Turn, NoMemory>
+fn throwing(alloc: Global, act: Act, fault: Held<Fault>) -> Attempt
     ensures { IfOk result (λ planned. planned ≡ turn.Own act (reply.Refused fault) (onward.Throw fault)) }
 {
     match fault.copy(alloc) {
@@ -83,6 +100,24 @@ fn throwing(alloc: Global, act: Act, fault: Held<Fault>) -> Result<Turn, NoMemor
     }
 }
 
+/// Both values, where there was memory for them.
+fn both<A: Drop, B: Drop>(
+    a: Result<A, NoMemory>,
+    b: Result<B, NoMemory>,
+) -> Result<(A, B), NoMemory>
+    ensures first { IfOk result (λ both. a ≡ Ok both.0) }
+    ensures second { IfOk result (λ both. b ≡ Ok both.1) }
+{
+    match (a, b) {
+        (Ok(a), Ok(b)) => Ok((a, b)),
+        (a, b) => {
+            drop(a);
+            drop(b);
+            Err(NoMemory)
+        }
+    }
+}
+
 /// A turn that concerns the task alone.
 fn stepping(onward: Onward) -> Turn
     ensures { result ≡ turn.Own act.Step reply.Done onward }
@@ -91,7 +126,7 @@ fn stepping(onward: Onward) -> Turn
 }
 
 /// The turn in which a task ends with a content.
-fn ending(alloc: Global, content: Content) -> Result<Turn, NoMemory>
+fn ending(alloc: Global, content: Content) -> Attempt
     ensures { IfOk result (λ planned. planned ≡ turn.Own (act.Ended content) reply.Done onward.End) }
 {
     let content = Held::new(alloc, content)?;

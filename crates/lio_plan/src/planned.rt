@@ -1,4 +1,5 @@
 //! What a task's next turn does, and how the task goes on after it.
+use lio_clauses::NoMemory;
 use lio_control::Environment;
 use lio_labels::Label;
 use lio_values::{Act, Content, Fault, Handle, Held, Plain, Reply, Text, Value};
@@ -41,6 +42,9 @@ pub enum Turn {
     /// An act that meets a node.
     Visit(Act, Target, Onward),
 }
+
+/// The turn of a statement or of its access, or want of memory.
+pub(crate) type Attempt = Result<Turn, NoMemory>;
 
 /// The node that a turn meets: that of a handle, or the one that is to be made at a number.
 #[derive(Drop)]
@@ -93,7 +97,25 @@ pub enum Onward {
 
 impl Turn {
     ghost use Rattle.std.specs.Prelude.{◌≡◌};
-    ghost use Rattle.lio_plan.specs.Planned.{onward_in};
+    ghost use Rattle.lio_plan.specs.Planned.{act_in, onward_in};
+
+    /// What it does.
+    pub(crate) fn act(self) -> Act
+        ensures { result ≡ act_in self }
+    {
+        match self {
+            Turn::Own(act, reply, onward) => {
+                drop(reply);
+                drop(onward);
+                act
+            }
+            Turn::Visit(act, target, onward) => {
+                drop(target);
+                drop(onward);
+                act
+            }
+        }
+    }
 
     /// How the task goes on.
     pub fn onward(self) -> Onward

@@ -5,9 +5,8 @@ ghost use Rattle.lio_plan.specs.declared.planned.Turn.TheVariants as turn;
 ghost use Rattle.lio_plan.specs.declared.planned.Target.TheVariants as target;
 ghost use Rattle.lio_plan.specs.declared.planned.Onward.TheVariants as onward;
 
-use crate::planned::{Onward, Target, Turn};
+use crate::planned::{Attempt, Onward, Target, Turn};
 use crate::standing::Standing;
-use lio_clauses::NoMemory;
 use lio_lines::{Operand, Simple};
 use lio_lookup::operands;
 use lio_values::{Act, Handle, Held, Text, Value};
@@ -20,7 +19,7 @@ impl Standing<'_> {
 
     /// The turn of an access.
     #[tactic(auto, unfolding(lio_calculus::specs::Plan::plan_access))]
-    pub(crate) fn plan_access(&self, alloc: Global, simple: &Simple) -> Result<Turn, NoMemory>
+    pub(crate) fn plan_access(&self, alloc: Global, simple: &Simple) -> Attempt
         ensures { IfOk result (PlansAccess self.now simple.now) }
     {
         match simple {
@@ -34,7 +33,7 @@ impl Standing<'_> {
 
     /// The access of `read X R`
     #[tactic(auto, unfolding(lio_calculus::specs::Plan::plan_access))]
-    fn access_read(&self, alloc: Global, name: &Text, reference: &Operand) -> Result<Turn, NoMemory>
+    fn access_read(&self, alloc: Global, name: &Text, reference: &Operand) -> Attempt
         ensures { IfOk result (PlansAccess self.now (line.Read name.now reference.now)) }
     {
         let Some(handle) = operands::reference(self.environment(), reference) else {
@@ -51,7 +50,7 @@ impl Standing<'_> {
 
     /// The access of `take X V`
     #[tactic(auto, unfolding(lio_calculus::specs::Plan::plan_access))]
-    fn access_take(&self, alloc: Global, name: &Text, variable: &Operand) -> Result<Turn, NoMemory>
+    fn access_take(&self, alloc: Global, name: &Text, variable: &Operand) -> Attempt
         ensures { IfOk result (PlansAccess self.now (line.Take name.now variable.now)) }
     {
         let Some(handle) = operands::variable(self.environment(), variable) else {
@@ -64,12 +63,7 @@ impl Standing<'_> {
 
     /// The access of `put V A`
     #[tactic(auto, unfolding(lio_calculus::specs::Plan::plan_access))]
-    fn access_put(
-        &self,
-        alloc: Global,
-        variable: &Operand,
-        value: &Operand,
-    ) -> Result<Turn, NoMemory>
+    fn access_put(&self, alloc: Global, variable: &Operand, value: &Operand) -> Attempt
         ensures { IfOk result (PlansAccess self.now (line.Put variable.now value.now)) }
     {
         let environment = self.environment();
@@ -85,12 +79,7 @@ impl Standing<'_> {
 
     /// The access of `wait X R`
     #[tactic(auto, unfolding(lio_calculus::specs::Plan::plan_access))]
-    fn access_wait(
-        &self,
-        alloc: Global,
-        name: &Text,
-        task_result: &Operand,
-    ) -> Result<Turn, NoMemory>
+    fn access_wait(&self, alloc: Global, name: &Text, task_result: &Operand) -> Attempt
         ensures { IfOk result (PlansAccess self.now (line.Wait name.now task_result.now)) }
     {
         let Some(handle) = operands::task_result(self.environment(), task_result) else {
@@ -103,7 +92,7 @@ impl Standing<'_> {
 }
 
 /// A value is put into a variable.
-fn putting(alloc: Global, handle: Handle, value: Value) -> Result<Turn, NoMemory>
+fn putting(alloc: Global, handle: Handle, value: Value) -> Attempt
     ensures { IfOk result (λ planned. planned ≡ turn.Visit (act.Put value) (target.Variable handle) onward.Advance) }
 {
     let value = Held::new(alloc, value)?;

@@ -1,5 +1,8 @@
 //! Children.
-use crate::planned::{Onward, Target, Turn};
+#![tactic(auto, unfolding(lio_calculus::specs::Plan::plan_simple))]
+
+use crate::plan::both;
+use crate::planned::{Attempt, Onward};
 use crate::standing::Standing;
 use lio_clauses::NoMemory;
 use lio_guards::Verdict;
@@ -11,7 +14,7 @@ use lio_values::{Act, Birth, FaultKind, Held, Op, Text, Values};
 use std::alloc::Global;
 
 impl Standing<'_> {
-    ghost use Rattle.std.specs.Prelude.{◌≡◌, ◌+◌, IfOk, List};
+    ghost use Rattle.std.specs.Prelude.{◌≡◌, ◌+◌, ◌-◌, IfOk, List};
     ghost use Rattle.lio_lines.specs.declared.line.Line.{Line};
     ghost use Rattle.lio_lines.specs.declared.line.Simple.TheVariants as line;
     ghost use Rattle.lio_calculus.specs.Plan as plan;
@@ -19,7 +22,6 @@ impl Standing<'_> {
     ghost use Rattle.lio_plan.specs.StateOf.{program_of, state_of};
 
     /// `fork X L T C P A ..`
-    #[tactic(auto, unfolding(lio_calculus::specs::Plan::plan_simple))]
     pub(crate) fn plan_fork(
         &self,
         alloc: Global,
@@ -31,7 +33,7 @@ impl Standing<'_> {
         cells: &Operand,
         procedure: &Text,
         arguments: &Operands,
-    ) -> Result<Turn, NoMemory>
+    ) -> Attempt
         ensures { IfOk result (PlansBy (program_of script.now longest) self.now (line.Fork name.now label.now turns.now cells.now procedure.now arguments.now)) }
     {
         let environment = self.environment();
@@ -63,24 +65,30 @@ impl Standing<'_> {
         cells: u32,
         number: u32,
         values: Values,
-    ) -> Result<Turn, NoMemory>
+    ) -> Attempt
         ensures { IfOk result (λ planned. Is self.now planned (λ (lines : List Line). plan.forking (state_of lines self.now) name.now label.now turns cells (plan.birth_of number values label.now label.now turns (self.now.first + 1) cells))) }
     {
         let birth = self.birth(alloc, label, turns, cells, number, values)?;
-        let name = name.copy(alloc)?;
-        let result_label = label.copy(alloc)?;
-        match self.verdict(alloc, Op::Fork, label)? {
-            Verdict::Go(current) => {
+        let (name, held) = both(name.copy(alloc), label.copy(alloc))?;
+        let onward = Onward::Fork(name, held, cells, turns);
+        match self.verdict(alloc, Op::Fork, label) {
+            Ok(Verdict::Go(current)) => {
                 drop(current);
-                let onward = Onward::Fork(name, result_label, cells, turns);
                 self.child(alloc, Act::Fork(birth), cells, turns, onward)
             }
-            Verdict::No(kind) => self.refused(alloc, Act::Fork(birth), kind),
+            Ok(Verdict::No(kind)) => {
+                drop(onward);
+                self.refused(alloc, Act::Fork(birth), kind)
+            }
+            Err(error) => {
+                drop(birth);
+                drop(onward);
+                Err(error)
+            }
         }
     }
 
     /// `spawn T C P A ..`
-    #[tactic(auto, unfolding(lio_calculus::specs::Plan::plan_simple))]
     pub(crate) fn plan_spawn(
         &self,
         alloc: Global,
@@ -90,7 +98,7 @@ impl Standing<'_> {
         cells: &Operand,
         procedure: &Text,
         arguments: &Operands,
-    ) -> Result<Turn, NoMemory>
+    ) -> Attempt
         ensures { IfOk result (PlansBy (program_of script.now longest) self.now (line.Spawn turns.now cells.now procedure.now arguments.now)) }
     {
         let environment = self.environment();
@@ -117,7 +125,7 @@ impl Standing<'_> {
         cells: u32,
         number: u32,
         values: Values,
-    ) -> Result<Turn, NoMemory>
+    ) -> Attempt
         ensures { IfOk result (λ planned. Is self.now planned (λ (lines : List Line). plan.spawning (state_of lines self.now) turns cells (plan.birth_of number values self.now.clearance.now self.now.clearance.now turns (self.now.first + 1) cells))) }
     {
         let birth = self.birth(alloc, self.clearance, turns, cells, number, values)?;
@@ -142,61 +150,51 @@ impl Standing<'_> {
     ) -> Result<Held<Birth>, NoMemory>
         ensures { IfOk result (λ birth. birth ≡ plan.birth_of number values label.now label.now turns (self.now.first + 1) cells) }
     {
-        let result_label = label.copy(alloc)?;
-        let clearance = label.copy(alloc)?;
-        Held::new(
-            alloc,
-            Birth {
-                proc_at: number,
-                args: values,
-                result: result_label,
-                clearance,
-                turns,
-                first: self.first + 1,
-                cells,
-            },
-        )
+        let (result, clearance) = both(label.copy(alloc), label.copy(alloc))?;
+        let birth = Birth {
+            proc_at: number,
+            args: values,
+            result,
+            clearance,
+            turns,
+            first: self.first + 1,
+            cells,
+        };
+        Held::new(alloc, birth)
     }
 
     /// An act that makes a child, where there are enough numbers and turns for it.
-    fn child(
-        &self,
-        alloc: Global,
-        act: Act,
-        cells: u32,
-        turns: u32,
-        onward: Onward,
-    ) -> Result<Turn, NoMemory>
+    fn child(&self, alloc: Global, act: Act, cells: u32, turns: u32, onward: Onward) -> Attempt
         ensures { IfOk result (MakesChild self.now act cells turns onward) }
     {
         let asked = u64::from(cells) + 1;
         let left = u64::from(self.cells);
         if asked <= left {
-            return self.child_turns(alloc, act, turns, onward);
+            self.child_turns(alloc, act, turns, onward)
+        } else {
+            drop(onward);
+            self.refused(alloc, act, FaultKind::NoCells(asked, left))
         }
-        drop(onward);
-        self.refused(alloc, act, FaultKind::NoCells(asked, left))
     }
 
     /// And where there are enough turns for it.
-    fn child_turns(
-        &self,
-        alloc: Global,
-        act: Act,
-        turns: u32,
-        onward: Onward,
-    ) -> Result<Turn, NoMemory>
+    fn child_turns(&self, alloc: Global, act: Act, turns: u32, onward: Onward) -> Attempt
         ensures { IfOk result (GivesTurns self.now act turns onward) }
     {
-        let left = self.turns.saturating_sub(1);
-        if turns <= left {
-            return Ok(Turn::Visit(act, Target::New(self.first), onward));
+        let asked = u64::from(turns);
+        let left = u64::from(self.turns_for_children());
+        if asked <= left {
+            Ok(self.making(act, onward))
+        } else {
+            drop(onward);
+            self.refused(alloc, act, FaultKind::ChildTurns(asked, left))
         }
-        drop(onward);
-        self.refused(
-            alloc,
-            act,
-            FaultKind::ChildTurns(u64::from(turns), u64::from(left)),
-        )
+    }
+
+    /// The turns that a child can have: those that are left after this one.
+    fn turns_for_children(&self) -> u32
+        ensures { result ≡ self.now.turns - 1 }
+    {
+        self.turns.saturating_sub(1)
     }
 }

@@ -1,12 +1,23 @@
 //! Sealing, unlabelling, raising, lowering and releasing.
-use crate::planned::{Onward, Turn};
+#![tactic(auto, unfolding(lio_calculus::specs::Plan::plan_simple))]
+
+ghost use Rattle.std.specs.Prelude.{◌≡◌, IfOk};
+ghost use Rattle.lio_values.specs.declared.act.Act.TheVariants as act;
+ghost use Rattle.lio_values.specs.declared.act.Op.TheVariants as op;
+ghost use Rattle.lio_values.specs.declared.act.Reply.TheVariants as reply;
+ghost use Rattle.lio_values.specs.declared.value.Content.TheVariants as content;
+ghost use Rattle.lio_plan.specs.declared.planned.Turn.TheVariants as turn;
+ghost use Rattle.lio_plan.specs.declared.planned.Onward.TheVariants as onward;
+
+use crate::plan::both;
+use crate::planned::{Attempt, Onward, Turn};
 use crate::standing::Standing;
 use lio_clauses::NoMemory;
 use lio_guards::{Verdict, guard_relabel};
 use lio_labels::{Label, Priv};
 use lio_lines::Operand;
 use lio_lookup::operands;
-use lio_values::{Act, Content, FaultKind, Held, Op, Reply, Text};
+use lio_values::{Act, Content, FaultKind, Held, Op, Plain, Reply, Text};
 use std::alloc::Global;
 
 impl Standing<'_> {
@@ -16,107 +27,123 @@ impl Standing<'_> {
     ghost use Rattle.lio_calculus.specs.Plan as plan;
     ghost use Rattle.lio_values.specs.declared.act.Act.TheVariants as act;
     ghost use Rattle.lio_values.specs.declared.value.Content.TheVariants as content;
-    ghost use Rattle.lio_plan.specs.Planned.{Is, Plans, refusal};
+    ghost use Rattle.lio_plan.specs.Planned.{Is, Lowers, Plans, Seals, Taints, Unlabels, refusal};
     ghost use Rattle.lio_plan.specs.StateOf.{state_of};
 
     /// `label X L A`
-    #[tactic(auto, unfolding(lio_calculus::specs::Plan::plan_simple))]
     pub(crate) fn plan_label(
         &self,
         alloc: Global,
         name: &Text,
         label: &Operand,
         value: &Operand,
-    ) -> Result<Turn, NoMemory>
+    ) -> Attempt
         ensures { IfOk result (Plans self.now (line.Label name.now label.now value.now)) }
     {
         let environment = self.environment();
         let Some(label) = operands::label(environment, label) else {
             return self.bad_type(alloc);
         };
-        let Some(plain) = operands::bare(environment, value) else {
-            return self.bad_type(alloc);
-        };
-        let asked = label.copy(alloc)?;
-        match self.verdict(alloc, Op::Seal, label)? {
-            Verdict::Go(current) => {
-                drop(current);
-                let name = name.copy(alloc)?;
-                let label = label.copy(alloc)?;
-                let plain = Held::new(alloc, plain.copy(alloc)?)?;
-                let onward = Onward::Seal(name, label, plain);
-                Ok(Turn::Own(Act::Seal(asked), Reply::Done, onward))
-            }
-            Verdict::No(kind) => self.refused(alloc, Act::Seal(asked), kind),
+        match operands::bare(environment, value) {
+            Some(plain) => self.sealing(alloc, name, label, plain),
+            None => self.bad_type(alloc),
         }
     }
 
+    /// The seal of a plain value under a label.
+    fn sealing(&self, alloc: Global, name: &Text, label: &Label, plain: &Plain) -> Attempt
+        ensures { IfOk result (Seals self.now name.now label.now plain.now) }
+    {
+        let turn = sealed(alloc, name, label, plain)?;
+        self.guarded(alloc, Op::Seal, label, turn)
+    }
+
     /// `unlabel X A`
-    #[tactic(auto, unfolding(lio_calculus::specs::Plan::plan_simple))]
-    pub(crate) fn plan_unlabel(
-        &self,
-        alloc: Global,
-        name: &Text,
-        value: &Operand,
-    ) -> Result<Turn, NoMemory>
+    pub(crate) fn plan_unlabel(&self, alloc: Global, name: &Text, value: &Operand) -> Attempt
         ensures { IfOk result (Plans self.now (line.Unlabel name.now value.now)) }
     {
-        let Some((label, content)) = operands::sealed(self.environment(), value) else {
-            return self.bad_type(alloc);
-        };
-        let asked = label.copy(alloc)?;
+        match operands::sealed(self.environment(), value) {
+            Some((label, content)) => self.unlabelling(alloc, name, label, content),
+            None => self.bad_type(alloc),
+        }
+    }
+
+    /// The raise to a label, under which a content is sealed.
+    fn unlabelling(&self, alloc: Global, name: &Text, label: &Label, content: &Content) -> Attempt
+        ensures { IfOk result (Unlabels self.now name.now label.now content.now) }
+    {
         match self.verdict(alloc, Op::Unlabel, label)? {
-            Verdict::Go(current) => {
-                let name = name.copy(alloc)?;
-                let source = Held::new(alloc, label.copy(alloc)?)?;
-                let content = Held::new(alloc, content.copy(alloc)?)?;
-                let onward = Onward::Unlabel(name, current, source, content);
-                Ok(Turn::Own(Act::Raise(Op::Unlabel, asked), Reply::Done, onward))
+            Verdict::Go(current) => unlabelled(alloc, name, label, content, current),
+            Verdict::No(kind) => self.refused_raise(alloc, Op::Unlabel, label, kind),
+        }
+    }
+
+    /// A refused raise, for an operation on a thing with this label.
+    pub(crate) fn refused_raise(
+        &self,
+        alloc: Global,
+        op: Op,
+        label: &Label,
+        kind: FaultKind,
+    ) -> Attempt
+        ensures { IfOk result (λ planned. planned ≡ refusal self.now (act.Raise op label.now) kind) }
+    {
+        match label.copy(alloc) {
+            Ok(asked) => self.refused(alloc, Act::Raise(op, asked), kind),
+            Err(error) => {
+                drop(kind);
+                Err(error)
             }
-            Verdict::No(kind) => self.refused(alloc, Act::Raise(Op::Unlabel, asked), kind),
         }
     }
 
     /// `taint L`
-    #[tactic(auto, unfolding(lio_calculus::specs::Plan::plan_simple))]
-    pub(crate) fn plan_taint(&self, alloc: Global, label: &Operand) -> Result<Turn, NoMemory>
+    pub(crate) fn plan_taint(&self, alloc: Global, label: &Operand) -> Attempt
         ensures { IfOk result (Plans self.now (line.Taint label.now)) }
     {
-        let Some(label) = operands::label(self.environment(), label) else {
-            return self.bad_type(alloc);
-        };
-        let asked = label.copy(alloc)?;
+        match operands::label(self.environment(), label) {
+            Some(label) => self.tainting(alloc, label),
+            None => self.bad_type(alloc),
+        }
+    }
+
+    /// The raise to a label.
+    fn tainting(&self, alloc: Global, label: &Label) -> Attempt
+        ensures { IfOk result (Taints self.now label.now) }
+    {
         match self.verdict(alloc, Op::Taint, label)? {
-            Verdict::Go(current) => Ok(Turn::Own(
-                Act::Raise(Op::Taint, asked),
-                Reply::Done,
-                Onward::Raise(current),
-            )),
-            Verdict::No(kind) => self.refused(alloc, Act::Raise(Op::Taint, asked), kind),
+            Verdict::Go(current) => {
+                let asked = label.copy(alloc)?;
+                Ok(Turn::Own(
+                    Act::Raise(Op::Taint, asked),
+                    Reply::Done,
+                    Onward::Raise(current),
+                ))
+            }
+            Verdict::No(kind) => self.refused_raise(alloc, Op::Taint, label, kind),
         }
     }
 
     /// `lower L`
-    #[tactic(auto, unfolding(lio_calculus::specs::Plan::plan_simple))]
-    pub(crate) fn plan_lower(&self, alloc: Global, label: &Operand) -> Result<Turn, NoMemory>
+    pub(crate) fn plan_lower(&self, alloc: Global, label: &Operand) -> Attempt
         ensures { IfOk result (Plans self.now (line.Lower label.now)) }
     {
-        let Some(label) = operands::label(self.environment(), label) else {
-            return self.bad_type(alloc);
-        };
-        let asked = label.copy(alloc)?;
-        match self.verdict(alloc, Op::Lower, label)? {
-            Verdict::Go(current) => {
-                drop(current);
-                let clearance = label.copy(alloc)?;
-                Ok(Turn::Own(Act::Lower(asked), Reply::Done, Onward::Lower(clearance)))
-            }
-            Verdict::No(kind) => self.refused(alloc, Act::Lower(asked), kind),
+        match operands::label(self.environment(), label) {
+            Some(label) => self.lowering(alloc, label),
+            None => self.bad_type(alloc),
         }
     }
 
+    /// The clearance is lowered to a label.
+    fn lowering(&self, alloc: Global, label: &Label) -> Attempt
+        ensures { IfOk result (Lowers self.now label.now) }
+    {
+        let (asked, clearance) = both(label.copy(alloc), label.copy(alloc))?;
+        let turn = Turn::Own(Act::Lower(asked), Reply::Done, Onward::Lower(clearance));
+        self.guarded(alloc, Op::Lower, label, turn)
+    }
+
     /// `relabel X A L P`
-    #[tactic(auto, unfolding(lio_calculus::specs::Plan::plan_simple))]
     pub(crate) fn plan_relabel(
         &self,
         alloc: Global,
@@ -124,7 +151,7 @@ impl Standing<'_> {
         value: &Operand,
         label: &Operand,
         power: &Operand,
-    ) -> Result<Turn, NoMemory>
+    ) -> Attempt
         ensures { IfOk result (Plans self.now (line.Relabel name.now value.now label.now power.now)) }
     {
         let environment = self.environment();
@@ -149,25 +176,15 @@ impl Standing<'_> {
         content: &Content,
         target: &Label,
         power: &Priv,
-    ) -> Result<Turn, NoMemory>
+    ) -> Attempt
         ensures { IfOk result (λ planned. Is self.now planned (λ (lines : List Line). plan.releasing (state_of lines self.now) name.now (record { label = source.now; content = content.now }) target.now power.now)) }
     {
-        let from = Held::new(alloc, source.copy(alloc)?)?;
-        let to = Held::new(alloc, target.copy(alloc)?)?;
-        let by = power.copy(alloc)?;
         match guard_relabel(alloc, self.label, self.clearance, source, target, power)? {
             Verdict::Go(current) => {
                 drop(current);
-                let name = name.copy(alloc)?;
-                let label = target.copy(alloc)?;
-                let content = Held::new(alloc, content.copy(alloc)?)?;
-                Ok(Turn::Own(
-                    Act::Release(from, to, by, content),
-                    Reply::Done,
-                    Onward::Release(name, label),
-                ))
+                released(alloc, name, source, content, target, power)
             }
-            Verdict::No(kind) => self.refused_release(alloc, from, to, by, kind),
+            Verdict::No(kind) => self.refused_release(alloc, source, target, power, kind),
         }
     }
 
@@ -175,19 +192,107 @@ impl Standing<'_> {
     fn refused_release(
         &self,
         alloc: Global,
-        from: Held<Label>,
-        to: Held<Label>,
-        power: Priv,
+        source: &Label,
+        target: &Label,
+        power: &Priv,
         kind: FaultKind,
-    ) -> Result<Turn, NoMemory>
-        ensures { IfOk result (λ planned. planned ≡ refusal self.now (act.Release from to power content.Hidden) kind) }
+    ) -> Attempt
+        ensures { IfOk result (λ planned. planned ≡ refusal self.now (act.Release source.now target.now power.now content.Hidden) kind) }
     {
-        match Held::new(alloc, Content::Hidden) {
-            Ok(hidden) => self.refused(alloc, Act::Release(from, to, power, hidden), kind),
+        match hidden_release(alloc, source, target, power) {
+            Ok(act) => self.refused(alloc, act, kind),
             Err(error) => {
                 drop(kind);
                 Err(error)
             }
         }
     }
+}
+
+/// The turn that seals a plain value.
+fn sealed(alloc: Global, name: &Text, label: &Label, plain: &Plain) -> Attempt
+    ensures { IfOk result (λ made. made ≡ turn.Own (act.Seal label.now) reply.Done (onward.Seal name.now label.now plain.now)) }
+{
+    let (plain, asked) = both(Held::new(alloc, plain.copy(alloc)?), label.copy(alloc))?;
+    let (name, label) = both(name.copy(alloc), label.copy(alloc))?;
+    Ok(Turn::Own(
+        Act::Seal(asked),
+        Reply::Done,
+        Onward::Seal(name, label, plain),
+    ))
+}
+
+/// The turn that opens a sealed value, at this current label.
+fn unlabelled(
+    alloc: Global,
+    name: &Text,
+    label: &Label,
+    content: &Content,
+    current: Label,
+) -> Attempt
+    ensures { IfOk result (λ made. made ≡ turn.Own (act.Raise op.Unlabel label.now) reply.Done (onward.Unlabel name.now current label.now content.now)) }
+{
+    let (source, content) = both(held_label(alloc, label), held_content(alloc, content))?;
+    let (asked, name) = both(label.copy(alloc), name.copy(alloc))?;
+    let onward = Onward::Unlabel(name, current, source, content);
+    Ok(Turn::Own(Act::Raise(Op::Unlabel, asked), Reply::Done, onward))
+}
+
+/// A label on the heap.
+fn held_label(alloc: Global, label: &Label) -> Result<Held<Label>, NoMemory>
+    ensures { IfOk result (λ held. held ≡ label.now) }
+{
+    Held::new(alloc, label.copy(alloc)?)
+}
+
+/// A content on the heap.
+fn held_content(alloc: Global, content: &Content) -> Result<Held<Content>, NoMemory>
+    ensures { IfOk result (λ held. held ≡ content.now) }
+{
+    Held::new(alloc, content.copy(alloc)?)
+}
+
+/// The turn that releases a content.
+fn released(
+    alloc: Global,
+    name: &Text,
+    source: &Label,
+    content: &Content,
+    target: &Label,
+    power: &Priv,
+) -> Attempt
+    ensures { IfOk result (λ made. made ≡ turn.Own (act.Release source.now target.now power.now content.now) reply.Done (onward.Release name.now target.now)) }
+{
+    let content = held_content(alloc, content)?;
+    let (name, label) = both(name.copy(alloc), target.copy(alloc))?;
+    let act = releasing(alloc, source, target, power, content)?;
+    Ok(Turn::Own(act, Reply::Done, Onward::Release(name, label)))
+}
+
+/// The release of no content.
+fn hidden_release(
+    alloc: Global,
+    source: &Label,
+    target: &Label,
+    power: &Priv,
+) -> Result<Act, NoMemory>
+    ensures { IfOk result (λ made. made ≡ act.Release source.now target.now power.now content.Hidden) }
+{
+    let hidden = Held::new(alloc, Content::Hidden)?;
+    releasing(alloc, source, target, power, hidden)
+}
+
+/// The release of a content from a label to another by a privilege.
+fn releasing(
+    alloc: Global,
+    source: &Label,
+    target: &Label,
+    power: &Priv,
+    content: Held<Content>,
+) -> Result<Act, NoMemory>
+    ensures { IfOk result (λ made. made ≡ act.Release source.now target.now power.now content) }
+{
+    let by = power.copy(alloc)?;
+    let (from, to) = both(held_label(alloc, source), held_label(alloc, target))?;
+    Ok(Act::Release(from, to, by, content))
 }

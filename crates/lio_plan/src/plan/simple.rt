@@ -1,7 +1,6 @@
 //! The plan of a statement that opens no block.
-use crate::planned::Turn;
+use crate::planned::Attempt;
 use crate::standing::Standing;
-use lio_clauses::NoMemory;
 use lio_lines::Simple;
 use lio_syntax::Script;
 use std::alloc::Global;
@@ -18,7 +17,7 @@ impl Standing<'_> {
         script: &Script,
         longest: u32,
         simple: &Simple,
-    ) -> Result<Turn, NoMemory>
+    ) -> Attempt
         ensures { IfOk result (PlansBy (program_of script.now longest) self.now simple.now) }
     {
         match simple {
