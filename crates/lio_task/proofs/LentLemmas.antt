@@ -11,7 +11,6 @@ use Rattle.lio_syntax.specs.Statements.{Procedure}
 use Rattle.lio_syntax.specs.Lines.{script_lines}
 use Rattle.lio_calculus.specs.Task.{TaskState}
 use Rattle.lio_calculus.specs.Going.{gone_on}
-use Rattle.lio_calculus.specs.Plan.{Target}
 use Rattle.lio_calculus.specs.Step.{Cell, born, number_of}
 use Rattle.lio_plan.specs.declared.planned.Onward.{Onward}
 use Rattle.lio_plan.specs.StateOf.{program_of}

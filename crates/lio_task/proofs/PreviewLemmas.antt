@@ -1,5 +1,5 @@
 -- What is told of a configuration's next steps before they are taken.
-use Rattle.std.proofs.Common.{◌≡◌, ◌∙◌, refl, sym, ap, subst, ℕ, ◌<◌, ◌==◌, Bool, true, false, ◌&&◌, not, if◌then◌else◌, List, [], ◌∷◌, length, All, Option, Some, None, option_and_then, is_some, true≢false, arith}
+use Rattle.std.proofs.Common.{◌≡◌, ◌∙◌, refl, sym, ap, subst, ℕ, ◌<◌, ◌==◌, Bool, true, false, ◌&&◌, not, if◌then◌else◌, List, [], ◌∷◌, length, All, Option, Some, None, option_and_then, true≢false, arith}
 use Rattle.std.specs.Prelude.{◌||◌}
 use Rattle.std.specs.Option.{option_map, option_map_or}
 use Rattle.std.proofs.lemmas.Bool.{and_parts}
@@ -30,7 +30,6 @@ use Rattle.lio_calculus.specs.Meeting.{MeetsNode}
 use Rattle.lio_calculus.proofs.MeetingLemmas.{visit_meets_node}
 use Rattle.lio_calculus.proofs.SoundLemmas.{named-kind, reference-names}
 use Rattle.lio_calculus.proofs.WaitingLemmas.{task_can_unless_still}
-use Rattle.lio_task.specs.declared.next.Next.{Next}
 use Rattle.lio_task.specs.declared.next.Next.TheVariants as next
 use Rattle.lio_task.specs.declared.status.Status.{Status}
 use Rattle.lio_task.specs.declared.status.Status.TheVariants as status

@@ -1,5 +1,5 @@
 -- What a turn makes of a configuration, by the cells that it changes.
-use Rattle.std.proofs.Common.{◌≡◌, ◌∙◌, refl, sym, ap, ℕ, Bool, true, if◌then◌else◌, List, Option, Some, option_and_then}
+use Rattle.std.proofs.Common.{◌≡◌, ◌∙◌, refl, sym, ap, ℕ, Bool, true, if◌then◌else◌, List, Some, option_and_then}
 use Rattle.std.specs.Option.{option_map}
 use Rattle.std.proofs.lemmas.List.{get_or-set_other, set-get_or, set_comm}
 use Rattle.lio_labels.specs.declared.label.Label.{Label}

@@ -1,5 +1,5 @@
 -- The turns of lent holders, and the steps of a configuration that they make.
-use Rattle.std.proofs.Common.{◌≡◌, ◌∙◌, refl, sym, ap, subst, ℕ, ◌<◌, Bool, true, false, ◌||◌, List, length, get_or, Option, Some, None}
+use Rattle.std.proofs.Common.{◌≡◌, ◌∙◌, refl, sym, ap, subst, ℕ, ◌<◌, Bool, true, false, ◌||◌, List, length, get_or, Some, None}
 use Rattle.std.specs.Prelude.{Result, Ok, Err, IfErr, slice_set}
 use Rattle.std.specs.Vec.{with_items}
 use Rattle.std.proofs.lemmas.List.{length-set, with_items_is}
@@ -13,7 +13,7 @@ use Rattle.lio_syntax.specs.Statements.{Procedure}
 use Rattle.lio_syntax.specs.Lines.{script_lines}
 use Rattle.lio_calculus.specs.Task.{TaskState}
 use Rattle.lio_calculus.specs.Going as going
-use Rattle.lio_calculus.specs.Plan.{Target, plan}
+use Rattle.lio_calculus.specs.Plan.{Target}
 use Rattle.lio_calculus.specs.Step.{Cell, Configuration, Move, actor_after, can, cell_at, met_after, move_of, number_of, with_cell}
 use Rattle.lio_calculus.specs.Sound.{IsSound, IsTaskOf}
 use Rattle.lio_calculus.specs.Afforded.{AffordsPlan}
@@ -30,11 +30,10 @@ use Rattle.lio_task.specs.declared.config.StepFault.TheVariants.{Still, NoMemory
 use Rattle.lio_task.specs.declared.go.Way.{Way}
 use Rattle.lio_task.specs.declared.go.Way.TheVariants as way
 use Rattle.lio_task.specs.declared.task.Task.{Task}
-use Rattle.lio_task.specs.Goes.{way_of}
 use Rattle.lio_task.specs.StateOf.{state_in}
 use Rattle.lio_task.specs.Configuration.{cell_of, configuration_of, task_in}
 use Rattle.lio_task.specs.Takes.{PlansOwn, PlansVisit, Stays, Steps}
-use Rattle.lio_task.specs.Turns.{AreAsBefore, CanMeet, CanTurn, CanTurnAlone, Turned, TurnedAlone, TurnedMeeting, Unmet, move_in}
+use Rattle.lio_task.specs.Turns.{AreAsBefore, CanMeet, CanTurnAlone, Turned, TurnedAlone, TurnedMeeting, Unmet, move_in}
 use Rattle.lio_task.proofs.HolderLemmas.{cell_at-configuration_of, cells-length, configuration_of-with_holder, task-cell, task-within, task_in-at, two-cells, with_holder}
 use Rattle.lio_task.proofs.MoveLemmas.{meeting, visit-bears, visit-moves, visit-ready, waits-still}
 use Rattle.lio_task.proofs.StepAfter.{meeting-after, steps-by, with_cell-same}

@@ -1,5 +1,5 @@
 -- A step keeps a configuration well-formed.
-use Rattle.std.proofs.Common.{◌≡◌, ℕ, Some}
+use Rattle.std.proofs.Common.{ℕ}
 use Rattle.std.specs.Prelude.{Result, Ok, Err, IfOk, OnOk}
 use Rattle.lio_values.specs.declared.entry.Entry.{Entry}
 use Rattle.lio_calculus.specs.Step.{Configuration, Turn}

@@ -103,7 +103,10 @@ impl Config {
         ensures err { OnErr result (configuration_of script.now self.new ≡ configuration_of script.now self.old) }
     {
         let n = target.number();
+        drop(target);
         if n == k {
+            drop(act);
+            drop(onward);
             return Err(StepFault::Still(k));
         }
         let (actor, met) = pair_mut(&mut self.holders, k as usize, n as usize);

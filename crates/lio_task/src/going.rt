@@ -1,4 +1,7 @@
 //! How a task goes on after its turn.
+mod go_on;
+mod steps;
+
 ghost use Rattle.std.specs.Prelude.{◌≡◌, IfOk};
 ghost use Rattle.lio_calculus.specs.Going.{released};
 
@@ -9,6 +12,9 @@ use lio_labels::Label;
 use lio_syntax::Script;
 use lio_values::{Act, Content, Fault, Handle, Held, Plain, Reply, Text, Value};
 use std::alloc::Global;
+
+/// Done, or want of memory, after which all is as before.
+type Done = Result<(), NoMemory>;
 
 impl Task {
     ghost use Rattle.std.specs.Prelude.{◌≡◌, ◌+◌, ◌-◌, ◌≤◌, List, [], ◌∷◌, IsTrue, OnOk, OnErr, true};
@@ -29,7 +35,7 @@ impl Task {
     ghost use Rattle.lio_task.specs.Goes.{spent};
 
     /// Goes on behind what comes first. It takes no memory.
-    pub(crate) fn go_past(&mut self, script: &Script)
+    fn go_past(&mut self, script: &Script)
         requires { IsOwn (state_in script.now self.old).items }
         ensures { state_in script.now self.new ≡ spent (state_in script.now self.old) }
     {
@@ -38,13 +44,7 @@ impl Task {
     }
 
     /// A name is bound to a value.
-    pub(crate) fn go_bind(
-        &mut self,
-        alloc: Global,
-        script: &Script,
-        name: &Text,
-        value: Value,
-    ) -> Result<(), NoMemory>
+    fn go_bind(&mut self, alloc: Global, script: &Script, name: &Text, value: Value) -> Done
         requires { AtStatement (state_in script.now self.old).items }
         ensures ok { OnOk result (state_in script.now self.new ≡ going.binding (spent (state_in script.now self.old)) name.now value) }
         ensures err { OnErr result (state_in script.now self.new ≡ state_in script.now self.old) }
@@ -55,14 +55,14 @@ impl Task {
     }
 
     /// A name is bound to a plain value, sealed under a label.
-    pub(crate) fn go_seal(
+    fn go_seal(
         &mut self,
         alloc: Global,
         script: &Script,
         name: &Text,
         label: Label,
         plain: Plain,
-    ) -> Result<(), NoMemory>
+    ) -> Done
         requires { AtStatement (state_in script.now self.old).items }
         ensures ok { OnOk result (state_in script.now self.new ≡ going.binding (spent (state_in script.now self.old)) name.now (value.Sealed label (content.Kept plain))) }
         ensures err { OnErr result (state_in script.now self.new ≡ state_in script.now self.old) }
@@ -72,12 +72,7 @@ impl Task {
     }
 
     /// A fault is thrown.
-    pub(crate) fn go_throw(
-        &mut self,
-        alloc: Global,
-        script: &Script,
-        fault: Fault,
-    ) -> Result<(), NoMemory>
+    fn go_throw(&mut self, alloc: Global, script: &Script, fault: Fault) -> Done
         requires { AtStatement (state_in script.now self.old).items }
         ensures ok { OnOk result (state_in script.now self.new ≡ going.throwing (spent (state_in script.now self.old)) fault) }
         ensures err { OnErr result (state_in script.now self.new ≡ state_in script.now self.old) }
@@ -88,13 +83,7 @@ impl Task {
     }
 
     /// What a task was given is bound to a name, or the fault that it is is thrown.
-    pub(crate) fn go_given(
-        &mut self,
-        alloc: Global,
-        script: &Script,
-        name: &Text,
-        content: Content,
-    ) -> Result<(), NoMemory>
+    fn go_given(&mut self, alloc: Global, script: &Script, name: &Text, content: Content) -> Done
         requires { AtStatement (state_in script.now self.old).items }
         ensures ok { OnOk result (state_in script.now self.new ≡ going.given (spent (state_in script.now self.old)) name.now content) }
         ensures err { OnErr result (state_in script.now self.new ≡ state_in script.now self.old) }
@@ -107,14 +96,14 @@ impl Task {
     }
 
     /// The body of a procedure begins, in an environment of its own.
-    pub(crate) fn go_call(
+    fn go_call(
         &mut self,
         alloc: Global,
         script: &Script,
         name: &Text,
         environment: Environment,
         body: usize,
-    ) -> Result<(), NoMemory>
+    ) -> Done
         requires { AtStatement (state_in script.now self.old).items }
         ensures ok { OnOk result (let was = spent (state_in script.now self.old) in
             state_in script.now self.new ≡ record was { environment = environment; items = enter (block_at (script_lines script.now) body) (Back was.environment name.now ∷ was.items) }) }
@@ -127,12 +116,7 @@ impl Task {
     }
 
     /// A value is returned to the caller.
-    pub(crate) fn go_return(
-        &mut self,
-        alloc: Global,
-        script: &Script,
-        value: Value,
-    ) -> Result<(), NoMemory>
+    fn go_return(&mut self, alloc: Global, script: &Script, value: Value) -> Done
         requires { AtStatement (state_in script.now self.old).items }
         ensures ok { OnOk result (let was = spent (state_in script.now self.old) in
             state_in script.now self.new ≡ going.at was (returned value was.environment was.items)) }
@@ -144,7 +128,7 @@ impl Task {
     }
 
     /// The current label is raised. It takes no memory.
-    pub(crate) fn go_raise(&mut self, script: &Script, label: Label)
+    fn go_raise(&mut self, script: &Script, label: Label)
         requires own { IsOwn (state_in script.now self.old).items }
         requires cleared { IsTrue (flows label self.old.clearance) }
         ensures { state_in script.now self.new ≡ record (spent (state_in script.now self.old)) { label = label } }
@@ -154,7 +138,7 @@ impl Task {
     }
 
     /// The current label is raised, and the access of the statement in front comes in its place.
-    pub(crate) fn go_raise_to(&mut self, script: &Script, label: Label) -> Result<(), NoMemory>
+    fn go_raise_to(&mut self, script: &Script, label: Label) -> Done
         requires at { AtStatement (state_in script.now self.old).items }
         requires cleared { IsTrue (flows label self.old.clearance) }
         ensures ok { OnOk result ((simple : Simply) → Begins (state_in script.now self.old).items (statement.Do simple) → let was = spent (state_in script.now self.old) in
@@ -168,7 +152,7 @@ impl Task {
     }
 
     /// The clearance is lowered. It takes no memory.
-    pub(crate) fn go_lower(&mut self, script: &Script, clearance: Label)
+    fn go_lower(&mut self, script: &Script, clearance: Label)
         requires own { IsOwn (state_in script.now self.old).items }
         requires cleared { IsTrue (flows self.old.label clearance) }
         ensures { state_in script.now self.new ≡ record (spent (state_in script.now self.old)) { clearance = clearance } }
@@ -196,7 +180,7 @@ impl Task {
     }
 
     /// A block begins.
-    pub(crate) fn go_enter(&mut self, script: &Script, block: usize) -> Result<(), NoMemory>
+    fn go_enter(&mut self, script: &Script, block: usize) -> Done
         requires { AtStatement (state_in script.now self.old).items }
         ensures ok { OnOk result (let was = spent (state_in script.now self.old) in
             state_in script.now self.new ≡ record was { items = enter (block_at (script_lines script.now) block) was.items }) }
@@ -208,7 +192,7 @@ impl Task {
     }
 
     /// The block of a loop begins, in front of the loop.
-    pub(crate) fn go_repeat(&mut self, script: &Script, block: usize) -> Result<(), NoMemory>
+    fn go_repeat(&mut self, script: &Script, block: usize) -> Done
         ensures ok { OnOk result (let was = state_in script.now self.old in
             state_in script.now self.new ≡ record (spent was) { items = enter (block_at (script_lines script.now) block) was.items }) }
         ensures err { OnErr result (state_in script.now self.new ≡ state_in script.now self.old) }
@@ -219,12 +203,7 @@ impl Task {
     }
 
     /// A block begins whose faults a handler catches.
-    pub(crate) fn go_guard(
-        &mut self,
-        script: &Script,
-        block: usize,
-        catch: usize,
-    ) -> Result<(), NoMemory>
+    fn go_guard(&mut self, script: &Script, block: usize, catch: usize) -> Done
         requires { AtStatement (state_in script.now self.old).items }
         ensures ok { OnOk result (let was = spent (state_in script.now self.old) in
             state_in script.now self.new ≡ record was { items = enter (block_at (script_lines script.now) block) (mark_at (script_lines script.now) catch was.items) }) }
@@ -236,7 +215,7 @@ impl Task {
     }
 
     /// The caller goes on.
-    pub(crate) fn go_leave(&mut self, alloc: Global, script: &Script) -> Result<(), NoMemory>
+    fn go_leave(&mut self, alloc: Global, script: &Script) -> Done
         requires { IsBack (state_in script.now self.old).items }
         ensures ok { OnOk result (let was = state_in script.now self.old in
             state_in script.now self.new ≡ record (going.at was (returned (value.Bare unit) was.environment was.items)) { turns = was.turns - 1 }) }
@@ -248,14 +227,14 @@ impl Task {
     }
 
     /// A name is bound to the handle of what was made, which took numbers of the range: the first, and so many behind it.
-    pub(crate) fn go_hold(
+    fn go_hold(
         &mut self,
         alloc: Global,
         script: &Script,
         name: &Text,
         handle: Plain,
         count: u32,
-    ) -> Result<(), NoMemory>
+    ) -> Done
         requires at { AtStatement (state_in script.now self.old).items }
         requires room { 1 + count ≤ self.old.cells }
         ensures ok { OnOk result (state_in script.now self.new ≡ going.taking (going.binding (spent (state_in script.now self.old)) name.now (value.Bare handle)) count) }
@@ -267,7 +246,7 @@ impl Task {
     }
 
     /// The handle of the first number of the range.
-    pub(crate) fn newest(&self, label: Label) -> Handle
+    fn newest(&self, label: Label) -> Handle
         ensures { result ≡ record { number = self.now.first; label = label } }
     {
         Handle {
@@ -277,7 +256,7 @@ impl Task {
     }
 
     /// A child took numbers of the range and turns, and a name is bound to the handle of its result.
-    pub(crate) fn go_fork(
+    fn go_fork(
         &mut self,
         alloc: Global,
         script: &Script,
@@ -285,7 +264,7 @@ impl Task {
         handle: Plain,
         cells: u32,
         turns: u32,
-    ) -> Result<(), NoMemory>
+    ) -> Done
         requires at { AtStatement (state_in script.now self.old).items }
         requires room { 1 + cells ≤ self.old.cells }
         ensures ok { OnOk result (let was = spent (state_in script.now self.old) in
@@ -298,7 +277,7 @@ impl Task {
     }
 
     /// A child took numbers of the range and turns. It takes no memory.
-    pub(crate) fn go_spawn(&mut self, script: &Script, cells: u32, turns: u32)
+    fn go_spawn(&mut self, script: &Script, cells: u32, turns: u32)
         requires own { IsOwn (state_in script.now self.old).items }
         requires room { 1 + cells ≤ self.old.cells }
         ensures { let was = spent (state_in script.now self.old) in
@@ -310,14 +289,14 @@ impl Task {
     }
 
     /// The current label is raised, and what was sealed is bound to a name, or the fault that it is is thrown.
-    pub(crate) fn go_unlabel(
+    fn go_unlabel(
         &mut self,
         alloc: Global,
         script: &Script,
         name: &Text,
         label: Label,
         content: Content,
-    ) -> Result<(), NoMemory>
+    ) -> Done
         requires at { AtStatement (state_in script.now self.old).items }
         requires cleared { IsTrue (flows label self.old.clearance) }
         ensures ok { OnOk result (state_in script.now self.new ≡ going.given (record (spent (state_in script.now self.old)) { label = label }) name.now content) }
@@ -329,13 +308,7 @@ impl Task {
     }
 
     /// A reply is given.
-    pub(crate) fn go_reply(
-        &mut self,
-        alloc: Global,
-        script: &Script,
-        name: &Text,
-        reply: &Reply,
-    ) -> Result<(), NoMemory>
+    fn go_reply(&mut self, alloc: Global, script: &Script, name: &Text, reply: &Reply) -> Done
         requires { AtStatement (state_in script.now self.old).items }
         ensures ok { OnOk result (state_in script.now self.new ≡ going.replied (spent (state_in script.now self.old)) name.now reply.now) }
         ensures err { OnErr result (state_in script.now self.new ≡ state_in script.now self.old) }
@@ -357,14 +330,14 @@ impl Task {
     }
 
     /// The content that an act releases is bound to a name, sealed under a label.
-    pub(crate) fn go_release(
+    fn go_release(
         &mut self,
         alloc: Global,
         script: &Script,
         name: &Text,
         label: Label,
         act: &Act,
-    ) -> Result<(), NoMemory>
+    ) -> Done
         requires { AtStatement (state_in script.now self.old).items }
         ensures ok { OnOk result (state_in script.now self.new ≡ going.binding (spent (state_in script.now self.old)) name.now (value.Sealed label (going.released act.now))) }
         ensures err { OnErr result (state_in script.now self.new ≡ state_in script.now self.old) }

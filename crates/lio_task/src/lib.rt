@@ -6,14 +6,12 @@ mod config;
 mod copy;
 mod erase;
 mod go;
-mod go_on;
 mod going;
 mod handle;
 mod next;
 mod pair;
 mod preview;
 mod status;
-mod steps;
 mod task;
 mod turn;
 

@@ -124,7 +124,12 @@ impl Config {
             drop(act);
             return Err(StepFault::Still(k));
         }
-        let reply = holder.node.answer(alloc, &act)?;
-        Ok(entry_of(alloc, ticket, k, task, Some(n), act, reply)?)
+        match holder.node.answer(alloc, &act) {
+            Ok(reply) => Ok(entry_of(alloc, ticket, k, task, Some(n), act, reply)?),
+            Err(NoMemory) => {
+                drop(act);
+                Err(StepFault::NoMemory)
+            }
+        }
     }
 }

@@ -140,16 +140,24 @@ impl Holder {
         ensures fault { IfErr result (λ fault. fault ≡ without_memory) }
         ensures err { OnErr result (cell_of script.now self.new ≡ cell_of script.now self.old) }
     {
-        let at = self.go_alone(alloc, script, way, &act, &reply)?;
-        self.serve(&act, None);
-        Ok(Entry {
-            ticket,
-            actor: k,
-            target: None,
-            at,
-            act,
-            reply,
-        })
+        match self.go_alone(alloc, script, way, &act, &reply) {
+            Ok(at) => {
+                self.serve(&act, None);
+                Ok(Entry {
+                    ticket,
+                    actor: k,
+                    target: None,
+                    at,
+                    act,
+                    reply,
+                })
+            }
+            Err(NoMemory) => {
+                drop(act);
+                drop(reply);
+                Err(StepFault::NoMemory)
+            }
+        }
     }
 
     /// Takes the turn of its task, which has number `k`, where the turn meets the node of another holder, which has number `n`. `Still` comes
@@ -171,6 +179,8 @@ impl Holder {
         ensures err { OnErr result (AreAsBefore script.now self.old self.new met.old met.new) }
     {
         if !met.node.ready(&act) {
+            drop(act);
+            drop(onward);
             return Err(StepFault::Still(k));
         }
         let reply = met.node.answer(alloc, &act)?;

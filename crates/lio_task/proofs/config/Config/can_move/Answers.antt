@@ -1,10 +1,8 @@
-use Rattle.std.proofs.Common.{◌≡◌, ◌∙◌, sym, ap, ℕ, ◌==◌, Bool, false, true, ◌⊎◌, inl, inr, [], Option}
+use Rattle.std.proofs.Common.{◌≡◌, ◌∙◌, sym, ap, ℕ, ◌==◌, Bool, false, true, inl, inr, []}
 use Rattle.std.specs.Prelude.{◌||◌}
 use Rattle.std.specs.Option.{option_copied}
 use Rattle.lio_cells.specs.State.{grants}
-use Rattle.lio_calculus.specs.Step.{Configuration, can, cell_at}
-use Rattle.lio_calculus.specs.Task.{TaskState}
-use Rattle.lio_task.specs.declared.status.Status.{Status}
+use Rattle.lio_calculus.specs.Step.{can, cell_at}
 use Rattle.lio_task.specs.Configuration.{configuration_of}
 use Rattle.lio_task.specs.StateOf.{state_in}
 use Rattle.lio_task.specs.Status.{status_of}

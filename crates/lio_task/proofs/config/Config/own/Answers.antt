@@ -4,7 +4,7 @@ use Rattle.lio_task.specs.Configuration.{cell_of, configuration_of}
 use Rattle.lio_task.specs.Takes.{Steps}
 use Rattle.lio_task.specs.Turns.{TurnedAlone}
 use Rattle.lio_task.proofs.HolderLemmas.{err_on, same-configuration, with_holder}
-use Rattle.lio_task.proofs.TurnLemmas.{StandsAt, alone-can, alone-steps, short-stays}
+use Rattle.lio_task.proofs.TurnLemmas.{alone-can, alone-steps, short-stays}
 use Rattle.lio_task.proofs.config.Config.own.Goals as goal
 
 pub turn_alone-requires : goal.turn_alone-requires

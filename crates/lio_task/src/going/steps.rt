@@ -1,6 +1,6 @@
 //! How a task goes on by a step of control.
+use crate::going::Done;
 use crate::task::Task;
-use lio_clauses::NoMemory;
 use lio_plan::Control;
 use lio_syntax::Script;
 use std::alloc::Global;
@@ -14,12 +14,7 @@ impl Task {
 
     /// Goes on by a step of control.
     #[tactic(auto, using(crate::proofs::StepLemmas::skip_on, crate::proofs::StepLemmas::repeat_on, crate::proofs::StepLemmas::guard_on, crate::proofs::StepLemmas::leave_on), unfolding(lio_calculus::specs::Going::gone_on))]
-    pub(crate) fn go_step(
-        &mut self,
-        alloc: Global,
-        script: &Script,
-        control: Control,
-    ) -> Result<(), NoMemory>
+    pub(crate) fn go_step(&mut self, alloc: Global, script: &Script, control: Control) -> Done
         requires { Leads (script_lines script.now) (state_in script.now self.old).items control }
         ensures ok { OnOk result (Steps script.now self.old self.new control) }
         ensures err { OnErr result (state_in script.now self.new ≡ state_in script.now self.old) }

@@ -1,6 +1,6 @@
 //! How a task goes on after the turn of a statement or of its access.
+use crate::going::Done;
 use crate::task::Task;
-use lio_clauses::NoMemory;
 use lio_plan::Onward;
 use lio_syntax::Script;
 use lio_values::{Act, Plain, Reply};
@@ -24,7 +24,7 @@ impl Task {
         onward: Onward,
         act: &Act,
         reply: &Reply,
-    ) -> Result<(), NoMemory>
+    ) -> Done
         requires at { AtStatement (state_in script.now self.old).items }
         requires affords { Affords (state_in script.now self.old) (onward_of (script_lines script.now) (simple_of (state_in script.now self.old).items) onward) }
         ensures ok { OnOk result (GoesOn script.now self.old self.new onward act.now reply.now) }
