@@ -2,7 +2,7 @@
 
 use crate::host::host_main;
 use lio_outside::MemStore;
-use lio_refusals::{detail_of, refusal_text};
+use lio_status::{detail_of, refusal_text};
 use std::alloc::{AllocError, Global};
 use std::test::Fail;
 

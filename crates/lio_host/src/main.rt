@@ -15,7 +15,7 @@ mod worked;
 
 use host::host_main;
 use lio_outside::RealStore;
-use lio_refusals::{print_refusal, refusal_detail};
+use lio_status::{print_refusal, refusal_detail};
 use std::process::ExitCode;
 use std::{env, io};
 

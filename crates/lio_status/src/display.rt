@@ -7,7 +7,7 @@ use std::{fmt, str};
 
 /// A name as it is shown: in one line, with its control characters escaped.
 #[derive(Clone, Copy)]
-pub struct Shown<'a>(pub &'a Text);
+pub(crate) struct Shown<'a>(pub(crate) &'a Text);
 
 impl fmt::Display for Shown<'_> {
     fn fmt<W: fmt::Write>(&self, f: &mut fmt::Formatter<W>) -> fmt::Result {

@@ -1,8 +1,9 @@
 //! What is printed of a refusal: the answer as its type writes it, what was refused and where, and how to mend it.
 
 use crate::detail::{Detail, Hint};
+use crate::display::Shown;
+use crate::status::HostStatus;
 use lio_policy::{EntryAt, EntryKind};
-use lio_status::{HostStatus, Shown};
 use lio_values::Text;
 use std::alloc::{AllocError, Global};
 use std::fmt::Write;

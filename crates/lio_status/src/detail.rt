@@ -1,11 +1,11 @@
 //! What the files say of a refusal, beside the numbers in the answer.
 
+use crate::status::HostStatus;
 use lio_clauses::NoMemory;
 use lio_front::{MOST_POLICY_BYTES, MOST_SCRIPT_BYTES};
 use lio_lines::read_header;
 use lio_outside::Store;
 use lio_policy::{EntryAt, PolicyFault, entry_at, read_policy};
-use lio_status::HostStatus;
 use lio_values::Text;
 use lio_words::split_word;
 use std::alloc::Global;

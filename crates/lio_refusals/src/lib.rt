@@ -1,8 +1,0 @@
-//! What is printed of a refusal of the host: the answer as its type writes it, what was refused and where, and how to mend it.
-#![tactic(auto)]
-
-mod detail;
-mod refusal;
-
-pub use detail::{Detail, Hint, LineAt, OpenAt, TakesAt, TaskAt, detail_of, refusal_detail};
-pub use refusal::{print_refusal, refusal_text};
