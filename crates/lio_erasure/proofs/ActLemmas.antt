@@ -8,7 +8,7 @@ use Rattle.lio_values.specs.declared.act.Act.TheVariants as act
 use Rattle.lio_values.specs.Erasure.{erase_act}
 use Rattle.lio_cells.specs.declared.state.State.{State}
 use Rattle.lio_cells.specs.declared.state.State.TheVariants.{Absent, Ref, Var, Chan, Job}
-use Rattle.lio_cells.specs.State.{Kind, Reference, Variable, Channel, Result, is_job, is_of, label_of, ready, state_after}
+use Rattle.lio_cells.specs.State.{Kind, Reference, Variable, Channel, Result, is_absent, is_job, is_of, label_of, ready, state_after}
 use Rattle.lio_calculus.specs.Plan.{Program, Node}
 use Rattle.lio_calculus.specs.Hiding.{hide_asked}
 use Rattle.lio_calculus.specs.Step.{born, has_label, is_met, met, waits}
@@ -133,6 +133,14 @@ job-after Absent asked e = absurd (true≢false (sym e))
 job-after (Ref label value) asked e = absurd (true≢false (sym e))
 job-after (Var label value) asked e = absurd (true≢false (sym e))
 job-after (Chan label received) asked e = absurd (true≢false (sym e))
+
+-- a job is there
+pub job-there : (state : State) → is_job state ≡ true → is_absent state ≡ false
+job-there (Job label result) e = refl
+job-there Absent e = absurd (true≢false (sym e))
+job-there (Ref label value) e = absurd (true≢false (sym e))
+job-there (Var label value) e = absurd (true≢false (sym e))
+job-there (Chan label received) e = absurd (true≢false (sym e))
 
 job-kept : (kind : Kind) (label : Label) (result : Option Content) (asked : Act) → kind_met asked ≡ Some kind → state_after (Job label result) asked ≡ Job label result
 unfolding state_after

@@ -32,11 +32,11 @@ KeepsJobs asked = (state : State) → is_job state ≡ true → state_after stat
 pub task-inside : (c : Configuration) (k : ℕ) (task : TaskState) → IsTaskOf c k task → k < length c.cells
 task-inside c k task is = inside c k (task-there (cell_at c k) task is)
 
--- a cell that is put twice
-pub cell-twice : (c : Configuration) (k : ℕ) (one : Cell) (task : Option TaskState) → k < length c.cells → with_cell (with_cell c k one) k (job_with (cell_at (with_cell c k one) k).state task) ≡ with_cell c k (job_with one.state task)
-cell-twice c k one task within =
-    ap (λ (cell : Cell). with_cell (with_cell c k one) k (job_with cell.state task)) (get_or-set_same c.cells k one blank within)
-    ∙ ap (λ (cells : List Cell). record c { cells = cells }) (set-set c.cells k one (job_with one.state task))
+-- a cell that is put and then changed
+pub put-changed : (c : Configuration) (k : ℕ) (cell : Cell) (f : Cell → Cell) → k < length c.cells → with_cell (with_cell c k cell) k (f (cell_at (with_cell c k cell) k)) ≡ with_cell c k (f cell)
+put-changed c k cell f within =
+    ap (λ (x : Cell). with_cell (with_cell c k cell) k (f x)) (get_or-set_same c.cells k cell blank within)
+    ∙ ap (λ (cells : List Cell). record c { cells = cells }) (set-set c.cells k cell (f cell))
 
 -- an act of the task's own
 pub own-after : (observer : Label) (c : Configuration) (k : ℕ) (task : TaskState) (move : Move) → erase observer c ≡ c → IsTaskOf c k task → move.target ≡ None

@@ -1,8 +1,7 @@
 -- A cell that is left out has no holder, whatever the turns do.
-use Rattle.std.proofs.Common.{◌≡◌, ◌∙◌, refl, sym, ap, subst, ℕ, Bool, true, false, true≢false, not, ◌||◌, IsTrue, List, [], Option, Some, None, is_some, option_and_then}
-use Rattle.std.specs.Prelude.{slice_get, slice_set}
+use Rattle.std.proofs.Common.{◌≡◌, ◌∙◌, refl, sym, ap, subst, ℕ, Bool, true, false, true≢false, not, ◌||◌, IsTrue, List, [], Option, Some, None, is_some}
+use Rattle.std.specs.Prelude.{slice_set}
 use Rattle.std.specs.Option.{option_map}
-use Rattle.std.proofs.lemmas.List.{set-set}
 use Rattle.std.proofs.lemmas.List.Elements.{All-set}
 use Rattle.lio_labels.specs.declared.label.Label.{Label}
 use Rattle.lio_values.specs.declared.value.Value.{Value}
@@ -16,28 +15,15 @@ use Rattle.lio_calculus.specs.Task.{TaskState}
 use Rattle.lio_calculus.specs.Step.{Cell}
 use Rattle.lio_calculus.specs.Hiding.{hide_task}
 use Rattle.lio_calculus.specs.Erased.{hide_cell, hide_state, sees}
-use Rattle.lio_calculus.proofs.Lists.{All-slice_get}
 use Rattle.lio_task.specs.declared.task.Task.{Task}
 use Rattle.lio_task.specs.declared.config.Holder.{Holder}
 use Rattle.lio_task.specs.Configuration.{cell_of}
 use Rattle.lio_task.specs.StateOf.{state_in}
-use Rattle.lio_erasure.specs.Low.{LeavesOutBlanks, holder_in, is_kept}
+use Rattle.lio_erasure.specs.Low.{LeavesOutBlanks, is_kept}
 
 -- a holder in the place of another one
 pub set-kept : (holders news : List (Option Holder)) (n : ℕ) (holder : Option Holder) → news ≡ slice_set holders n holder → IsTrue (is_kept holder) → LeavesOutBlanks holders → LeavesOutBlanks news
 set-kept holders news n holder is kept all = subst LeavesOutBlanks (sym is) (All-set (λ (h : Option Holder). IsTrue (is_kept h)) holders n holder kept all)
-
--- in the place of one that was taken out
-pub replaced-kept : (holders news : List (Option Holder)) (n : ℕ) (holder : Option Holder) → news ≡ slice_set (slice_set holders n None) n holder → IsTrue (is_kept holder) → LeavesOutBlanks holders → LeavesOutBlanks news
-replaced-kept holders news n holder is = set-kept holders news n holder (is ∙ set-set holders n None holder)
-
--- the holder with a number
-pub holder-kept : (holders : List (Option Holder)) (n : ℕ) (holder : Holder) → holder_in holders n ≡ Some holder → LeavesOutBlanks holders → IsTrue (is_kept (Some holder))
-holder-kept holders n holder e all = by (slice_get holders n) refl e
-  where
-    by : (found : Option (Option Holder)) → slice_get holders n ≡ found → option_and_then (λ (h : Option Holder). h) found ≡ Some holder → IsTrue (is_kept (Some holder))
-    by None is e = absurd (cc)
-    by (Some h) is e = All-slice_get (λ (x : Option Holder). IsTrue (is_kept x)) holders n (Some holder) all (is ∙ ap Some e)
 
 -- a node that is there stays there
 filled-there : (state : State) (value : Option Value) → is_absent state ≡ false → is_absent (filled state value) ≡ false
@@ -95,11 +81,6 @@ served-kept holder other asked tasks states kept = subst (λ (t : Option Task). 
     by (Some task) absent is kept = refl
     by None true is kept = absurd (true≢false (sym kept))
     by None false is kept = subst (λ (b : Bool). IsTrue (not b)) (sym (ap is_absent states ∙ there-after holder.node.state asked is)) refl
-
--- a holder whose node keeps its state
-pub same-kept : (holder other : Holder) → other.task ≡ holder.task → other.node.state ≡ holder.node.state → IsTrue (is_kept (Some holder)) → IsTrue (is_kept (Some other))
-same-kept holder other tasks states kept =
-    subst (λ (t : Option Task). IsTrue (is_some t || not (is_absent other.node.state))) (sym tasks) (subst (λ (s : State). IsTrue (is_some holder.task || not (is_absent s))) (sym states) kept)
 
 -- a cell that an observer sees is there, and what the observer sees of it is there too
 there : Cell → Bool

@@ -5,6 +5,9 @@ pub mod HolderLemmas
 pub mod KeptLemmas
 pub mod JobLemmas
 pub mod AfterLemmas
+pub mod SwapLemmas
+pub mod LeadLemmas
+pub mod StayLemmas
 pub mod ContentLemmas
 pub mod TurnLemmas
 pub mod ServeLemmas

@@ -10,20 +10,20 @@ use Rattle.lio_calculus.specs.Step.{Cell, cell_at}
 use Rattle.lio_task.specs.declared.task.Task.{Task}
 use Rattle.lio_task.specs.declared.config.Holder.{Holder}
 use Rattle.lio_erasure.specs.Low.{TasksAreJobs, holder_in, low_configuration_of, low_task_in}
-use Rattle.lio_erasure.specs.Turn.{CanServe, HasRoom}
+use Rattle.lio_erasure.specs.Turn.{CanServe, HasRoom, node_of_holder}
 use Rattle.lio_erasure.proofs.HolderLemmas.{cell-low, task-holder, task-low}
 
 -- a node that is there, has room and takes part
-pub can-serve : (script : List Procedure) (longest : ℕ) (holders : List (Option Holder)) (n : ℕ) (asked : Act) → IsSome (holder_in holders n) → HasRoom holders n asked
-    → takes_part (cell_at (low_configuration_of script longest holders) n).state asked ≡ true → CanServe holders n asked
+pub can-serve : (script : List Procedure) (longest : ℕ) (holders : List (Option Holder)) (n : ℕ) (asked : Act) → IsSome (holder_in holders n) → HasRoom (holder_in holders n) asked
+    → takes_part (cell_at (low_configuration_of script longest holders) n).state asked ≡ true → CanServe (holder_in holders n) asked
 can-serve script longest holders n asked some room part = by (holder_in holders n) refl
   where
-    by : (h : Option Holder) → holder_in holders n ≡ h → CanServe holders n asked
+    by : (h : Option Holder) → holder_in holders n ≡ h → CanServe (holder_in holders n) asked
     by None is = absurd (true≢false (sym some ∙ ap (λ (h : Option Holder). is_some h) is))
     by (Some holder) is = record {
-      holder = holder;
-      is = is;
-      room = room holder is;
+      node = holder.node;
+      is = ap node_of_holder is;
+      room = room holder.node (ap node_of_holder is);
       part = ap (λ (cell : Cell). takes_part cell.state asked) (sym (cell-low script longest holders n (Some holder) is)) ∙ part;
     }
 

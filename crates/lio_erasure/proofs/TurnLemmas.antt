@@ -1,8 +1,8 @@
 -- The turns of the erased calculus, by their parts.
 use Rattle.std.proofs.Common.{◌≡◌, ◌∙◌, refl, sym, ap, subst, ℕ, Bool, true, false, true≢false, not, ◌&&◌, ◌||◌, if◌then◌else◌, List, [], ◌∷◌, Option, Some, None, is_some, option_and_then}
-use Rattle.std.specs.Prelude.{IsSome}
 use Rattle.std.specs.Option.{option_map}
 use Rattle.lio_labels.specs.declared.label.Label.{Label}
+use Rattle.lio_labels.specs.Flow.{flows}
 use Rattle.lio_values.specs.declared.value.Handle.{Handle}
 use Rattle.lio_values.specs.declared.value.Content.{Content}
 use Rattle.lio_values.specs.declared.value.Content.TheVariants.{Kept, Faulted, Hidden}
@@ -11,7 +11,7 @@ use Rattle.lio_values.specs.declared.act.Act.TheVariants as act
 use Rattle.lio_values.specs.declared.act.Reply.{Reply}
 use Rattle.lio_values.specs.declared.act.Reply.TheVariants.{Done, Got, Told, Refused}
 use Rattle.lio_values.specs.declared.entry.Entry.{Entry}
-use Rattle.lio_values.specs.Erasure.{erase_act, erase_entry}
+use Rattle.lio_values.specs.Erasure.{erase_act, erase_entry, erase_reply}
 use Rattle.lio_syntax.specs.Statements.{Procedure}
 use Rattle.lio_cells.specs.declared.state.State.{State}
 use Rattle.lio_cells.specs.declared.state.State.TheVariants.{Absent}
@@ -19,14 +19,14 @@ use Rattle.lio_cells.specs.Node.{takes_part}
 use Rattle.lio_cells.specs.State.{Kind, Reference, Channel, answer, is_of, is_absent, is_job, ready, state_after}
 use Rattle.lio_calculus.specs.Task.{TaskState}
 use Rattle.lio_calculus.specs.Going.{Onward, gone_on}
+use Rattle.lio_calculus.specs.Hiding.{hide_task}
 use Rattle.lio_calculus.specs.Plan.{Plan, Over, Own, Visit, Target, Node, New, plan}
 use Rattle.lio_calculus.specs.Step.{Cell, Configuration, Move, after, blank, can, cell_at, has_label, is_met, met, met_after, move_of, number_of, target_after, visit, waits, with_cell}
-use Rattle.lio_calculus.specs.Erased.{LowTurn, erase, erase_cell, low, low_turn, low_with, opened, taking_front}
+use Rattle.lio_calculus.specs.Erased.{LowTurn, erase, erase_cell, hide_cell, low, low_turn, low_with, opened, taking_front}
 use Rattle.lio_calculus.specs.Sound.{IsTaskOf}
 use Rattle.lio_calculus.specs.Afforded.{AffordsPlan, kind_met, makes}
 use Rattle.lio_calculus.specs.Handles.{IsMetBy, handle_ahead}
 use Rattle.lio_calculus.proofs.AffordedLemmas.{plan_affords}
-use Rattle.lio_calculus.proofs.ConfigLemmas.{cell_at-erased}
 use Rattle.lio_calculus.proofs.EnabledLemmas.{can-task}
 use Rattle.lio_calculus.proofs.HandleLemmas.{visit_meets_handle}
 use Rattle.lio_calculus.proofs.TurnParts.{own-moves, own_move, visit-moves, visit_move}
@@ -40,15 +40,15 @@ use Rattle.lio_task.specs.declared.next.Next.TheVariants as next
 use Rattle.lio_task.specs.Next.{next_by, resumed_by}
 use Rattle.lio_task.specs.StateOf.{state_in}
 use Rattle.lio_erasure.specs.Acts.{lacks_content, with_content}
-use Rattle.lio_erasure.specs.declared.shown.Shown.{Shown}
-use Rattle.lio_erasure.specs.Low.{IsErased, TasksAreJobs, holder_in, job_with, low_configuration_of, seen_cell, seen_task}
+use Rattle.lio_erasure.specs.Low.{IsErased, TasksAreJobs, holder_in, job_with, low_configuration_of, low_task_in, seen_cell, seen_task}
 use Rattle.lio_erasure.specs.LowParts.{LowParts, LowState, low_of}
-use Rattle.lio_erasure.specs.Turn.{Goes, IsShown, LacksRelease, Moves, PlansAct, PlansOwn, PlansVisit, Serves, TakesTurn, VisitsNew, VisitsNode}
-use Rattle.lio_erasure.proofs.ActLemmas.{absent-unready, made-job, made-unwaiting, met-job, ready-erased}
-use Rattle.lio_erasure.proofs.AfterLemmas.{KeepsJobs, actor-stays, after-jobs, cell-twice, made-between, met-between, missed-between, own-after, task-inside, visit-after}
-use Rattle.lio_erasure.proofs.CellLemmas.{cell-erased}
-use Rattle.lio_erasure.proofs.HolderLemmas.{cell-low, some-there, task-low}
+use Rattle.lio_erasure.specs.Turn.{CanAdvance, Follows, IsShown, LacksRelease, Moves, PlansAct, PlansOwn, PlansVisit, TakesTurn, VisitsNew, VisitsNode, placed, served}
+use Rattle.lio_erasure.proofs.ActLemmas.{absent-unready, job-there, made-job, made-unwaiting, met-job, ready-erased}
+use Rattle.lio_erasure.proofs.AfterLemmas.{KeepsJobs, actor-stays, after-jobs, made-between, met-between, missed-between, own-after, put-changed, task-inside, visit-after}
+use Rattle.lio_erasure.proofs.CellLemmas.{cell-erased, seen-hidden, task-hidden, there-seen}
+use Rattle.lio_erasure.proofs.HolderLemmas.{cell-low, task-low}
 use Rattle.lio_erasure.proofs.JobLemmas.{is_erased, new-jobs, target-jobs}
+use Rattle.lio_erasure.proofs.StayLemmas.{ActsAsSeen, answer-seen, own-seen, visit-seen}
 
 -- the parts after a turn: other holders
 abbrev pub went_to : LowParts → List (Option Holder) → LowParts
@@ -59,11 +59,65 @@ pub record Makes (parts : LowParts) (went : List (Option Holder)) (k : ℕ) (ask
   pub moved : Moves (low_of parts) (low_of (went_to parts went)) k asked entry
   pub erased : IsErased parts.observer (low_configuration_of parts.script parts.longest went)
 
+-- What the turn of a task gives that is as the observer sees it: the observer sees the act's values and the reply, and sees the task go on.
+pub record ActsIn (parts : LowParts) (k : ℕ) (asked : Act) (reply : Reply) : Type 0 where
+  pub task : Task
+  pub is : low_task_in parts.holders k ≡ Some task
+  pub acts : ActsAsSeen parts.observer (program_of parts.script parts.longest) (state_in parts.script task) asked reply
+
+task-seen : (parts : LowParts) (k : ℕ) (task : Task) → IsErased parts.observer (low_configuration_of parts.script parts.longest parts.holders) → low_task_in parts.holders k ≡ Some task
+    → hide_task parts.observer (state_in parts.script task) ≡ state_in parts.script task
+task-seen parts k task erased is =
+    let observer : Label = parts.observer in
+    let c : Configuration = low_configuration_of parts.script parts.longest parts.holders in
+    let state : TaskState = state_in parts.script task in
+    let here : IsTaskOf c k state = task-low parts.script parts.longest parts.holders k (Some task) is in
+    let cell : option_map (hide_task observer) (cell_at c k).task ≡ (cell_at c k).task = ap (λ (x : Cell). x.task) (task-hidden observer (cell_at c k) state (cell-erased observer c k erased.erased) here) in
+    let same : Some (hide_task observer state) ≡ Some state = ap (option_map (hide_task observer)) (sym here) ∙ cell ∙ here in
+    cc
+
+pub own-acts : (parts : LowParts) (k : ℕ) (asked : Act) (reply : Reply) → IsErased parts.observer (low_configuration_of parts.script parts.longest parts.holders) → PlansOwn parts k asked reply → ActsIn parts k asked reply
+own-acts parts k asked reply erased p = record {
+  task = p.task;
+  is = p.is;
+  acts = own-seen parts.observer (program_of parts.script parts.longest) (state_in parts.script p.task) p.planned asked reply p.onward (task-seen parts k p.task erased p.is) p.plans p.told;
+}
+
+pub visit-acts : (parts : LowParts) (k n : ℕ) (asked : Act) (reply : Reply) → IsErased parts.observer (low_configuration_of parts.script parts.longest parts.holders) → PlansVisit parts k asked n → erase_reply parts.observer reply ≡ reply
+    → ActsIn parts k asked reply
+visit-acts parts k n asked reply erased p replies = record {
+  task = p.task;
+  is = p.is;
+  acts = visit-seen parts.observer (program_of parts.script parts.longest) (state_in parts.script p.task) asked reply p.target p.onward (task-seen parts k p.task erased p.is) p.plans replies;
+}
+
+-- so it can go on
+pub can-advance : (parts : LowParts) (k : ℕ) (number : Option ℕ) (asked : Act) (reply : Reply) (shown : Entry) → ActsIn parts k asked reply → IsShown parts k number asked reply shown
+    → CanAdvance parts.observer (low_configuration_of parts.script parts.longest parts.holders) shown.actor shown.act shown.reply
+can-advance parts k number asked reply shown a shows =
+    subst (λ (e : Entry). CanAdvance parts.observer (low_configuration_of parts.script parts.longest parts.holders) e.actor e.act e.reply) (sym (shows a.task a.is))
+    (record { task = state_in parts.script a.task; is = task-low parts.script parts.longest parts.holders k (Some a.task) a.is; stays = a.acts.goes.stays })
+
+-- and it does, whatever the turn made of the configuration before
+went-by : (parts : LowParts) (between : Configuration) (went : List (Option Holder)) (k : ℕ) (number : Option ℕ) (asked : Act) (reply : Reply) (shown : Entry) (a : ActsIn parts k asked reply) (p : Plan)
+    → let c : Configuration = low_configuration_of parts.script parts.longest parts.holders in let state : TaskState = state_in parts.script a.task in
+    IsShown parts k number asked reply shown → plan c.program state ≡ p → Follows parts.observer c between (low_configuration_of parts.script parts.longest went) shown.actor shown.act shown.reply
+    → low_configuration_of parts.script parts.longest went ≡ with_cell between k (job_with (cell_at between k).state (seen_task parts.observer (resumed_by state asked reply p)))
+went-by parts between went k number asked reply shown a p shows plans follows =
+    let observer : Label = parts.observer in
+    let c : Configuration = low_configuration_of parts.script parts.longest parts.holders in
+    let state : TaskState = state_in parts.script a.task in
+    subst (λ (e : Entry). Follows observer c between (low_configuration_of parts.script parts.longest went) e.actor e.act e.reply) (shows a.task a.is) follows
+    state (task-low parts.script parts.longest parts.holders k (Some a.task) a.is)
+    ∙ ap (λ (t : TaskState). with_cell between k (job_with (cell_at between k).state (if flows t.label observer then Some t else None))) a.acts.goes.alike
+    ∙ ap (λ (q : Plan). with_cell between k (job_with (cell_at between k).state (seen_task observer (resumed_by state asked reply q)))) plans
+
 -- the parts of a turn: the move, and the configuration after it
-makes-move : (parts : LowParts) (went : List (Option Holder)) (k : ℕ) (asked : Act) (reply : Reply) (number : Option ℕ) (task : Task) (move : Move) (shown : Shown)
+makes-move : (parts : LowParts) (went : List (Option Holder)) (k : ℕ) (asked : Act) (reply : Reply) (number : Option ℕ) (task : Task) (move : Move) (shown : Entry)
     → let c : Configuration = low_configuration_of parts.script parts.longest parts.holders in let state : TaskState = state_in parts.script task in let made : Move = record move { act = asked } in
-    IsTaskOf c k state → move_of (cell_at c) (plan c.program state) ≡ Some move → move.reply ≡ reply → option_map number_of move.target ≡ number → IsShown parts task k number asked reply shown
-    → low_configuration_of parts.script parts.longest went ≡ erase parts.observer (after c k state made) → TasksAreJobs (after c k state made) → Makes parts went k asked shown.entry
+    IsTaskOf c k state → move_of (cell_at c) (plan c.program state) ≡ Some move → move.reply ≡ reply → option_map number_of move.target ≡ number
+    → shown ≡ erase_entry parts.observer (record { ticket = 0; actor = k; target = number; at = task.label; act = asked; reply = reply })
+    → low_configuration_of parts.script parts.longest went ≡ erase parts.observer (after c k state made) → TasksAreJobs (after c k state made) → Makes parts went k asked shown
 makes-move parts went k asked reply number task move shown is moves replies numbers shows comes jobs =
     let c : Configuration = low_configuration_of parts.script parts.longest parts.holders in
     let state : TaskState = state_in parts.script task in
@@ -74,7 +128,7 @@ makes-move parts went k asked reply number task move shown is moves replies numb
         is = is;
         move = move;
         moves = moves;
-        entry_is = shows.entry
+        entry_is = shows
             ∙ ap (λ (n : Option ℕ). let e : Entry = record { ticket = 0; actor = k; target = n; at = state.label; act = asked; reply = reply } in erase_entry parts.observer e) (sym numbers)
             ∙ ap (λ (r : Reply). let e : Entry = record { ticket = 0; actor = k; target = option_map number_of move.target; at = state.label; act = asked; reply = r } in erase_entry parts.observer e) (sym replies);
         next = comes;
@@ -83,59 +137,52 @@ makes-move parts went k asked reply number task move shown is moves replies numb
       erased = subst (IsErased parts.observer) (sym comes) (is_erased parts.observer (after c k state made) jobs);
     }
 
--- what the task is after the turn of its plan
-gone-is : (parts : LowParts) (task : Task) (k : ℕ) (number : Option ℕ) (asked : Act) (reply : Reply) (shown : Shown) (p : Plan) → IsShown parts task k number asked reply shown → plan (program_of parts.script parts.longest) (state_in parts.script task) ≡ p
-    → option_map (state_in parts.script) shown.gone ≡ seen_task parts.observer (resumed_by (state_in parts.script task) asked reply p)
-gone-is parts task k number asked reply shown p shows plans = shows.gone ∙ ap (λ (q : Plan). seen_task parts.observer (resumed_by (state_in parts.script task) asked reply q)) plans
-
-entry-act : (parts : LowParts) (task : Task) (k : ℕ) (number : Option ℕ) (asked : Act) (reply : Reply) (shown : Shown) → IsShown parts task k number asked reply shown → shown.entry.act ≡ erase_act parts.observer asked
-entry-act parts task k number asked reply shown shows = ap (λ (e : Entry). e.act) shows.entry
+entry-act : (parts : LowParts) (task : Task) (k : ℕ) (number : Option ℕ) (asked : Act) (reply : Reply) (shown : Entry) → low_task_in parts.holders k ≡ Some task → IsShown parts k number asked reply shown → shown.act ≡ erase_act parts.observer asked
+entry-act parts task k number asked reply shown is shows = ap (λ (e : Entry). e.act) (shows task is)
 
 -- an act of the task's own
-pub own-made : (parts : LowParts) (reserved served went : List (Option Holder)) (k : ℕ) (asked : Act) (reply : Reply) (shown : Shown)
-    → let conf : List (Option Holder) → Configuration = low_configuration_of parts.script parts.longest in
-    IsErased parts.observer (conf parts.holders) → (p : PlansOwn parts k reply) → IsShown parts p.task k None asked reply shown → conf reserved ≡ conf parts.holders
-    → Serves parts.script parts.longest reserved served k shown.entry.act → Goes parts.script parts.longest served went k (option_map (state_in parts.script) shown.gone) → Makes parts went k asked shown.entry
-own-made parts reserved served went k asked reply shown erased p shows same serves goes =
+pub own-made : (parts : LowParts) (went : List (Option Holder)) (k : ℕ) (asked : Act) (reply : Reply) (shown : Entry)
+    → let c : Configuration = low_configuration_of parts.script parts.longest parts.holders in
+    IsErased parts.observer c → PlansOwn parts k asked reply → IsShown parts k None asked reply shown
+    → Follows parts.observer c (served c k shown.act) (low_configuration_of parts.script parts.longest went) shown.actor shown.act shown.reply → Makes parts went k asked shown
+unfolding own-acts
+own-made parts went k asked reply shown erased p shows follows =
     let observer : Label = parts.observer in
     let c : Configuration = low_configuration_of parts.script parts.longest parts.holders in
     let state : TaskState = state_in parts.script p.task in
     let is : IsTaskOf c k state = task-low parts.script parts.longest parts.holders k (Some p.task) p.is in
-    let move : Move = own_move p.asked reply p.onward in
+    let move : Move = own_move p.planned reply p.onward in
     let made : Move = own_move asked reply p.onward in
-    let here : State = state_after (cell_at c k).state (erase_act observer asked) in
-    let between : Configuration = with_cell c k (record { state = here; task = (cell_at c k).task }) in
-    let served_is : low_configuration_of parts.script parts.longest served ≡ between =
-    serves ∙ ap (λ (d : Configuration). with_cell d k (record { state = state_after (cell_at d k).state shown.entry.act; task = (cell_at d k).task })) same
-    ∙ ap (λ (a : Act). with_cell c k (record { state = state_after (cell_at c k).state a; task = (cell_at c k).task })) (entry-act parts p.task k None asked reply shown shows) in
-    let gone : option_map (state_in parts.script) shown.gone ≡ seen_task observer (gone_on state p.onward asked reply) = gone-is parts p.task k None asked reply shown (Own p.asked reply p.onward) shows p.plans in
+    let gone : Option TaskState = seen_task observer (gone_on state p.onward asked reply) in
+    let there : Cell = record { state = state_after (cell_at c k).state (erase_act observer asked); task = (cell_at c k).task } in
     let went_is : low_configuration_of parts.script parts.longest went ≡ erase observer (after c k state made) =
-    goes ∙ ap (λ (d : Configuration). with_cell d k (job_with (cell_at d k).state (option_map (state_in parts.script) shown.gone))) served_is
-    ∙ cell-twice c k (record { state = here; task = (cell_at c k).task }) (option_map (state_in parts.script) shown.gone) (task-inside c k state is)
-    ∙ ap (λ (t : Option TaskState). with_cell c k (job_with here t)) gone
+    went-by parts (served c k shown.act) went k None asked reply shown (own-acts parts k asked reply erased p) (Own p.planned reply p.onward) shows p.plans follows
+    ∙ ap (λ (a : Act). with_cell (served c k a) k (job_with (cell_at (served c k a) k).state gone)) (entry-act parts p.task k None asked reply shown p.is shows)
+    ∙ put-changed c k there (λ (x : Cell). job_with x.state gone) (task-inside c k state is)
     ∙ sym (own-after observer c k state made erased.erased is refl) in
-    makes-move parts went k asked reply None p.task move shown is (ap (move_of (cell_at c)) p.plans) refl refl shows went_is (after-jobs c k state made erased.jobs is)
+    makes-move parts went k asked reply None p.task move shown is (ap (move_of (cell_at c)) p.plans) refl refl (shows p.task p.is) went_is (after-jobs c k state made erased.jobs is)
 
 -- a visit, whatever became of its target
-visit-made : (parts : LowParts) (served went : List (Option Holder)) (k n : ℕ) (asked : Act) (reply : Reply) (shown : Shown) (p : PlansVisit parts k asked n)
-    → let conf : List (Option Holder) → Configuration = low_configuration_of parts.script parts.longest in let c : Configuration = conf parts.holders in let state : TaskState = state_in parts.script p.task in
-    IsErased parts.observer c → KeepsJobs asked → IsShown parts p.task k (Some n) asked reply shown → visit asked p.target p.onward (met p.target (cell_at c n).state) ≡ Some (record { act = asked; target = Some p.target; reply = reply; onward = p.onward })
-    → conf served ≡ erase parts.observer (target_after c state.label asked (Some p.target)) → TasksAreJobs (target_after c state.label asked (Some p.target))
-    → Goes parts.script parts.longest served went k (option_map (state_in parts.script) shown.gone) → Makes parts went k asked shown.entry
-visit-made parts served went k n asked reply shown p erased keeps shows moves served_is jobs goes =
+visit-made : (parts : LowParts) (between : Configuration) (went : List (Option Holder)) (k n : ℕ) (asked : Act) (reply : Reply) (shown : Entry) (p : PlansVisit parts k asked n)
+    → let c : Configuration = low_configuration_of parts.script parts.longest parts.holders in let state : TaskState = state_in parts.script p.task in
+    IsErased parts.observer c → KeepsJobs asked → IsShown parts k (Some n) asked reply shown → erase_reply parts.observer reply ≡ reply
+    → visit asked p.target p.onward (met p.target (cell_at c n).state) ≡ Some (record { act = asked; target = Some p.target; reply = reply; onward = p.onward })
+    → between ≡ erase parts.observer (target_after c state.label asked (Some p.target)) → TasksAreJobs (target_after c state.label asked (Some p.target))
+    → Follows parts.observer c between (low_configuration_of parts.script parts.longest went) shown.actor shown.act shown.reply → Makes parts went k asked shown
+unfolding visit-acts
+visit-made parts between went k n asked reply shown p erased keeps shows replies moves between_is jobs follows =
     let observer : Label = parts.observer in
     let c : Configuration = low_configuration_of parts.script parts.longest parts.holders in
     let state : TaskState = state_in parts.script p.task in
     let is : IsTaskOf c k state = task-low parts.script parts.longest parts.holders k (Some p.task) p.is in
     let move : Move = record { act = asked; target = Some p.target; reply = reply; onward = p.onward } in
-    let gone : option_map (state_in parts.script) shown.gone ≡ seen_task observer (gone_on state p.onward asked reply) = gone-is parts p.task k (Some n) asked reply shown (Visit asked p.target p.onward) shows p.plans in
     let moves_is : move_of (cell_at c) (plan c.program state) ≡ Some move =
     ap (move_of (cell_at c)) p.plans ∙ ap (λ (m : ℕ). visit asked p.target p.onward (met p.target (cell_at c m).state)) p.number ∙ moves in
     let went_is : low_configuration_of parts.script parts.longest went ≡ erase observer (after c k state move) =
-    goes ∙ ap (λ (t : Option TaskState). with_cell (low_configuration_of parts.script parts.longest served) k (job_with (cell_at (low_configuration_of parts.script parts.longest served) k).state t)) gone
-    ∙ sym (visit-after observer c (low_configuration_of parts.script parts.longest served) k state move p.target erased.erased is erased.jobs keeps refl served_is) in
+    went-by parts between went k (Some n) asked reply shown (visit-acts parts k n asked reply erased p replies) (Visit asked p.target p.onward) shows p.plans follows
+    ∙ sym (visit-after observer c between k state move p.target erased.erased is erased.jobs keeps refl between_is) in
     let there : IsTaskOf (target_after c state.label asked (Some p.target)) k state = ap (λ (x : Cell). x.task) (actor-stays c k state state.label asked p.target is erased.jobs keeps) ∙ is in
-    makes-move parts went k asked reply (Some n) p.task move shown is moves_is refl (ap Some p.number) shows went_is (after-jobs c k state move jobs there)
+    makes-move parts went k asked reply (Some n) p.task move shown is moves_is refl (ap Some p.number) (shows p.task p.is) went_is (after-jobs c k state move jobs there)
 
 -- the moves of visits
 visit-ready : (asked : Act) (target : Target) (onward : Onward) (state : State) → ready state asked ≡ true → visit asked target onward state ≡ Some (record { act = asked; target = Some target; reply = answer state asked; onward = onward })
@@ -179,12 +226,29 @@ ready-state parts k n asked v =
 ready-there : (kind : Kind) (cell : Cell) (asked : Act) → kind_met asked ≡ Some kind → ready cell.state asked ≡ true → cell ≡ blank → ⊥
 ready-there kind cell asked meets e empty = true≢false (sym e ∙ ap (λ (x : Cell). ready x.state asked) empty ∙ absent-unready kind asked meets)
 
+-- what it answers is as the observer sees it
+met-reply : (parts : LowParts) (k n : ℕ) (asked : Act) (reply : Reply) → IsErased parts.observer (low_configuration_of parts.script parts.longest parts.holders) → VisitsNode parts k asked n true
+    → reply ≡ answer (cell_at (low_configuration_of parts.script parts.longest parts.holders) n).state asked → erase_reply parts.observer reply ≡ reply
+met-reply parts k n asked reply erased v replies =
+    let observer : Label = parts.observer in
+    let c : Configuration = low_configuration_of parts.script parts.longest parts.holders in
+    let cell : Cell = cell_at c n in
+    let seen : erase_cell observer cell ≡ cell = cell-erased observer c n erased.erased in
+    let hidden : hide_cell observer cell ≡ cell = seen-hidden observer cell seen (there-seen observer cell seen (ready-there v.kind cell asked v.kind_is (ready-state parts k n asked v))) in
+    ap (erase_reply observer) replies
+    ∙ answer-seen observer c.program (state_in parts.script v.visits.task) asked v.visits.target v.visits.onward cell.state (task-seen parts k v.visits.task erased v.visits.is) v.visits.plans (ap (λ (x : Cell). x.state) hidden)
+    ∙ sym replies
+
+pub met-acts : (parts : LowParts) (k n : ℕ) (asked : Act) (reply : Reply) → IsErased parts.observer (low_configuration_of parts.script parts.longest parts.holders) → VisitsNode parts k asked n true
+    → reply ≡ answer (cell_at (low_configuration_of parts.script parts.longest parts.holders) n).state asked → ActsIn parts k asked reply
+met-acts parts k n asked reply erased v replies = visit-acts parts k n asked reply erased v.visits (met-reply parts k n asked reply erased v replies)
+
 -- a visit of a node that is ready
-pub met-made : (parts : LowParts) (reserved served went : List (Option Holder)) (k n : ℕ) (asked : Act) (reply : Reply) (shown : Shown) (v : VisitsNode parts k asked n true)
-    → let conf : List (Option Holder) → Configuration = low_configuration_of parts.script parts.longest in
-    IsErased parts.observer (conf parts.holders) → IsShown parts v.visits.task k (Some n) asked reply shown → reply ≡ answer (cell_at (conf parts.holders) n).state asked → conf reserved ≡ conf parts.holders
-    → Serves parts.script parts.longest reserved served n shown.entry.act → Goes parts.script parts.longest served went k (option_map (state_in parts.script) shown.gone) → Makes parts went k asked shown.entry
-met-made parts reserved served went k n asked reply shown v erased shows replies same serves goes =
+pub met-made : (parts : LowParts) (went : List (Option Holder)) (k n : ℕ) (asked : Act) (reply : Reply) (shown : Entry) (v : VisitsNode parts k asked n true)
+    → let c : Configuration = low_configuration_of parts.script parts.longest parts.holders in
+    IsErased parts.observer c → IsShown parts k (Some n) asked reply shown → reply ≡ answer (cell_at c n).state asked
+    → Follows parts.observer c (served c n shown.act) (low_configuration_of parts.script parts.longest went) shown.actor shown.act shown.reply → Makes parts went k asked shown
+met-made parts went k n asked reply shown v erased shows replies follows =
     let observer : Label = parts.observer in
     let c : Configuration = low_configuration_of parts.script parts.longest parts.holders in
     let label : Label = (state_in parts.script v.visits.task).label in
@@ -196,20 +260,20 @@ met-made parts reserved served went k n asked reply shown v erased shows replies
     let named_is : is_met target cell.state ≡ true = ap (λ (t : Target). is_met t cell.state) v.target ∙ named in
     let moves = ap (λ (s : State). visit asked target v.visits.onward s) (met-there target cell.state named_is) ∙ visit-ready asked target v.visits.onward cell.state is_ready
     ∙ ap (λ (r : Reply). let move : Move = record { act = asked; target = Some target; reply = r; onward = v.visits.onward } in Some move) (sym replies) in
-    let served_is : low_configuration_of parts.script parts.longest served ≡ erase observer (target_after c label asked (Some target)) =
-    serves ∙ ap (λ (d : Configuration). with_cell d n (record { state = state_after (cell_at d n).state shown.entry.act; task = (cell_at d n).task })) same
-    ∙ ap (λ (a : Act). with_cell c n (record { state = state_after (cell_at c n).state a; task = (cell_at c n).task })) (entry-act parts v.visits.task k (Some n) asked reply shown shows)
+    let between_is : served c n shown.act ≡ erase observer (target_after c label asked (Some target)) =
+    ap (served c n) (entry-act parts v.visits.task k (Some n) asked reply shown v.visits.is shows)
     ∙ met-between observer c v.kind label asked target n erased.erased v.kind_is v.visits.number named_is (ready-there v.kind cell asked v.kind_is is_ready) in
-    visit-made parts served went k n asked reply shown v.visits erased (λ state job. met-job v.kind state asked job v.kind_is) shows moves served_is
-    (target-jobs c label asked v.kind n target erased.jobs v.kind_is v.visits.number) goes
+    visit-made parts (served c n shown.act) went k n asked reply shown v.visits erased (λ state job. met-job v.kind state asked job v.kind_is) shows
+    (met-reply parts k n asked reply erased v replies) moves between_is
+    (target-jobs c label asked v.kind n target erased.jobs v.kind_is v.visits.number) follows
 
 -- a write or a send to a cell that is left out
-pub missed-made : (parts : LowParts) (went : List (Option Holder)) (k n : ℕ) (asked : Act) (shown : Shown) (v : VisitsNode parts k asked n false) → waits asked ≡ false
-    → let conf : List (Option Holder) → Configuration = low_configuration_of parts.script parts.longest in
-    IsErased parts.observer (conf parts.holders) → IsShown parts v.visits.task k (Some n) asked Done shown
-    → Goes parts.script parts.longest parts.holders went k (option_map (state_in parts.script) shown.gone) → Makes parts went k asked shown.entry
+pub missed-made : (parts : LowParts) (went : List (Option Holder)) (k n : ℕ) (asked : Act) (shown : Entry) (v : VisitsNode parts k asked n false) → waits asked ≡ false
+    → let c : Configuration = low_configuration_of parts.script parts.longest parts.holders in
+    IsErased parts.observer c → IsShown parts k (Some n) asked Done shown
+    → Follows parts.observer c c (low_configuration_of parts.script parts.longest went) shown.actor shown.act shown.reply → Makes parts went k asked shown
 unfolding ready
-missed-made parts went k n asked shown v quick erased shows goes =
+missed-made parts went k n asked shown v quick erased shows follows =
     let observer : Label = parts.observer in
     let c : Configuration = low_configuration_of parts.script parts.longest parts.holders in
     let label : Label = (state_in parts.script v.visits.task).label in
@@ -217,9 +281,9 @@ missed-made parts went k n asked shown v quick erased shows goes =
     let state : State = (cell_at c n).state in
     let missed : is_met target state ≡ false = ap (λ (t : Target). is_met t state) v.target ∙ unmet asked v.kind v.handle state quick v.kind_is v.readiness in
     let missed_is : is_met target (cell_at c (number_of target)).state ≡ false = ap (λ (m : ℕ). is_met target (cell_at c m).state) v.visits.number ∙ missed in
-    visit-made parts parts.holders went k n asked Done shown v.visits erased (λ s job. met-job v.kind s asked job v.kind_is) shows
+    visit-made parts c went k n asked Done shown v.visits erased (λ s job. met-job v.kind s asked job v.kind_is) shows refl
     (visit-unwaiting asked target v.visits.onward (met target state) quick) (missed-between observer c label asked target erased.erased missed_is)
-    (target-jobs c label asked v.kind n target erased.jobs v.kind_is v.visits.number) goes
+    (target-jobs c label asked v.kind n target erased.jobs v.kind_is v.visits.number) follows
   where
     -- a node of the kind is ready for what doesn't wait
     of_kind : (a : Act) (kind : Kind) (state : State) → waits a ≡ false → kind_met a ≡ Some kind → ready state a ≡ is_of kind state
@@ -248,46 +312,35 @@ new-between : (observer : Label) (c : Configuration) (label : Label) (asked : Ac
 new-between observer c label asked n true e erased makes_node = made-between observer c label asked n erased.erased erased.jobs makes_node e
 new-between observer c label asked n false e erased makes_node = missed-between observer c label asked (New n) erased.erased e
 
-pub new-placed : (parts : LowParts) (placed : List (Option Holder)) (k n : ℕ) (asked : Act) (shown : Shown) (v : VisitsNew parts k asked n)
-    → let conf : List (Option Holder) → Configuration = low_configuration_of parts.script parts.longest in let c : Configuration = conf parts.holders in
-    IsErased parts.observer c → IsShown parts v.visits.task k (Some n) asked Done shown
-    → conf placed ≡ (if is_absent (cell_at c n).state then with_cell c n (seen_cell parts.observer (met_after c.program v.visits.task.label shown.entry.act blank)) else c)
-    → conf placed ≡ erase parts.observer (target_after c v.visits.task.label asked (Some v.visits.target))
-new-placed parts placed k n asked shown v erased shows places =
+new-placed : (parts : LowParts) (k n : ℕ) (asked : Act) (shown : Entry) (v : VisitsNew parts k asked n) (cell : Cell)
+    → let c : Configuration = low_configuration_of parts.script parts.longest parts.holders in
+    IsErased parts.observer c → IsShown parts k (Some n) asked Done shown → cell ≡ seen_cell parts.observer (met_after c.program shown.at shown.act blank)
+    → placed c n cell ≡ erase parts.observer (target_after c v.visits.task.label asked (Some v.visits.target))
+new-placed parts k n asked shown v cell erased shows is =
     let observer : Label = parts.observer in
     let c : Configuration = low_configuration_of parts.script parts.longest parts.holders in
     let label : Label = v.visits.task.label in
-    places
-    ∙ ap (λ (a : Act). if is_absent (cell_at c n).state then with_cell c n (seen_cell observer (met_after c.program label a blank)) else c) (entry-act parts v.visits.task k (Some n) asked Done shown shows)
+    ap (placed c n) (is ∙ ap (λ (e : Entry). seen_cell observer (met_after c.program e.at e.act blank)) (shows v.visits.task v.visits.is))
     ∙ new-between observer c label asked n (is_absent (cell_at c n).state) refl erased v.makes_node
     ∙ ap (λ (t : Target). erase observer (target_after c label asked (Some t))) (sym v.target)
 
--- the task that makes it is still there
-pub new-there : (parts : LowParts) (placed : List (Option Holder)) (k n : ℕ) (asked : Act) (v : VisitsNew parts k asked n)
+pub new-made : (parts : LowParts) (went : List (Option Holder)) (k n : ℕ) (asked : Act) (shown : Entry) (v : VisitsNew parts k asked n) (cell : Cell)
     → let c : Configuration = low_configuration_of parts.script parts.longest parts.holders in
-    IsErased parts.observer c → low_configuration_of parts.script parts.longest placed ≡ erase parts.observer (target_after c v.visits.task.label asked (Some v.visits.target)) → IsSome (holder_in placed k)
-new-there parts placed k n asked v erased placed_is =
-    let observer : Label = parts.observer in
-    let c : Configuration = low_configuration_of parts.script parts.longest parts.holders in
-    let state : TaskState = state_in parts.script v.visits.task in
-    let is : IsTaskOf c k state = task-low parts.script parts.longest parts.holders k (Some v.visits.task) v.visits.is in
-    let between : Configuration = target_after c state.label asked (Some v.visits.target) in
-    let stays : cell_at between k ≡ cell_at c k = actor-stays c k state state.label asked v.visits.target is erased.jobs (λ state job. made-job state asked job v.makes_node) in
-    some-there parts.script parts.longest placed k state
-    (ap (λ (d : Configuration). (cell_at d k).task) placed_is ∙ ap (λ (x : Cell). x.task) (cell_at-erased observer between k ∙ ap (erase_cell observer) stays ∙ cell-erased observer c k erased.erased) ∙ is)
-
-pub new-made : (parts : LowParts) (placed went : List (Option Holder)) (k n : ℕ) (asked : Act) (shown : Shown) (v : VisitsNew parts k asked n)
-    → let conf : List (Option Holder) → Configuration = low_configuration_of parts.script parts.longest in let c : Configuration = conf parts.holders in
-    IsErased parts.observer c → IsShown parts v.visits.task k (Some n) asked Done shown → conf placed ≡ erase parts.observer (target_after c v.visits.task.label asked (Some v.visits.target))
-    → Goes parts.script parts.longest placed went k (option_map (state_in parts.script) shown.gone) → Makes parts went k asked shown.entry
-new-made parts placed went k n asked shown v erased shows placed_is goes =
+    IsErased parts.observer c → IsShown parts k (Some n) asked Done shown → cell ≡ seen_cell parts.observer (met_after c.program shown.at shown.act blank)
+    → Follows parts.observer c (placed c n cell) (low_configuration_of parts.script parts.longest went) shown.actor shown.act shown.reply → Makes parts went k asked shown
+new-made parts went k n asked shown v cell erased shows is follows =
     let c : Configuration = low_configuration_of parts.script parts.longest parts.holders in
     let label : Label = (state_in parts.script v.visits.task).label in
     let target : Target = v.visits.target in
     let to_new : target_after c label asked (Some target) ≡ target_after c label asked (Some (New n)) = ap (λ (t : Target). target_after c label asked (Some t)) v.target in
-    visit-made parts placed went k n asked Done shown v.visits erased (λ state job. made-job state asked job v.makes_node) shows
-    (visit-unwaiting asked target v.visits.onward (met target (cell_at c n).state) (made-unwaiting asked v.makes_node)) placed_is
-    (subst TasksAreJobs (sym to_new) (new-jobs c label asked n erased.jobs v.makes_node)) goes
+    visit-made parts (placed c n cell) went k n asked Done shown v.visits erased (λ state job. made-job state asked job v.makes_node) shows refl
+    (visit-unwaiting asked target v.visits.onward (met target (cell_at c n).state) (made-unwaiting asked v.makes_node)) (new-placed parts k n asked shown v cell erased shows is)
+    (subst TasksAreJobs (sym to_new) (new-jobs c label asked n erased.jobs v.makes_node)) follows
+
+-- the task that makes it is in a node that is there
+pub actor-there : (parts : LowParts) (k : ℕ) (task : Task) → IsErased parts.observer (low_configuration_of parts.script parts.longest parts.holders) → low_task_in parts.holders k ≡ Some task
+    → is_absent (cell_at (low_configuration_of parts.script parts.longest parts.holders) k).state ≡ false
+actor-there parts k task erased is = job-there _ (erased.jobs k (ap (λ (t : Option TaskState). is_some t) (task-low parts.script parts.longest parts.holders k (Some task) is)))
 
 -- a node that is there to be met
 pub met-holder : (parts : LowParts) (k n : ℕ) (asked : Act) → VisitsNode parts k asked n true → None ≡ holder_in parts.holders n → ⊥
@@ -307,13 +360,13 @@ bears-erased script at observer (act.Fork birth) bears = record { procedure = be
 bears-erased script at observer (act.Spawn birth) bears = record { procedure = bears.procedure; range = bears.range; cleared = bears.cleared }
 bears-erased script at observer asked bears = tt
 
-pub new-bears : (parts : LowParts) (k n : ℕ) (asked : Act) (shown : Shown) (v : VisitsNew parts k asked n) → IsShown parts v.visits.task k (Some n) asked Done shown → CanBear parts.script shown.entry.at shown.entry.act
+pub new-bears : (parts : LowParts) (k n : ℕ) (asked : Act) (shown : Entry) → VisitsNew parts k asked n → IsShown parts k (Some n) asked Done shown → CanBear parts.script shown.at shown.act
 new-bears parts k n asked shown v shows =
     let program = program_of parts.script parts.longest in
     let state : TaskState = state_in parts.script v.visits.task in
     let bears : CanBear parts.script state.label asked =
     act-bears program state asked v.visits.task.range (subst (AffordsPlan program state) v.visits.plans (plan_affords program state v.visits.task.cleared)).1 in
-    subst (λ (e : Entry). CanBear parts.script e.at e.act) (sym shows.entry) (bears-erased parts.script state.label parts.observer asked bears)
+    subst (λ (e : Entry). CanBear parts.script e.at e.act) (sym (shows v.visits.task v.visits.is)) (bears-erased parts.script state.label parts.observer asked bears)
 
 -- what a turn takes of the released contents
 pub takes-turn : (old new : LowState) (k : ℕ) (before after : List Content) (asked : Act) (entry : Entry) (m : Moves old new k asked entry)

@@ -1,5 +1,5 @@
--- Releases whose content the observer doesn't see before.
-use Rattle.std.specs.Prelude.{Bool, true, false, ◌&&◌}
+-- What an observer sees of acts whose values it sees already: of releases, and of values that are sealed.
+use Rattle.std.specs.Prelude.{Bool, true, false, not, ◌&&◌, if◌then◌else◌}
 use Rattle.lio_labels.specs.declared.label.Label.{Label}
 use Rattle.lio_labels.specs.Flow.{flows}
 use Rattle.lio_values.specs.declared.value.Content.{Content}
@@ -23,3 +23,17 @@ lacks_content observer asked reply = false
 abbrev pub with_content : Act → Content → Act
 with_content (act.Release source target power hidden) content = act.Release source target power content
 with_content asked content = asked
+
+-- whether an act releases a content to a label that doesn't flow to the observer's
+abbrev pub releases_above : Label → Act → Bool
+releases_above observer (act.Release source target power content) = not (flows target observer)
+releases_above observer asked = false
+
+-- an act as the observer sees it, if it sees the values already: a content that is released to a label that doesn't flow to the observer's is hidden
+abbrev pub shown_act : Label → Act → Act
+shown_act observer asked = if releases_above observer asked then with_content asked Hidden else asked
+
+-- whether an act seals a value under a label that doesn't flow to the observer's, so that the value has to be hidden
+abbrev pub hides : Label → Act → Bool
+hides observer (act.Seal label) = not (flows label observer)
+hides observer asked = false

@@ -1,12 +1,14 @@
 //! What acts ask.
-ghost use Rattle.std.specs.Prelude.{◌≡◌};
+ghost use Rattle.std.specs.Prelude.{◌≡◌, IfOk};
 ghost use Rattle.lio_cells.specs.State.{is_absent};
 ghost use Rattle.lio_calculus.specs.Step.{has_label, waits};
-ghost use Rattle.lio_erasure.specs.Acts.{is_hidden, lacks_content, with_content};
+ghost use Rattle.lio_erasure.specs.Acts.{hides, is_hidden, lacks_content, releases_above, shown_act, with_content};
 
 use lio_cells::State;
+use lio_clauses::NoMemory;
 use lio_labels::Label;
 use lio_values::{Act, Content, Held, Reply};
+use std::alloc::Global;
 
 /// Whether nothing is there.
 pub fn is_absent(state: &State) -> bool
@@ -78,5 +80,42 @@ pub fn with_content(act: Act, content: Held<Content>) -> Act
             drop(content);
             other
         }
+    }
+}
+
+/// Whether an act releases a content to a label that doesn't flow to the observer's.
+fn releases_above(act: &Act, observer: &Label) -> bool
+    ensures { result ≡ releases_above observer.now act.now }
+{
+    match act {
+        Act::Release(_, target, _, _) => !target.get().flows(observer),
+        _ => false,
+    }
+}
+
+/// An act as an observer sees it who sees its values already: a content that is released to a label that doesn't flow to the observer's
+/// is hidden.
+pub fn shown_act(alloc: Global, act: Act, observer: &Label) -> Result<Act, NoMemory>
+    ensures { IfOk result (λ shown. shown ≡ shown_act observer.now act) }
+{
+    if !releases_above(&act, observer) {
+        return Ok(act);
+    }
+    match Held::new(alloc, Content::Hidden) {
+        Ok(hidden) => Ok(with_content(act, hidden)),
+        Err(error) => {
+            drop(act);
+            Err(error)
+        }
+    }
+}
+
+/// Whether an act seals a value under a label that doesn't flow to the observer's, so that the value has to be hidden.
+pub fn hides(act: &Act, observer: &Label) -> bool
+    ensures { result ≡ hides observer.now act.now }
+{
+    match act {
+        Act::Seal(label) => !label.flows(observer),
+        _ => false,
     }
 }

@@ -1,19 +1,24 @@
 //! The cells that an observer sees.
-ghost use Rattle.std.specs.Prelude.{◌≡◌, ◌++◌, ◌∷◌, [], ℕ, List, None, Some, IsSome, IsTrue, OnOk, OnErr, slice_set};
-ghost use Rattle.std.specs.Option.{option_copied, option_map};
+ghost use Rattle.std.specs.Prelude.{◌≡◌, ◌++◌, ◌∷◌, [], ℕ, List, Some, IsSome, IsTrue, OnOk, OnErr, slice_set};
+ghost use Rattle.std.specs.Option.{option_copied};
+ghost use Rattle.lio_values.specs.declared.act.Act.{Act as Asked};
 ghost use Rattle.lio_syntax.specs.Statements.{Procedure};
 ghost use Rattle.lio_cells.specs.State.{Kind, is_absent, ready};
 ghost use Rattle.lio_calculus.specs.Afforded.{kind_met};
 ghost use Rattle.lio_calculus.specs.Plan.{Node as by_handle};
 ghost use Rattle.lio_calculus.specs.Step.{cell_at, met};
-ghost use Rattle.lio_task.specs.StateOf.{state_in};
-ghost use Rattle.lio_erasure.specs.Low.{LeavesOutBlanks, holder_in, is_kept, job_with, low_cell_of, low_configuration_of, low_task_in};
-ghost use Rattle.lio_erasure.specs.Turn.{CanServe, Goes, HasRoom, Places, Serves};
+ghost use Rattle.lio_plan.specs.StateOf.{program_of};
+ghost use Rattle.lio_erasure.specs.Low.{LeavesOutBlanks, holder_in, is_kept, low_cell_of, low_configuration_of, low_task_in};
+ghost use Rattle.lio_erasure.specs.Turn.{Advances, CanAdvance, CanGoOn, CanServe, HasGoneOn, HasRoom, Places, Serves, Settles, node_of_holder, serving};
 
 use crate::acts::{has_label, is_absent};
+use crate::gone::advance;
+use crate::hidden::is_seen;
 use lio_clauses::NoMemory;
+use lio_labels::Label;
+use lio_syntax::Script;
 use lio_task::{Holder, Task};
-use lio_values::{Act, Handle};
+use lio_values::{Act, Entry, Handle};
 use std::alloc::Global;
 use std::marker::Model;
 use std::mem;
@@ -120,71 +125,109 @@ impl LowConfig {
         }
     }
 
-    /// Takes out the holder with a number, where its cell isn't left out.
-    fn take(&mut self, n: u32) -> Option<Holder>
-        ensures value { result ≡ holder_in self.old n }
-        ensures left { self.new ≡ slice_set self.old n None }
-    {
-        match self.cells.get_mut(n as usize) {
-            Some(place) => mem::replace(place, None),
-            None => None,
-        }
-    }
-
     /// Takes the memory that an act needs in the node with a number.
-    #[tactic(none)]
     pub(crate) fn reserve(&mut self, alloc: Global, n: u32, act: &Act) -> Result<(), NoMemory>
         ensures same { (script : List Procedure) (longest : ℕ) → low_configuration_of script longest self.new ≡ low_configuration_of script longest self.old }
-        ensures room { OnOk result (HasRoom self.new n act.now) }
+        ensures room { OnOk result (HasRoom (holder_in self.new n) act.now) }
         ensures there { IsSome (holder_in self.old n) → IsSome (holder_in self.new n) }
         ensures kept { LeavesOutBlanks self.old → LeavesOutBlanks self.new }
     {
-        let Some(mut holder) = self.take(n) else {
+        let Some(place) = self.cells.get_mut(n as usize) else {
             return Ok(());
         };
-        let reserved = holder.node.reserve(alloc, act);
-        self.put(n, Some(holder));
-        reserved
+        reserve_in(alloc, place, act)
     }
 
     /// Lets the node with a number serve an act, for which it has room. It takes no memory.
-    #[tactic(none)]
     pub(crate) fn serve(&mut self, n: u32, act: &Act)
-        requires { CanServe self.old n act.now }
+        requires { CanServe (holder_in self.old n) act.now }
         ensures serves { (script : List Procedure) (longest : ℕ) → Serves script longest self.old self.new n act.now }
-        ensures there { (k : ℕ) → IsSome (holder_in self.old k) → IsSome (holder_in self.new k) }
         ensures kept { LeavesOutBlanks self.old → LeavesOutBlanks self.new }
     {
-        let Some(mut holder) = self.take(n) else {
+        let Some(place) = self.cells.get_mut(n as usize) else {
             unreachable!()
         };
-        holder.node.serve(act);
-        self.put(n, Some(holder));
+        serve_in(place, act);
     }
 
-    /// The task with a number has gone on; where it is left out, so is its cell. It takes no memory.
-    #[tactic(none)]
-    pub(crate) fn go(&mut self, k: u32, task: Option<Task>)
-        requires { IsSome (holder_in self.old k) }
-        ensures goes { (script : List Procedure) (longest : ℕ) → Goes script longest self.old self.new k (option_map (state_in script) task) }
+    /// Lets the actor of an entry go on after its turn, as the observer sees it. After a refusal all is as before.
+    pub(crate) fn advance(
+        &mut self,
+        alloc: Global,
+        script: &Script,
+        longest: u32,
+        observer: &Label,
+        entry: &Entry,
+    ) -> Result<(), NoMemory>
+        requires { CanAdvance observer.now (low_configuration_of script.now longest self.old) entry.now.actor entry.now.act entry.now.reply }
+        ensures ok { OnOk result (Advances observer.now (low_configuration_of script.now longest self.old) (low_configuration_of script.now longest self.new) entry.now.actor entry.now.act entry.now.reply) }
+        ensures err { OnErr result (low_configuration_of script.now longest self.new ≡ low_configuration_of script.now longest self.old) }
+        ensures serves { (n : ℕ) (asked : Asked) → CanServe (holder_in self.old n) asked → CanServe (holder_in self.new n) asked }
         ensures kept { LeavesOutBlanks self.old → LeavesOutBlanks self.new }
     {
-        let Some(holder) = self.take(k) else {
+        let Some(place) = self.cells.get_mut(entry.actor as usize) else {
             unreachable!()
         };
-        self.put(k, with_task(holder, task));
+        advance_in(alloc, place, script, longest, observer, entry)
+    }
+
+    /// Leaves out the cell with a number where the observer doesn't see it. It takes no memory.
+    #[tactic(none)]
+    pub(crate) fn settle(&mut self, k: u32, observer: &Label)
+        ensures settles { (script : List Procedure) (longest : ℕ) → Settles observer.now script longest self.old self.new k }
+        ensures kept { LeavesOutBlanks self.old → LeavesOutBlanks self.new }
+    {
+        let Some(holder) = self.holder(k) else {
+            return;
+        };
+        if !is_seen(holder, observer) {
+            self.put(k, None);
+        }
     }
 }
 
-/// A holder whose task has gone on; where the task is left out, so is the holder.
-fn with_task(mut holder: Holder, task: Option<Task>) -> Option<Holder>
-    ensures goes { (script : List Procedure) → low_cell_of script result ≡ job_with holder.node.state (option_map (state_in script) task) }
-    ensures kept { IsTrue (is_kept result) }
+/// Takes the memory that an act needs in a node, if it is there.
+fn reserve_in(alloc: Global, place: &mut Option<Holder>, act: &Act) -> Result<(), NoMemory>
+    ensures same { (script : List Procedure) → low_cell_of script place.new ≡ low_cell_of script place.old }
+    ensures room { OnOk result (HasRoom place.new act.now) }
+    ensures there { IsSome place.old → IsSome place.new }
+    ensures kept { IsTrue (is_kept place.old) → IsTrue (is_kept place.new) }
 {
-    if task.is_none() {
-        drop(holder);
-        return None;
+    match place {
+        Some(holder) => holder.node.reserve(alloc, act),
+        None => Ok(()),
     }
-    drop(mem::replace(&mut holder.task, task));
-    Some(holder)
+}
+
+/// Lets a node serve an act, for which it has room. It takes no memory.
+fn serve_in(place: &mut Option<Holder>, act: &Act)
+    requires { CanServe place.old act.now }
+    ensures serves { (script : List Procedure) → low_cell_of script place.new ≡ serving act.now (low_cell_of script place.old) }
+    ensures kept { IsTrue (is_kept place.old) → IsTrue (is_kept place.new) }
+{
+    match place {
+        Some(holder) => holder.node.serve(act),
+        None => unreachable!(),
+    }
+}
+
+/// Lets the task of a cell go on after the turn with this entry, as the observer sees it. After a refusal it is as before.
+fn advance_in(
+    alloc: Global,
+    place: &mut Option<Holder>,
+    script: &Script,
+    longest: u32,
+    observer: &Label,
+    entry: &Entry,
+) -> Result<(), NoMemory>
+    requires { CanGoOn observer.now (program_of script.now longest) (low_cell_of script.now place.old) entry.now.act entry.now.reply }
+    ensures ok { OnOk result (HasGoneOn observer.now (program_of script.now longest) (low_cell_of script.now place.old) (low_cell_of script.now place.new) entry.now.act entry.now.reply) }
+    ensures err { OnErr result (low_cell_of script.now place.new ≡ low_cell_of script.now place.old) }
+    ensures node { node_of_holder place.new ≡ node_of_holder place.old }
+    ensures kept { IsTrue (is_kept place.new) }
+{
+    match place {
+        Some(holder) => advance(alloc, holder, script, longest, observer, entry),
+        None => unreachable!(),
+    }
 }

@@ -5,10 +5,12 @@
 mod acts;
 mod cells;
 mod erased;
+mod gone;
 mod hidden;
 mod low;
 mod made;
 mod shown;
+mod turns;
 
 pub use cells::LowConfig;
 pub use erased::erase_config;

@@ -1,15 +1,15 @@
 //! The erased calculus, which takes turns.
 ghost use Rattle.std.specs.Prelude.{◌≡◌, IfOk, slice_get};
 
-use crate::acts::{lacks_content, waits, with_content};
+use crate::acts::{lacks_content, shown_act, waits, with_content};
 use crate::cells::LowConfig;
 use crate::hidden::seen;
 use crate::made::made;
-use crate::shown::{Shown, entry_of, gone};
+use crate::shown::entry_of;
 use lio_clauses::NoMemory;
 use lio_labels::Label;
 use lio_syntax::Script;
-use lio_task::{Holder, Next, Task};
+use lio_task::{Holder, Next};
 use lio_values::{Act, Content, Entry, Held, Reply};
 use lio_view::Contents;
 use std::alloc::Global;
@@ -64,19 +64,14 @@ impl Model for Low {
 
 impl Low {
     ghost use Rattle.std.specs.Prelude.{◌≡◌, List, true, false, IsSome, IsTrue, IfOk, IfErr, OnOk, OnErr};
-    ghost use Rattle.std.specs.Option.{option_map};
     ghost use Rattle.lio_values.specs.declared.value.Content.{Content};
-    ghost use Rattle.lio_values.specs.Erasure.{erase_entry};
     ghost use Rattle.lio_calculus.specs.Step.{blank, met_after, waits};
     ghost use Rattle.lio_calculus.specs.Afforded.{makes};
     ghost use Rattle.lio_plan.specs.StateOf.{program_of};
     ghost use Rattle.lio_task.specs.Births.{CanBear};
-    ghost use Rattle.lio_task.specs.Next.{resumed};
-    ghost use Rattle.lio_task.specs.StateOf.{state_in};
-    ghost use Rattle.lio_task.specs.declared.task.Task.{Task};
-    ghost use Rattle.lio_erasure.specs.Low.{IsSeenOfSound, LeavesOutBlanks, is_kept, low_cell_of, low_configuration_of, low_task_in, seen_cell, seen_task};
+    ghost use Rattle.lio_erasure.specs.Low.{IsSeenOfSound, LeavesOutBlanks, is_kept, low_cell_of, low_configuration_of, low_task_in, seen_cell};
     ghost use Rattle.lio_erasure.specs.LowParts.{low_of};
-    ghost use Rattle.lio_erasure.specs.Turn.{IsShown, Moves, PlansAct, PlansOwn, PlansVisit, Stays, TakesTurn, VisitsNew, VisitsNode};
+    ghost use Rattle.lio_erasure.specs.Turn.{IsAsSeen, IsShown, Moves, PlansAct, PlansOwn, PlansVisit, Stays, TakesTurn, VisitsNew, VisitsNode};
 
     /// What an observer sees of a well-formed configuration, with its script and how long a text may become in it.
     #[tactic(none)]
@@ -102,30 +97,6 @@ impl Low {
         &self.config
     }
 
-    /// What a turn of a task shows, by its entry.
-    fn shown_by(&self, alloc: Global, task: &Task, entry: &Entry) -> Result<Shown, NoMemory>
-        ensures entry { IfOk result (λ shown. shown.entry ≡ erase_entry self.now.observer entry.now) }
-        ensures gone { IfOk result (λ shown. option_map (state_in self.now.script) shown.gone
-            ≡ seen_task self.now.observer (resumed (program_of self.now.script self.now.longest) (state_in self.now.script task.now) entry.now.act entry.now.reply)) }
-    {
-        let seen = entry.erase(alloc, &self.observer)?;
-        match gone(
-            alloc,
-            task,
-            &self.script,
-            self.longest,
-            &self.observer,
-            &entry.act,
-            &entry.reply,
-        ) {
-            Ok(gone) => Ok(Shown { entry: seen, gone }),
-            Err(error) => {
-                drop(seen);
-                Err(error)
-            }
-        }
-    }
-
     /// What a turn of the task with a number shows.
     #[tactic(none)]
     fn shown(
@@ -135,34 +106,43 @@ impl Low {
         target: Option<u32>,
         act: Act,
         reply: Reply,
-    ) -> Result<Shown, NoMemory>
-        requires { IsSome (low_task_in self.now.holders k) }
-        ensures { IfOk result (λ shown. (task : Task) → low_task_in self.now.holders k ≡ Some task → IsShown self.now task k target act reply shown) }
+    ) -> Result<Entry, NoMemory>
+        requires there { IsSome (low_task_in self.now.holders k) }
+        requires seen { IsAsSeen self.now.observer act reply }
+        ensures { IfOk result (IsShown self.now k target act reply) }
     {
         let Some(task) = self.config.task(k) else {
             unreachable!()
         };
-        let entry = entry_of(alloc, k, target, task.label(), act, reply)?;
-        let shown = self.shown_by(alloc, task, &entry);
-        drop(entry);
-        shown
+        match shown_act(alloc, act, &self.observer) {
+            Ok(act) => entry_of(alloc, k, target, task.label(), act, reply),
+            Err(error) => {
+                drop(reply);
+                Err(error)
+            }
+        }
     }
 
     /// Takes the turn of a task that meets no other node, with this act in the place of the one that it plans.
     #[tactic(none)]
     fn own(&mut self, alloc: Global, k: u32, act: Act, reply: Reply) -> Result<Entry, NoMemory>
-        requires { PlansOwn self.old k reply }
+        requires { PlansOwn self.old k act reply }
         ensures ok { IfOk result (Moves (low_of self.old) (low_of self.new) k act) }
         ensures err { OnErr result (low_of self.new ≡ low_of self.old) }
     {
-        let shown = self.shown(alloc, k, None, act, reply)?;
-        if let Err(error) = self.config.reserve(alloc, k, &shown.entry.act) {
-            drop(shown);
+        let entry = self.shown(alloc, k, None, act, reply)?;
+        if let Err(error) = self.config.turn_serving(
+            alloc,
+            &self.script,
+            self.longest,
+            &self.observer,
+            k,
+            &entry,
+        ) {
+            drop(entry);
             return Err(error);
         }
-        self.config.serve(k, &shown.entry.act);
-        self.config.go(k, shown.gone);
-        Ok(shown.entry)
+        Ok(entry)
     }
 
     /// Takes the turn of a task that meets a node that is ready.
@@ -182,14 +162,19 @@ impl Low {
                 return Err(error);
             }
         };
-        let shown = self.shown(alloc, k, Some(n), act, reply)?;
-        if let Err(error) = self.config.reserve(alloc, n, &shown.entry.act) {
-            drop(shown);
+        let entry = self.shown(alloc, k, Some(n), act, reply)?;
+        if let Err(error) = self.config.turn_serving(
+            alloc,
+            &self.script,
+            self.longest,
+            &self.observer,
+            n,
+            &entry,
+        ) {
+            drop(entry);
             return Err(error);
         }
-        self.config.serve(n, &shown.entry.act);
-        self.config.go(k, shown.gone);
-        Ok(shown.entry)
+        Ok(entry)
     }
 
     /// Takes the turn of a task that writes or sends to a cell that is left out: it changes the actor alone.
@@ -200,9 +185,15 @@ impl Low {
         ensures ok { IfOk result (Moves (low_of self.old) (low_of self.new) k act) }
         ensures err { OnErr result (low_of self.new ≡ low_of self.old) }
     {
-        let shown = self.shown(alloc, k, Some(n), act, Reply::Done)?;
-        self.config.go(k, shown.gone);
-        Ok(shown.entry)
+        let entry = self.shown(alloc, k, Some(n), act, Reply::Done)?;
+        if let Err(error) = self
+            .config
+            .turn_alone(alloc, &self.script, self.longest, &self.observer, &entry)
+        {
+            drop(entry);
+            return Err(error);
+        }
+        Ok(entry)
     }
 
     /// Takes the turn of a task that makes a node. It is placed only where nothing is.
@@ -212,18 +203,27 @@ impl Low {
         ensures ok { IfOk result (Moves (low_of self.old) (low_of self.new) k act) }
         ensures err { OnErr result (low_of self.new ≡ low_of self.old) }
     {
-        let shown = self.shown(alloc, k, Some(n), act, Reply::Done)?;
-        match self.made(alloc, &shown.entry) {
-            Ok(cell) => {
-                self.config.place(n, cell);
-                self.config.go(k, shown.gone);
-                Ok(shown.entry)
-            }
+        let entry = self.shown(alloc, k, Some(n), act, Reply::Done)?;
+        let cell = match self.made(alloc, &entry) {
+            Ok(cell) => cell,
             Err(error) => {
-                drop(shown);
-                Err(error)
+                drop(entry);
+                return Err(error);
             }
+        };
+        if let Err(error) = self.config.turn_placing(
+            alloc,
+            &self.script,
+            self.longest,
+            &self.observer,
+            n,
+            cell,
+            &entry,
+        ) {
+            drop(entry);
+            return Err(error);
         }
+        Ok(entry)
     }
 
     /// The node that the act of an entry makes, as the observer sees it.

@@ -10,10 +10,11 @@ ghost use Rattle.lio_named.specs.Configuration.{NamesOnly};
 ghost use Rattle.lio_erasure.specs.Low.{LeavesOutBlanks, low_configuration_of};
 ghost use Rattle.lio_erasure.specs.LowParts.{low_of};
 
-use crate::answer::{Answer, Answered, Refusal};
+use crate::refusal::{Answered, Refusal};
 use crate::runs::{Source, prepared, read_viewer, released};
 use crate::turns::push_refused;
 use lio_clauses::{Names, NoMemory};
+use lio_commands::Answer;
 use lio_erasure::{Low, LowConfig, LowFault, erase_config};
 use lio_events::print_entry;
 use lio_fields::read_numbers;
@@ -22,15 +23,36 @@ use lio_policy::Policy;
 use lio_policy::laws::policy_keeps_rules;
 use lio_start::start;
 use lio_syntax::Script;
+use lio_task::Holder;
 use lio_values::{Entry, Text};
 use lio_view::Contents;
-use std::alloc::Global;
+use std::alloc::{AllocError, Global};
+use std::fmt::Write;
 
-/// What a command on the erased calculus answers, if the word is that of one.
+/// What is asked of the erased calculus.
+#[derive(Clone, Copy)]
+enum Asked {
+    /// Turns, with what the run releases to the observer.
+    Turns,
+    /// Turns, with nothing released.
+    TurnsUntold,
+    /// The cells that are kept after turns, with what the run releases to the observer.
+    Cells,
+}
+
+/// What a command on the erased calculus answers, if the word and the number of fields are those of one.
 pub fn answer(alloc: Global, word: &[u8], fields: &[Vec<u8>]) -> Answered {
-    match word {
-        b"low" => Some(low(alloc, fields, true)),
-        b"low_without" => Some(low(alloc, fields, false)),
+    let asked = match word {
+        b"low" => Asked::Turns,
+        b"low_without" => Asked::TurnsUntold,
+        b"cells" => Asked::Cells,
+        _ => return None,
+    };
+    match fields {
+        [label, actors, json, script, inputs @ ..] => {
+            let source = Source { script, inputs };
+            Some(low(alloc, asked, label, actors, json, source))
+        }
         _ => None,
     }
 }
@@ -113,6 +135,16 @@ fn push_entry(alloc: Global, text: &mut Vec<u8>, entry: Entry, names: &Names) ->
     Ok(text.extend_from_slice(line?.as_slice())?)
 }
 
+/// The text of the turns that were taken, and behind it why a task takes none.
+fn stopped(alloc: Global, mut text: Vec<u8>, fault: LowFault) -> Result<Vec<u8>, Refusal> {
+    match fault {
+        LowFault::Still(k) => push_refused(alloc, &mut text, "still", k)?,
+        LowFault::NoRelease(k) => push_refused(alloc, &mut text, "no release", k)?,
+        LowFault::NoMemory => return Err(Refusal::from(NoMemory)),
+    }
+    Ok(text)
+}
+
 /// The turns of tasks, up to the first that takes none, and how many released contents are left.
 fn turns(
     alloc: Global,
@@ -128,20 +160,42 @@ fn turns(
     for k in schedule {
         match turn(alloc, low, contents, names, *k) {
             Ok(entry) => push_entry(alloc, &mut text, entry, names)?,
-            Err(LowFault::Still(_)) => {
-                push_refused(alloc, &mut text, "still", *k)?;
-                return Ok(text);
-            }
-            Err(LowFault::NoRelease(_)) => {
-                push_refused(alloc, &mut text, "no release", *k)?;
-                return Ok(text);
-            }
-            Err(LowFault::NoMemory) => return Err(Refusal::NoMemory),
+            Err(fault) => return stopped(alloc, text, fault),
         }
     }
     let left = contents.as_slice().len();
     text.extend_from_slice(format!(in alloc; "left {left}")?.as_bytes())?;
     Ok(text)
+}
+
+/// The numbers of the cells that aren't left out, with one blank between two.
+fn kept(alloc: Global, cells: &[Option<Holder>]) -> Result<Vec<u8>, AllocError> {
+    let mut text = String::new(alloc);
+    for (number, cell) in cells.iter().enumerate() {
+        if cell.is_some() {
+            if !text.is_empty() {
+                text.push_str(" ")?;
+            }
+            write!(text, "{number}")?;
+        }
+    }
+    Ok(text.into_bytes())
+}
+
+/// The numbers of the cells that are kept after the turns of tasks, or why a task takes none.
+fn cells(
+    alloc: Global,
+    low: &mut Low,
+    contents: &mut Contents,
+    schedule: &[u32],
+) -> Result<Vec<u8>, Refusal> {
+    for k in schedule {
+        match low.turn(alloc, *k, contents) {
+            Ok(entry) => drop(entry),
+            Err(fault) => return stopped(alloc, Vec::new(alloc), fault),
+        }
+    }
+    Ok(kept(alloc, low.config().as_slice())?)
 }
 
 /// The contents that an observer is told: those that the run by rounds releases to it, or none.
@@ -150,14 +204,13 @@ fn told(
     policy: &Policy,
     observer: &Label,
     source: Source<'_>,
-    is_told: bool,
+    asked: Asked,
 ) -> Result<Contents, Refusal>
     ensures { IfOk result (All (IsContentNamed policy.now.names)) }
 {
-    if is_told {
-        released(alloc, policy, observer, source)
-    } else {
-        Ok(Contents::new(alloc))
+    match asked {
+        Asked::TurnsUntold => Ok(Contents::new(alloc)),
+        Asked::Turns | Asked::Cells => released(alloc, policy, observer, source),
     }
 }
 
@@ -176,53 +229,70 @@ fn begun(
     Ok(low?)
 }
 
-/// The turns of tasks from the start of the run, with these contents.
-fn turns_with(
+/// What is asked after turns of tasks from the start of the run, with these contents.
+fn asked_with(
     alloc: Global,
     policy: &Policy,
     observer: &Label,
     contents: &mut Contents,
     schedule: &[u32],
     source: Source<'_>,
+    asked: Asked,
 ) -> Result<Vec<u8>, Refusal>
     requires { All (IsContentNamed policy.now.names) contents.old }
 {
     let mut low = begun(alloc, policy, observer, source)?;
-    let text = turns(alloc, &mut low, contents, &policy.names, schedule);
+    let text = match asked {
+        Asked::Cells => cells(alloc, &mut low, contents, schedule),
+        Asked::Turns | Asked::TurnsUntold => {
+            turns(alloc, &mut low, contents, &policy.names, schedule)
+        }
+    };
     drop(low);
     text
 }
 
-/// The turns of tasks from the start of the run, with the contents that the observer is told.
-fn turns_of(
+/// What is asked after turns of tasks from the start of the run, with the contents that the observer is told.
+fn asked_of(
     alloc: Global,
     policy: &Policy,
     observer: &Label,
     schedule: &[u32],
     source: Source<'_>,
-    is_told: bool,
+    asked: Asked,
 ) -> Result<Answer, Refusal> {
-    let mut contents = told(alloc, policy, observer, source, is_told)?;
-    let text = turns_with(alloc, policy, observer, &mut contents, schedule, source);
+    let mut contents = told(alloc, policy, observer, source, asked)?;
+    let text = asked_with(
+        alloc,
+        policy,
+        observer,
+        &mut contents,
+        schedule,
+        source,
+        asked,
+    );
     drop(contents);
     Ok(Answer::Text(text?))
 }
 
 /// `low LABEL ACTORS JSON SCRIPT INPUT ..`: the turns of these tasks in the erased calculus, from what an observer at the label sees of the start
-/// of the run, with what the run releases to it; `low_without`: the same with nothing released.
-fn low(alloc: Global, fields: &[Vec<u8>], is_told: bool) -> Result<Answer, Refusal> {
-    let [label, actors, json, script, inputs @ ..] = fields else {
-        return Err(Refusal::NoCommand);
-    };
+/// of the run, with what the run releases to it; `low_without`: the same with nothing released; `cells`: the cells that are kept after these turns.
+fn low(
+    alloc: Global,
+    asked: Asked,
+    label: &[u8],
+    actors: &[u8],
+    json: &[u8],
+    source: Source<'_>,
+) -> Result<Answer, Refusal> {
     let schedule = read_numbers(alloc, actors)?;
     let seen = read_viewer(alloc, label, json)?;
-    let source = Source { script, inputs };
-    turns_of(
+    asked_of(
         alloc,
         &seen.policy,
         &seen.observer,
         schedule.as_slice(),
         source,
-        is_told,
+        asked,
     )
 }

@@ -1,24 +1,32 @@
 //! Answers commands of one line, one line each: the worked examples of the libraries, as data.
 #![tactic(auto)]
 
-mod answer;
-mod entries;
-mod formulas;
-mod labels;
 mod low;
-mod names;
-mod operators;
 mod policies;
+mod refusal;
 mod runs;
 mod scripts;
 mod session;
 mod turns;
 
-use answer::write_answer;
+use lio_commands::Answer;
+use refusal::Refusal;
 use session::Session;
 use std::alloc::Global;
 use std::io;
 use std::io::{BufRead, BufReader, BufWriter, ErrorKind, Write};
+
+/// Writes what a command answers, without a line end.
+fn write_answer<W: Write>(
+    alloc: Global,
+    answer: Result<Answer, Refusal>,
+    output: &mut W,
+) -> io::Result<()> {
+    match answer {
+        Ok(answer) => answer.write(alloc, output),
+        Err(refusal) => write!(output, "{refusal}"),
+    }
+}
 
 /// Writes the line that a line is answered by. A line without bytes, and one that begins with `#`, is written as it is.
 fn respond<W: Write>(

@@ -1,6 +1,7 @@
 //! Commands on policies.
 
-use crate::answer::{Answer, Answered, Refusal};
+use crate::refusal::{Answered, Refusal};
+use lio_commands::Answer;
 use lio_fields::read_number;
 use lio_policy::{EntryAt, EntryKind, Policy, entry_at, read_policy};
 use std::alloc::{AllocError, Global};

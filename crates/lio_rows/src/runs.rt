@@ -5,8 +5,9 @@ ghost use Rattle.lio_events.specs.Printable.{IsPrintable};
 ghost use Rattle.lio_start.specs.Fits.{fits};
 ghost use Rattle.lio_syntax.specs.Verdict.{IsOver};
 
-use crate::answer::{Answer, Answered, Refusal};
+use crate::refusal::{Answered, Refusal};
 use lio_clauses::{Names, NoMemory};
+use lio_commands::Answer;
 use lio_events::{Journal, print_content, print_journal};
 use lio_labels::Label;
 use lio_policy::{Policy, read_policy};
@@ -137,7 +138,7 @@ pub fn read_viewer(alloc: Global, label: &[u8], json: &[u8]) -> Result<Viewer, R
         Ok(observer) => Ok(Viewer { policy, observer }),
         Err(fault) => {
             drop(policy);
-            Err(Refusal::Text(fault))
+            Err(Refusal::from(fault))
         }
     }
 }
@@ -258,7 +259,7 @@ fn ended(alloc: Global, entry: &Entry, names: &Names) -> Result<Answer, Refusal>
 {
     match &entry.act {
         Act::Ended(content) => Ok(Answer::Text(print_content(alloc, content.get(), names)?)),
-        _ => Err(Refusal::NoCommand),
+        _ => Err(Refusal::from(lio_commands::Refusal::NoCommand)),
     }
 }
 
@@ -268,7 +269,7 @@ fn last_ended(alloc: Global, journal: &Journal, names: &Names) -> Result<Answer,
 {
     match journal.entries().last() {
         Some(entry) => ended(alloc, entry, names),
-        None => Err(Refusal::NoCommand),
+        None => Err(Refusal::from(lio_commands::Refusal::NoCommand)),
     }
 }
 

@@ -1,9 +1,10 @@
 //! Commands on scripts.
 ghost use Rattle.lio_syntax.specs.Verdict.{IsOver};
 
-use crate::answer::{Answer, Answered, Refusal};
+use crate::refusal::{Answered, Refusal};
 use lio_clauses::{Names, NoMemory};
-use lio_syntax::{Script, ScriptFault, print_script, read_script};
+use lio_commands::Answer;
+use lio_syntax::{Script, print_script, read_script};
 use std::alloc::Global;
 
 /// What a command on scripts answers, if the word and the number of fields are those of one.
@@ -37,13 +38,4 @@ fn copy(alloc: Global, names: &Names, text: &[u8]) -> Result<Answer, Refusal> {
     let text = copied(alloc, names, &script);
     drop(script);
     Ok(Answer::Text(text?))
-}
-
-impl From<ScriptFault> for Refusal {
-    fn from(fault: ScriptFault) -> Refusal {
-        match fault {
-            ScriptFault::Bad { line, rule } => Refusal::BadScript(line, rule),
-            ScriptFault::NoMemory => Refusal::NoMemory,
-        }
-    }
 }

@@ -1,8 +1,9 @@
 //! What a command finds from those before it, and which command does what.
 
-use crate::answer::{Answer, Answered, Refusal};
-use crate::{entries, formulas, labels, low, names, operators, policies, runs, scripts, turns};
+use crate::refusal::{Answered, Refusal};
+use crate::{low, policies, runs, scripts, turns};
 use lio_clauses::{Names, NoMemory};
+use lio_commands::Answer;
 use lio_fields::read_command;
 use std::alloc::Global;
 
@@ -25,29 +26,18 @@ impl Session {
     pub fn answer(&mut self, alloc: Global, line: &[u8]) -> Result<Answer, Refusal> {
         let command = read_command(alloc, line)?;
         let fields = command.fields.as_slice();
-        match command.word {
-            b"names" => names::begin(alloc, &mut self.names, fields),
-            b"add" => names::add(alloc, &mut self.names, fields),
-            b"find" => names::find(alloc, &self.names, fields),
-            word => answer(alloc, &self.names, word, fields).unwrap_or(Err(Refusal::NoCommand)),
+        if let Some(answer) = lio_commands::answer(alloc, &mut self.names, command.word, fields) {
+            return answer.map_err(Refusal::from);
+        }
+        match answer(alloc, &self.names, command.word, fields) {
+            Some(answer) => answer,
+            None => Err(Refusal::from(lio_commands::Refusal::NoCommand)),
         }
     }
 }
 
-/// What a command answers that changes nothing, if the word and the number of fields are those of one.
+/// What a command answers that runs something, or reads what can be run, if the word and the number of fields are those of one.
 fn answer(alloc: Global, names: &Names, word: &[u8], fields: &[Vec<u8>]) -> Answered {
-    if let Some(answer) = formulas::answer(alloc, names, word, fields) {
-        return Some(answer);
-    }
-    if let Some(answer) = labels::answer(alloc, names, word, fields) {
-        return Some(answer);
-    }
-    if let Some(answer) = entries::answer(alloc, names, word, fields) {
-        return Some(answer);
-    }
-    if let Some(answer) = operators::answer(alloc, names, word, fields) {
-        return Some(answer);
-    }
     if let Some(answer) = scripts::answer(alloc, names, word, fields) {
         return Some(answer);
     }

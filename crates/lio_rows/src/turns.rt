@@ -2,8 +2,9 @@
 ghost use Rattle.std.specs.Prelude.{All, IfOk};
 ghost use Rattle.lio_events.specs.Printable.{IsPrintable};
 
-use crate::answer::{Answer, Answered, Refusal};
+use crate::refusal::{Answered, Refusal};
 use crate::runs::{Source, prepared};
+use lio_commands::Answer;
 use lio_events::{Journal, print_journal};
 use lio_fields::read_numbers;
 use lio_policy::{Policy, read_policy};
@@ -12,8 +13,10 @@ use std::alloc::{AllocError, Global};
 
 /// What a command on turns answers, if the word and the number of fields are those of one.
 pub fn answer(alloc: Global, word: &[u8], fields: &[Vec<u8>]) -> Answered {
-    match word {
-        b"turns" => Some(turns(alloc, fields)),
+    match (word, fields) {
+        (b"turns", [actors, json, script, inputs @ ..]) => {
+            Some(turns(alloc, actors, json, Source { script, inputs }))
+        }
         _ => None,
     }
 }
@@ -89,12 +92,8 @@ fn told(
 }
 
 /// `turns ACTORS JSON SCRIPT INPUT ..`: the turns of these tasks one after another, each told by its entry, or as `still` where the task can't take it.
-fn turns(alloc: Global, fields: &[Vec<u8>]) -> Result<Answer, Refusal> {
-    let [actors, json, script, inputs @ ..] = fields else {
-        return Err(Refusal::NoCommand);
-    };
+fn turns(alloc: Global, actors: &[u8], json: &[u8], source: Source<'_>) -> Result<Answer, Refusal> {
     let schedule = read_numbers(alloc, actors)?;
     let policy = read_policy(alloc, json)?;
-    let source = Source { script, inputs };
     told(alloc, &policy, source, schedule.as_slice())
 }

@@ -1,59 +1,59 @@
-use Rattle.std.proofs.Common.{◌≡◌, ◌∙◌, refl, sym, ap, subst, true, Option, Some, is_some}
+use Rattle.std.proofs.Common.{◌∙◌, refl, ap, Option, None, is_some}
 use Rattle.std.proofs.lemmas.Result.{IfOk-from_err}
-use Rattle.lio_cells.specs.Node.{takes_part}
-use Rattle.lio_calculus.specs.Step.{Configuration, cell_at}
 use Rattle.lio_task.specs.declared.task.Task.{Task}
-use Rattle.lio_erasure.specs.Low.{IsErased, low_task_in}
-use Rattle.lio_erasure.specs.LowParts.{LowParts, LowState, low_of}
-use Rattle.lio_erasure.proofs.FieldLemmas.{own-goes}
+use Rattle.lio_erasure.specs.Low.{low_task_in}
+use Rattle.lio_erasure.specs.LowParts.{LowParts}
+use Rattle.lio_erasure.proofs.FieldLemmas.{can-go, erased-now, own-goes, same-erased, same-low_of}
 use Rattle.lio_erasure.proofs.ResultLemmas.{on_err}
-use Rattle.lio_erasure.proofs.ServeLemmas.{can-serve, own-part, task-there}
+use Rattle.lio_erasure.proofs.ServeLemmas.{own-part, task-there}
+use Rattle.lio_erasure.proofs.TurnLemmas.{ActsIn, own-acts}
 use Rattle.lio_erasure.proofs.low.Low.own.Goals as goal
 
-pub shown-requires : goal.shown-requires
-shown-requires c = ap (λ (task : Option Task). is_some task) c.requires.is
+pub shown-requires-clause-there : goal.shown-requires-clause-there
+shown-requires-clause-there c = ap (λ (task : Option Task). is_some task) c.requires.is
+
+pub shown-requires-clause-seen : goal.shown-requires-clause-seen
+shown-requires-clause-seen c =
+    let inside : LowParts = record { script = c.self.inside.script; longest = c.self.inside.longest; observer = c.self.inside.observer; holders = c.self.inside.config } in
+    (own-acts c.args.self.now c.args.k c.args.act c.args.reply (erased-now inside c.args.self.now c.self.view_is c.self.invariant.0) c.requires).acts.seen
 
 pub same-self : goal.same-self
 same-self c = refl
 
-pub returns-in_err-shown-clause-ok : goal.returns-in_err-shown-clause-ok
-returns-in_err-shown-clause-ok c = IfOk-from_err c.from_residual.result _ c.from_residual.ensures.0
+pub returns-in_err-entry-clause-ok : goal.returns-in_err-entry-clause-ok
+returns-in_err-entry-clause-ok c = IfOk-from_err c.from_residual.result _ c.from_residual.ensures.0
 
-pub returns-in_err-shown-clause-err : goal.returns-in_err-shown-clause-err
-returns-in_err-shown-clause-err c = on_err _ c.from_residual.result refl
+pub returns-in_err-entry-clause-err : goal.returns-in_err-entry-clause-err
+returns-in_err-entry-clause-err c = on_err _ c.from_residual.result refl
 
-pub invariant_of-self : goal.invariant_of-self
-invariant_of-self c = (subst (IsErased c.self.inside.observer) (sym (c.reserve.ensures.same c.self.inside.script c.self.inside.longest)) c.self.invariant.0, c.reserve.ensures.kept c.self.invariant.1)
-
-pub returns-in-Err-clause-err : goal.returns-in-Err-clause-err
-returns-in-Err-clause-err c =
-    ap (λ (d : Configuration). let state : LowState = record { observer = c.self.inside.observer; configuration = d } in state) (c.reserve.ensures.same c.self.inside.script c.self.inside.longest)
-    ∙ ap low_of c.self.view_is
-
-pub serve-requires : goal.serve-requires
-serve-requires c =
+pub turn_serving-requires-clause-advances : goal.turn_serving-requires-clause-advances
+turn_serving-requires-clause-advances c =
     let inside : LowParts = record { script = c.self.inside.script; longest = c.self.inside.longest; observer = c.self.inside.observer; holders = c.self.inside.config } in
-    let is : low_task_in inside.holders c.args.k ≡ Some c.requires.task = ap (λ (parts : LowParts). low_task_in parts.holders c.args.k) c.self.view_is ∙ c.requires.is in
-    can-serve inside.script inside.longest c.reserve.new.self c.args.k c.in_ok-shown.shown.entry.act (c.reserve.ensures.there (task-there inside.holders c.args.k c.requires.task is)) c.in_default.ensures.room
-    (subst (λ (d : Configuration). takes_part (cell_at d c.args.k).state c.in_ok-shown.shown.entry.act ≡ true) (sym (c.reserve.ensures.same inside.script inside.longest))
-    (own-part inside.script inside.longest inside.holders c.args.k c.requires.task c.in_ok-shown.shown.entry.act is c.self.invariant.0.jobs))
+    let acts : ActsIn c.args.self.now c.args.k c.args.act c.args.reply = own-acts c.args.self.now c.args.k c.args.act c.args.reply (erased-now inside c.args.self.now c.self.view_is c.self.invariant.0) c.requires in
+    can-go inside c.args.self.now c.args.k None c.args.act c.args.reply c.in_ok-entry.entry c.self.view_is acts c.in_ok-entry.ensures
 
-pub go-requires : goal.go-requires
-go-requires c =
-    c.serve.ensures.there c.args.k (c.reserve.ensures.there (task-there c.self.inside.config c.args.k c.requires.task (ap (λ (parts : LowParts). low_task_in parts.holders c.args.k) c.self.view_is ∙ c.requires.is)))
+pub turn_serving-requires-clause-there : goal.turn_serving-requires-clause-there
+turn_serving-requires-clause-there c = task-there c.self.inside.config c.args.k c.requires.task (ap (λ (parts : LowParts). low_task_in parts.holders c.args.k) c.self.view_is ∙ c.requires.is)
+
+pub turn_serving-requires-clause-takes_part : goal.turn_serving-requires-clause-takes_part
+turn_serving-requires-clause-takes_part c =
+    own-part c.self.inside.script c.self.inside.longest c.self.inside.config c.args.k c.requires.task c.in_ok-entry.entry.act
+    (ap (λ (parts : LowParts). low_task_in parts.holders c.args.k) c.self.view_is ∙ c.requires.is) c.self.invariant.0.jobs
 
 pub invariant_of-self-2 : goal.invariant_of-self-2
 invariant_of-self-2 c =
     let inside : LowParts = record { script = c.self.inside.script; longest = c.self.inside.longest; observer = c.self.inside.observer; holders = c.self.inside.config } in (
-      (own-goes inside c.args.self.now c.reserve.new.self c.serve.new.self c.go.new.self c.args.k c.args.act c.args.reply c.in_ok-shown.shown c.self.view_is c.self.invariant.0
-          (c.reserve.ensures.same inside.script inside.longest) (c.serve.ensures.serves inside.script inside.longest) (c.go.ensures.goes inside.script inside.longest) c.requires
-          (c.in_ok-shown.ensures c.requires.task c.requires.is)).1,
-      c.go.ensures.kept (c.serve.ensures.kept (c.reserve.ensures.kept c.self.invariant.1)),
+      (own-goes inside c.args.self.now c.turn_serving.new.self c.args.k c.args.act c.args.reply c.in_ok-entry.entry c.self.view_is c.self.invariant.0 c.in_default.ensures.ok c.requires c.in_ok-entry.ensures).1,
+      c.turn_serving.ensures.kept c.self.invariant.1,
     )
 
 pub returns-clause-ok : goal.returns-clause-ok
 returns-clause-ok c =
     let inside : LowParts = record { script = c.self.inside.script; longest = c.self.inside.longest; observer = c.self.inside.observer; holders = c.self.inside.config } in
-    (own-goes inside c.args.self.now c.reserve.new.self c.serve.new.self c.go.new.self c.args.k c.args.act c.args.reply c.in_ok-shown.shown c.self.view_is c.self.invariant.0
-    (c.reserve.ensures.same inside.script inside.longest) (c.serve.ensures.serves inside.script inside.longest) (c.go.ensures.goes inside.script inside.longest) c.requires
-    (c.in_ok-shown.ensures c.requires.task c.requires.is)).0
+    (own-goes inside c.args.self.now c.turn_serving.new.self c.args.k c.args.act c.args.reply c.in_ok-entry.entry c.self.view_is c.self.invariant.0 c.in_default.ensures.ok c.requires c.in_ok-entry.ensures).0
+
+pub invariant_of-self : goal.invariant_of-self
+invariant_of-self c = (same-erased (record { script = c.self.inside.script; longest = c.self.inside.longest; observer = c.self.inside.observer; holders = c.self.inside.config }) c.turn_serving.new.self c.in-Err.ensures.err c.self.invariant.0, c.turn_serving.ensures.kept c.self.invariant.1)
+
+pub returns-in-Err-clause-err : goal.returns-in-Err-clause-err
+returns-in-Err-clause-err c = same-low_of (record { script = c.self.inside.script; longest = c.self.inside.longest; observer = c.self.inside.observer; holders = c.self.inside.config }) c.args.self.now c.turn_serving.new.self c.self.view_is c.in-Err.ensures.err

@@ -1,4 +1,4 @@
-use Rattle.std.proofs.Common.{◌≡◌, ◌∙◌, refl, sym, ap, List, ◌∷◌, Some}
+use Rattle.std.proofs.Common.{◌≡◌, ◌∙◌, refl, sym, ap, List, ◌∷◌, Some, inl, inr}
 use Rattle.lio_values.specs.declared.value.Content.{Content}
 use Rattle.lio_values.specs.declared.act.Act.{Act}
 use Rattle.lio_values.specs.declared.act.Reply.{Reply}
@@ -11,10 +11,17 @@ use Rattle.lio_erasure.proofs.TurnLemmas.{act-move, lacks-release, takes-turn, t
 use Rattle.lio_erasure.proofs.low.Low.release.Goals as goal
 
 pub own-requires : goal.own-requires
-own-requires c = record { task = c.requires.task; is = c.requires.is; asked = c.args.act; onward = c.requires.onward; plans = c.requires.plans }
+own-requires c = record { task = c.requires.task; is = c.requires.is; planned = c.args.act; onward = c.requires.onward; plans = c.requires.plans; told = inl refl }
 
 pub own-requires-in-Ok-Some : goal.own-requires-in-Ok-Some
-own-requires-in-Ok-Some c = record { task = c.requires.task; is = c.requires.is; asked = c.args.act; onward = c.requires.onward; plans = c.requires.plans }
+own-requires-in-Ok-Some c = record {
+  task = c.requires.task;
+  is = c.requires.is;
+  planned = c.args.act;
+  onward = c.requires.onward;
+  plans = c.requires.plans;
+  told = inr (c.in-Ok-Some.content, c.with_content.ensures);
+}
 
 pub returns-then-not-lacks_content-clause-ok : goal.returns-then-not-lacks_content-clause-ok
 returns-then-not-lacks_content-clause-ok c =

@@ -1,4 +1,0 @@
-use Rattle.lio_rows.proofs.entries.copied.Goals as goal
-
-pub line-requires : goal.line-requires
-line-requires c = rw c.in_ok-copy.ensures c.requires
