@@ -103,7 +103,9 @@ fn fetch_file<R: Files>(
 ) -> Result<Vec<u8>, FetchFault>
     ensures within { IfOk result (λ v. vec_len v ≤ limit + 1) }
 {
-    let path = str::from_utf8(name).map_err(|_| FetchFault::Missing)?;
+    let Ok(path) = str::from_utf8(name) else {
+        return Err(FetchFault::Missing);
+    };
     let mut file = fs::open(rt, path).map_err(|error| open_fault(&error))?;
     read_up_to(&mut file, alloc, limit as usize + 1).map_err(|error| read_fault(&error))
 }
@@ -134,20 +136,34 @@ enum Place {
     Other,
 }
 
-/// Puts the bytes under the name, by way of a new file beside it where that can be had. Memory is taken before any file is
-/// touched.
+/// Puts the bytes under the name. Memory is taken before any file is touched.
 fn keep_file<R: Files>(rt: &R, alloc: Global, name: &[u8], bytes: &[u8]) -> Result<(), KeepFault> {
-    let path = str::from_utf8(name).map_err(|_| KeepFault::Failed)?;
-    let permissions = match place_of(rt, path).map_err(|_| KeepFault::Failed)? {
-        Place::Free => None,
-        Place::Plain(permissions) => Some(permissions),
-        Place::Other => return write_in_place(rt, path, bytes).map_err(|_| KeepFault::Failed),
+    let Ok(path) = str::from_utf8(name) else {
+        return Err(KeepFault::Failed);
     };
-    match new_neighbour(rt, alloc, path).map_err(|_| KeepFault::NoMemory)? {
-        Some(neighbour) => replace(rt, path, neighbour, permissions, bytes),
-        None => write_in_place(rt, path, bytes),
+    match place_of(rt, path) {
+        Ok(Place::Free) => put_beside(rt, alloc, path, None, bytes),
+        Ok(Place::Plain(permissions)) => put_beside(rt, alloc, path, Some(permissions), bytes),
+        Ok(Place::Other) => write_in_place(rt, path, bytes).or(Err(KeepFault::Failed)),
+        Err(_) => Err(KeepFault::Failed),
     }
-    .map_err(|_| KeepFault::Failed)
+}
+
+/// Puts the bytes under a path, by way of a new file beside it where that can be had.
+fn put_beside<R: Files>(
+    rt: &R,
+    alloc: Global,
+    path: &str,
+    permissions: Option<Permissions>,
+    bytes: &[u8],
+) -> Result<(), KeepFault> {
+    match new_neighbour(rt, alloc, path) {
+        Ok(Some(neighbour)) => {
+            replace(rt, path, neighbour, permissions, bytes).or(Err(KeepFault::Failed))
+        }
+        Ok(None) => write_in_place(rt, path, bytes).or(Err(KeepFault::Failed)),
+        Err(_) => Err(KeepFault::NoMemory),
+    }
 }
 
 /// What stands under a name. It fails where a plain file may not be written.
@@ -210,7 +226,10 @@ fn replace<R: Files>(
     bytes: &[u8],
 ) -> io::Result<()> {
     let Neighbour { file, name } = neighbour;
-    let replaced = fill(file, permissions, bytes).and_then(|()| fs::rename(rt, &name, path));
+    let replaced = match fill(file, permissions, bytes) {
+        Ok(()) => fs::rename(rt, &name, path),
+        refused => refused,
+    };
     if replaced.is_err() {
         let _ = fs::remove_file(rt, &name);
     }

@@ -5,13 +5,13 @@ ghost use Rattle.lio_outside.specs.Count.{Rose};
 ghost use Rattle.lio_outside.specs.Fetch.{given};
 
 use crate::{FetchFault, KeepFault, MemStore, RealStore, Store, SureStore};
-use std::alloc::{Allocator, Global};
+use std::alloc::{AllocError, Allocator, Global};
 use std::cell::Cell;
+use std::fmt::Debug;
 use std::fs::{Metadata, OpenFile, OpenOptions, Permissions};
 use std::io::{ErrorKind, Read, Seek, SeekFrom, Write};
 use std::process::{Abort, Process};
-use std::rt::{Env, Files};
-use std::test::Fail;
+use std::rt::Files;
 use std::{env, fs, io, process};
 
 /// Why a file was not copied.
@@ -40,6 +40,11 @@ fn copy_file<S: Store>(
         .map_err(CopyFault::Keep)
 }
 
+/// Compares two values.
+fn check_same<T: PartialEq + Debug>(rt: &impl Abort, got: &T, want: &T) {
+    assert_eq!(rt; *got, *want);
+}
+
 /// Fetches from any store and compares the answer.
 fn check_fetch<S: Store>(
     rt: &impl Abort,
@@ -49,8 +54,8 @@ fn check_fetch<S: Store>(
     want: Result<&[u8], FetchFault>,
 ) {
     match store.fetch(alloc, name, limit) {
-        Ok(bytes) => assert_eq!(rt; Ok(bytes.as_slice()), want),
-        Err(fault) => assert_eq!(rt; Err(fault), want),
+        Ok(bytes) => check_same(rt, &Ok(bytes.as_slice()), &want),
+        Err(fault) => check_same(rt, &Err(fault), &want),
     }
 }
 
@@ -62,45 +67,62 @@ fn check_keep<S: Store>(
     (name, bytes): (&[u8], &[u8]),
     want: Result<(), KeepFault>,
 ) {
-    assert_eq!(rt; store.keep(alloc, name, bytes), want);
+    check_same(rt, &store.keep(alloc, name, bytes), &want);
+}
+
+/// Compares the count of faults of a store over files.
+fn check_faults<R>(rt: &impl Abort, store: &RealStore<R>, want: u64) {
+    check_same(rt, &store.fault_count(), &want);
 }
 
 #[test]
-fn mem_store_fails_by_list(rt: HostRuntime) -> Result<(), Fail> {
-    let alloc = rt.alloc();
-    let mut store = MemStore::new(alloc, vec![in alloc; 2, 4]?);
-    store.put(alloc, b"a", b"hello")?;
-    check_fetch(&rt, &mut store, alloc, (b"a", 2), Ok(b"hel"));
-    check_keep(&rt, &mut store, alloc, (b"b", b"new"), Ok(()));
-    check_keep(
-        &rt,
-        &mut store,
-        alloc,
-        (b"a", b"lost"),
-        Err(KeepFault::Failed),
-    );
-    check_fetch(&rt, &mut store, alloc, (b"c", 9), Err(FetchFault::Missing));
-    check_fetch(&rt, &mut store, alloc, (b"b", 9), Err(FetchFault::Failed));
-    check_fetch(&rt, &mut store, alloc, (b"b", 9), Ok(b"new"));
-    assert_eq!(rt; store.get(b"a"), Some(b"hello".as_slice()));
-    assert_eq!(rt; (store.call_count(), store.fault_count()), (6, 2));
+fn mem_store_fails_by_list(rt: HostRuntime) -> Result<(), AllocError> {
+    let failing = vec![in rt.alloc(); 2, 4]?;
+    let mut store = MemStore::new(rt.alloc(), failing);
+    check_put(&rt, rt.alloc(), &mut store);
+    check_calls_by_list(&rt, rt.alloc(), &mut store);
+    check_end_by_list(&rt, &store);
     Ok(())
 }
 
+/// A file that is put in before the first call.
+fn check_put(rt: &impl Abort, alloc: Global, store: &mut MemStore) {
+    check_same(rt, &store.put(alloc, b"a", b"hello"), &Ok(()));
+}
+
+/// Six calls, of which the third and the fifth are to fail.
+fn check_calls_by_list<S: Store>(rt: &impl Abort, alloc: Global, store: &mut S) {
+    check_fetch(rt, store, alloc, (b"a", 2), Ok(b"hel"));
+    check_keep(rt, store, alloc, (b"b", b"new"), Ok(()));
+    check_keep(rt, store, alloc, (b"a", b"lost"), Err(KeepFault::Failed));
+    check_fetch(rt, store, alloc, (b"c", 9), Err(FetchFault::Missing));
+    check_fetch(rt, store, alloc, (b"b", 9), Err(FetchFault::Failed));
+    check_fetch(rt, store, alloc, (b"b", 9), Ok(b"new"));
+}
+
+/// The store after these six calls.
+fn check_end_by_list(rt: &impl Abort, store: &MemStore) {
+    check_same(rt, &store.get(b"a"), &Some(b"hello".as_slice()));
+    check_same(rt, &(store.call_count(), store.fault_count()), &(6, 2));
+}
+
 #[test]
-fn sure_store_keeps(rt: HostRuntime) -> Result<(), Fail> {
-    let alloc = rt.alloc();
-    let mut store = SureStore::new(alloc);
-    check_keep(&rt, &mut store, alloc, (b"a", b"hello"), Ok(()));
-    copy_file(alloc, &mut store, b"a", b"b", 3)?;
-    assert_eq!(rt; store.get(b"b"), Some(b"hell".as_slice()));
-    check_fetch(&rt, &mut store, alloc, (b"b", u32::MAX), Ok(b"hell"));
-    check_fetch(&rt, &mut store, alloc, (b"", 0), Err(FetchFault::Missing));
-    Ok(())
+fn sure_store_keeps(rt: HostRuntime) {
+    let mut store = SureStore::new(rt.alloc());
+    check_copy(&rt, rt.alloc(), &mut store);
+    check_same(&rt, &store.get(b"b"), &Some(b"hell".as_slice()));
+}
+
+/// A file that is kept, its copy, and a name without a file.
+fn check_copy<S: Store>(rt: &impl Abort, alloc: Global, store: &mut S) {
+    check_keep(rt, store, alloc, (b"a", b"hello"), Ok(()));
+    check_same(rt, &copy_file(alloc, store, b"a", b"b", 3), &Ok(()));
+    check_fetch(rt, store, alloc, (b"b", u32::MAX), Ok(b"hell"));
+    check_fetch(rt, store, alloc, (b"", 0), Err(FetchFault::Missing));
 }
 
 /// A new folder of the system for this process.
-fn new_folder<R: Env + Files + Alloc>(rt: &R, process: Process) -> io::Result<String<R::A>> {
+fn new_folder(rt: &HostRuntime, process: Process) -> io::Result<String> {
     let temporary = env::temp_dir(rt)?;
     let number = process::id(process);
     let folder = format!(in rt.alloc(); "{}/lio_outside_{number}", temporary.as_str())?;
@@ -109,66 +131,101 @@ fn new_folder<R: Env + Files + Alloc>(rt: &R, process: Process) -> io::Result<St
 }
 
 #[test]
-fn real_store_over_a_folder(rt: HostRuntime) -> Result<(), Fail> {
-    let alloc = rt.alloc();
+fn real_store_over_a_folder(rt: HostRuntime) -> io::Result<()> {
     let folder = new_folder(&rt, rt.process())?;
+    check_folder(&rt, rt.alloc(), folder.as_str())?;
+    fs::remove_dir_all(&rt, folder.as_str())
+}
+
+/// The store over a folder that is there and empty.
+fn check_folder(rt: &(impl Abort + Files), alloc: Global, folder: &str) -> Result<(), AllocError> {
     let file = format!(in alloc; "{folder}/a.txt")?;
-    let part = format!(in alloc; "{file}.part0")?;
-    let next_part = format!(in alloc; "{file}.part1")?;
-    let (path, part_path) = (file.as_bytes(), part.as_bytes());
-    let mut store = RealStore::new(&rt);
-
-    check_fetch(&rt, &mut store, alloc, (path, 9), Err(FetchFault::Missing));
-    check_fetch(
-        &rt,
-        &mut store,
+    let part = neighbour(alloc, file.as_str(), 0)?;
+    let next_part = neighbour(alloc, file.as_str(), 1)?;
+    let store = RealStore::new(rt);
+    check_files(
+        rt,
         alloc,
-        (b"\xff", 9),
-        Err(FetchFault::Missing),
+        store,
+        (folder.as_bytes(), file.as_bytes()),
+        (part.as_str(), next_part.as_str()),
     );
-    check_fetch(
-        &rt,
-        &mut store,
-        alloc,
-        (folder.as_bytes(), 9),
-        Err(FetchFault::Failed),
-    );
-    check_keep(
-        &rt,
-        &mut store,
-        alloc,
-        (folder.as_bytes(), b"x"),
-        Err(KeepFault::Failed),
-    );
-    assert_eq!(rt; store.fault_count(), 4);
-
-    check_keep(&rt, &mut store, alloc, (path, b"a first text"), Ok(()));
-    check_keep(&rt, &mut store, alloc, (path, b"hello"), Ok(()));
-    check_fetch(&rt, &mut store, alloc, (path, 9), Ok(b"hello"));
-    check_fetch(&rt, &mut store, alloc, (path, 2), Ok(b"hel"));
-    check_fetch(
-        &rt,
-        &mut store,
-        alloc,
-        (part_path, 9),
-        Err(FetchFault::Missing),
-    );
-
-    // Where a neighbour's name is taken, that file stays, and another name is tried, under which nothing is left.
-    fs::write(&rt, part.as_str(), "mine")?;
-    check_keep(&rt, &mut store, alloc, (path, b"bye"), Ok(()));
-    check_fetch(&rt, &mut store, alloc, (path, 9), Ok(b"bye"));
-    check_fetch(&rt, &mut store, alloc, (part_path, 9), Ok(b"mine"));
-    check_fetch(
-        &rt,
-        &mut store,
-        alloc,
-        (next_part.as_bytes(), 9),
-        Err(FetchFault::Missing),
-    );
-    assert_eq!(rt; store.fault_count(), 6);
-    fs::remove_dir_all(&rt, folder.as_str())?;
     Ok(())
+}
+
+/// The name of a neighbour of a file.
+fn neighbour(alloc: Global, file: &str, number: u32) -> Result<String, AllocError> {
+    format!(in alloc; "{file}.part{number}")
+}
+
+/// A store over a folder, a file in it, and that file's first two neighbours.
+fn check_files<R: Files + Drop>(
+    rt: &(impl Abort + Files),
+    alloc: Global,
+    mut store: RealStore<R>,
+    (folder, file): (&[u8], &[u8]),
+    (part, next_part): (&str, &str),
+) {
+    check_refused(rt, alloc, &mut store, folder, file);
+    check_faults(rt, &store, 4);
+    check_replaced(rt, alloc, &mut store, file, part.as_bytes());
+    check_written(rt, part);
+    check_passed_over(
+        rt,
+        alloc,
+        &mut store,
+        file,
+        (part.as_bytes(), next_part.as_bytes()),
+    );
+    check_faults(rt, &store, 6);
+}
+
+/// Writes a file past the store.
+fn check_written(rt: &(impl Abort + Files), path: &str) {
+    check_same(rt, &fs::write(rt, path, "mine").is_ok(), &true);
+}
+
+/// A name without a file, one that isn't UTF-8, and a folder.
+fn check_refused<S: Store>(
+    rt: &impl Abort,
+    alloc: Global,
+    store: &mut S,
+    folder: &[u8],
+    file: &[u8],
+) {
+    check_fetch(rt, store, alloc, (file, 9), Err(FetchFault::Missing));
+    check_fetch(rt, store, alloc, (b"\xff", 9), Err(FetchFault::Missing));
+    check_fetch(rt, store, alloc, (folder, 9), Err(FetchFault::Failed));
+    check_keep(rt, store, alloc, (folder, b"x"), Err(KeepFault::Failed));
+}
+
+/// A file that is replaced, by way of a neighbour that is not left.
+fn check_replaced<S: Store>(
+    rt: &impl Abort,
+    alloc: Global,
+    store: &mut S,
+    file: &[u8],
+    part: &[u8],
+) {
+    check_keep(rt, store, alloc, (file, b"a first text"), Ok(()));
+    check_keep(rt, store, alloc, (file, b"hello"), Ok(()));
+    check_fetch(rt, store, alloc, (file, 9), Ok(b"hello"));
+    check_fetch(rt, store, alloc, (file, 2), Ok(b"hel"));
+    check_fetch(rt, store, alloc, (part, 9), Err(FetchFault::Missing));
+}
+
+/// Where a neighbour's name is taken, that file stays, and another name is tried, under which nothing is left.
+fn check_passed_over<S: Store>(
+    rt: &impl Abort,
+    alloc: Global,
+    store: &mut S,
+    file: &[u8],
+    (part, next_part): (&[u8], &[u8]),
+) {
+    check_keep(rt, store, alloc, (file, b"bye"), Ok(()));
+    check_fetch(rt, store, alloc, (file, 9), Ok(b"bye"));
+    check_fetch(rt, store, alloc, (part, 9), Ok(b"mine"));
+    check_fetch(rt, store, alloc, (next_part, 9), Err(FetchFault::Missing));
 }
 
 /// What a file of `FakeFiles` answers once it has moved all its bytes.
@@ -257,6 +314,21 @@ struct FakeFiles {
     removed: Cell<u32>,
 }
 
+impl FakeFiles {
+    /// None is renamed or removed.
+    fn new() -> Self {
+        FakeFiles {
+            renamed: Cell::new(0),
+            removed: Cell::new(0),
+        }
+    }
+
+    /// How many were renamed, and how many removed.
+    fn counts(&self) -> (u32, u32) {
+        (self.renamed.get(), self.removed.get())
+    }
+}
+
 impl Files for FakeFiles {
     type File = FakeFile;
 
@@ -319,47 +391,49 @@ impl Files for FakeFiles {
 }
 
 #[test]
-fn real_store_over_failing_files(rt: HostRuntime) -> Result<(), Fail> {
-    let alloc = rt.alloc();
-    let files = FakeFiles {
-        renamed: Cell::new(0),
-        removed: Cell::new(0),
-    };
-    let mut store = RealStore::new(&files);
+fn real_store_over_failing_files(rt: HostRuntime) {
+    let files = FakeFiles::new();
+    check_failing_files(&rt, rt.alloc(), RealStore::new(&files));
+    check_same(&rt, &files.counts(), &(2, 3));
+}
 
-    // Short reads are joined, and a failure is met only past the bytes that were asked for.
-    for (name, limit, want) in [
-        ("slow", 9, Ok("xxxxx")),
-        ("slow", 2, Ok("xxx")),
-        ("broken", 2, Ok("xxx")),
-        ("broken", 3, Err(FetchFault::Failed)),
-        ("busy", 3, Err(FetchFault::Failed)),
-    ] {
-        let want = want.map(|text| text.as_bytes());
-        check_fetch(&rt, &mut store, alloc, (name.as_bytes(), limit), want);
-    }
-    assert_eq!(rt; store.fault_count(), 2);
+/// The calls over files that fail, and the faults that they count.
+fn check_failing_files<R: Files + Drop>(rt: &impl Abort, alloc: Global, mut store: RealStore<R>) {
+    check_pieces_read(rt, alloc, &mut store);
+    check_faults(rt, &store, 2);
+    check_pieces_written(rt, alloc, &mut store);
+    check_faults(rt, &store, 6);
+}
 
-    // Short writes are joined, and a piece that writes nothing is a failure, which leaves no neighbour. Neighbours that are there
-    // already are passed over, and where all are, or none can be made, the file is written in place.
-    for (name, text, want) in [
-        ("slow", "five!", Ok(())),
-        ("slow", "sixth!", Err(KeepFault::Failed)),
-        ("broken", "four", Err(KeepFault::Failed)),
-        ("busy", "four", Err(KeepFault::Failed)),
-        ("held", "five!", Ok(())),
-        ("full", "four", Ok(())),
-        ("gone", "four", Err(KeepFault::Failed)),
-    ] {
-        check_keep(
-            &rt,
-            &mut store,
-            alloc,
-            (name.as_bytes(), text.as_bytes()),
-            want,
-        );
-    }
-    assert_eq!(rt; (files.renamed.get(), files.removed.get()), (2, 3));
-    assert_eq!(rt; store.fault_count(), 6);
-    Ok(())
+/// Short reads are joined, and a failure is met only past the bytes that were asked for.
+fn check_pieces_read<S: Store>(rt: &impl Abort, alloc: Global, store: &mut S) {
+    check_fetch(rt, store, alloc, (b"slow", 9), Ok(b"xxxxx"));
+    check_fetch(rt, store, alloc, (b"slow", 2), Ok(b"xxx"));
+    check_fetch(rt, store, alloc, (b"broken", 2), Ok(b"xxx"));
+    check_fetch(rt, store, alloc, (b"broken", 3), Err(FetchFault::Failed));
+    check_fetch(rt, store, alloc, (b"busy", 3), Err(FetchFault::Failed));
+}
+
+/// Short writes are joined, and a piece that writes nothing is a failure, which leaves no neighbour. Neighbours that are
+/// there already are passed over, and where all are, or none can be made, the file is written in place.
+fn check_pieces_written<S: Store>(rt: &impl Abort, alloc: Global, store: &mut S) {
+    check_keep(rt, store, alloc, (b"slow", b"five!"), Ok(()));
+    check_keep(
+        rt,
+        store,
+        alloc,
+        (b"slow", b"sixth!"),
+        Err(KeepFault::Failed),
+    );
+    check_keep(
+        rt,
+        store,
+        alloc,
+        (b"broken", b"four"),
+        Err(KeepFault::Failed),
+    );
+    check_keep(rt, store, alloc, (b"busy", b"four"), Err(KeepFault::Failed));
+    check_keep(rt, store, alloc, (b"held", b"five!"), Ok(()));
+    check_keep(rt, store, alloc, (b"full", b"four"), Ok(()));
+    check_keep(rt, store, alloc, (b"gone", b"four"), Err(KeepFault::Failed));
 }
