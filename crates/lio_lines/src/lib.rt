@@ -1,7 +1,6 @@
 //! The lines of scripts: their forms and their text.
 #![tactic(auto)]
 
-mod copy;
 mod fault;
 mod forms;
 mod header;

@@ -7,14 +7,21 @@ use lio_clauses::NoMemory;
 use lio_lines::Line;
 use std::alloc::Global;
 use std::marker::Model;
+use std::sync::Arc;
 
-/// A script, seen as the list of its procedures. It keeps its lines, without those that say nothing, and they break no rule.
+/// What a script keeps. It doesn't change once the script is read, so the script's copies share it.
 #[derive(Drop)]
-pub struct Script {
+struct Kept {
     lines: Vec<Line>,
     /// For each line the place at which the innermost block ends that is open behind it.
     ends: Vec<usize>,
     procedures: Procedures,
+}
+
+/// A script, seen as the list of its procedures. It keeps its lines, without those that say nothing, and they break no rule.
+#[derive(Drop)]
+pub struct Script {
+    kept: Arc<Kept>,
 }
 
 impl Model for Script {
@@ -31,9 +38,9 @@ impl Model for Script {
 
     ghost coded = { script_code };
 
-    ghost view = { λ script. script_of_lines script.lines.items };
+    ghost view = { λ script. script_of_lines script.kept.value.lines.items };
 
-    ghost invariant = { λ script. KeepsRules script.lines.items × (script.ends.items ≡ ends_behind 0 script.lines.items) × SaysLiterals script.lines.items × Lists script.procedures script.lines.items };
+    ghost invariant = { λ script. KeepsRules script.kept.value.lines.items × (script.kept.value.ends.items ≡ ends_behind 0 script.kept.value.lines.items) × SaysLiterals script.kept.value.lines.items × Lists script.kept.value.procedures script.kept.value.lines.items };
 }
 
 impl Script {
@@ -51,10 +58,13 @@ impl Script {
     {
         let ends = ends_of(alloc, lines.as_slice())?;
         let procedures = Procedures::of(alloc, lines.as_slice())?;
-        Ok(Script {
+        let kept = Kept {
             lines,
             ends,
             procedures,
+        };
+        Ok(Script {
+            kept: Arc::new(alloc, kept)?,
         })
     }
 
@@ -64,20 +74,15 @@ impl Script {
         ensures rules { KeepsRules result.now }
         ensures literals { SaysLiterals result.now }
     {
-        self.lines.as_slice()
+        self.kept.lines.as_slice()
     }
 
-    /// An equal script.
-    pub fn copy(&self, alloc: Global) -> Result<Script, NoMemory>
+    /// An equal script, which shares what this one keeps.
+    pub fn copy(&self, _alloc: Global) -> Result<Script, NoMemory>
         ensures { IfOk result (λ script. script ≡ self.now) }
     {
-        let lines = copy_lines(alloc, self.lines.as_slice())?;
-        let ends = Vec::from_slice(alloc, self.ends.as_slice())?;
-        let procedures = Procedures::of(alloc, lines.as_slice())?;
         Ok(Script {
-            lines,
-            ends,
-            procedures,
+            kept: Arc::try_clone(&self.kept)?,
         })
     }
 
@@ -86,7 +91,7 @@ impl Script {
         requires { at < length (script_lines self.now) }
         ensures { result ≡ end_of (script_lines self.now) (at + 1) }
     {
-        self.ends[at]
+        self.kept.ends[at]
     }
 
     /// The number of the procedure with this name, from 0 in the order of the script.
@@ -95,7 +100,7 @@ impl Script {
         ensures within { IfSome result (λ number. number < length self.now) }
         ensures few { length self.now < 2 ^ 32 }
     {
-        self.procedures.number(name)
+        self.kept.procedures.number(name)
     }
 
     /// The place of the line that begins the procedure with a number. Its body begins behind that line.
@@ -103,17 +108,6 @@ impl Script {
         requires { number < length self.now }
         ensures { BeginsAt self.now number result }
     {
-        self.procedures.line(number)
+        self.kept.procedures.line(number)
     }
-}
-
-/// Equal lines.
-fn copy_lines(alloc: Global, lines: &[Line]) -> Result<Vec<Line>, NoMemory>
-    ensures { IfOk result (λ copies. copies.items ≡ lines.now) }
-{
-    let mut copies = Vec::new(alloc);
-    for line in lines {
-        copies.push(line.copy(alloc)?)?;
-    }
-    Ok(copies)
 }

@@ -1,6 +1,8 @@
-use Rattle.std.proofs.Common.{◌≡◌, ℕ, List, length, map, ap, sym, ◌∙◌, arith, Option}
+use Rattle.std.proofs.Common.{ℕ, List, length, map, ap, sym, ◌∙◌, arith}
 use Rattle.lio_lines.specs.declared.line.Line.{Line}
 use Rattle.lio_syntax.specs.Statements.{Procedure}
+use Rattle.lio_syntax.specs.declared.script.Kept.{Kept}
+use Rattle.lio_syntax.specs.Headers.{count_in}
 use Rattle.lio_syntax.specs.Behind.{script_of_lines}
 use Rattle.lio_syntax.specs.Beginnings.{Beginning, beginnings, number_in, number_of}
 use Rattle.lio_syntax.proofs.FaultLemmas.{keeps-lines}
@@ -9,9 +11,9 @@ use Rattle.lio_syntax.proofs.script.Script.procedure_number.Goals as goal
 
 number-is : goal.returns-clause-number
 number-is c =
-    let lines : List Line = c.self.inside.lines.items in
+    let lines : List Line = c.self.inside.kept.value.lines.items in
     let name : List ℕ = c.args.name.now in
-    c.number.ensures ∙ c.self.invariant.3.numbers name ∙ ap (λ (ls : List Line). number_in (beginnings 0 ls) name) (sym (keeps-lines lines c.self.invariant.0))
+    c.number.ensures ∙ ap (λ (kept : Kept). count_in kept.procedures.numbers name) c.deref.ensures ∙ c.self.invariant.3.numbers name ∙ ap (λ (ls : List Line). number_in (beginnings 0 ls) name) (sym (keeps-lines lines c.self.invariant.0))
     ∙ number_in-script (script_of_lines lines) name ∙ ap (λ (s : List Procedure). number_of s name) c.self.view_is
 
 pub returns-clause-number : goal.returns-clause-number
@@ -22,6 +24,6 @@ returns-clause-within c = number_of-within c.args.self.now c.args.name.now c.num
 
 pub returns-clause-few : goal.returns-clause-few
 returns-clause-few c =
-    let lines : List Line = c.self.inside.lines.items in
+    let lines : List Line = c.self.inside.kept.value.lines.items in
     let places = c.self.invariant.3.places ∙ ap (λ (ls : List Line). map (λ (b : Beginning). b.at) (beginnings 0 ls)) (sym (keeps-lines lines c.self.invariant.0)) in
-    omega (arith, length-places (script_of_lines lines) c.self.inside.procedures.places.items places, ap length c.self.view_is, c.self.invariant.3.few)
+    omega (arith, length-places (script_of_lines lines) c.self.inside.kept.value.procedures.places.items places, ap length c.self.view_is, c.self.invariant.3.few)
