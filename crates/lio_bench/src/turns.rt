@@ -1,15 +1,16 @@
 //! Turns of a task that counts, in the calculus and in the erased calculus, repeated.
 ghost use Rattle.std.specs.Prelude.{◌≡◌, IfOk};
 ghost use Rattle.lio_wellformed.specs.WellFormed.{IsWellFormed};
-ghost use Rattle.lio_task.specs.Configuration.{configuration_of};
+ghost use Rattle.lio_config.specs.Configuration.{configuration_of};
 
 use lio_clauses::NoMemory;
+use lio_config::{Config, StepFault};
+use lio_draft::PolicyFault;
 use lio_erasure::{Low, LowFault, erase_config};
 use lio_labels::Label;
-use lio_policy::{Policy, PolicyFault, read_policy};
+use lio_policy::{Policy, read_policy};
 use lio_start::{fits, start};
 use lio_syntax::{Script, ScriptFault, read_script};
-use lio_task::{Config, StepFault};
 use lio_view::Contents;
 use std::alloc::Global;
 

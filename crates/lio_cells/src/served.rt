@@ -41,7 +41,10 @@ fn empty(state: State) -> State
     ensures { result ≡ filled state None }
 {
     match state {
-        State::Var(label, _) => State::Var(label, None),
+        State::Var(label, taken) => {
+            drop(taken);
+            State::Var(label, None)
+        }
         State::Absent => State::Absent,
         State::Ref(label, value) => State::Ref(label, value),
         State::Chan(label, received) => State::Chan(label, received),
@@ -104,7 +107,10 @@ pub fn with_room(state: State, room: Room, spare: &mut Text) -> State
         Room::Empties => empty(state),
         Room::Holds(value) => hold(state, value),
         Room::Receives(bytes) => receive(state, bytes, spare),
-        Room::Becomes(new) => new,
+        Room::Becomes(new) => {
+            drop(state);
+            new
+        }
         Room::Ends(content) => end(state, content),
     }
 }

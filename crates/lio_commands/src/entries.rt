@@ -27,7 +27,9 @@ pub fn answer(alloc: Global, names: &Names, word: &[u8], fields: &[Vec<u8>]) -> 
 /// `entry ENTRY`: the line of a copy of the entry, with its ticket.
 fn shown(words: &mut Words, alloc: Global, names: &Names) -> Result<Answer, Refusal> {
     let entry = read_entry(words, alloc, names)?;
-    copied(alloc, names, &entry)
+    let answer = copied(alloc, names, &entry);
+    drop(entry);
+    answer
 }
 
 /// The line of a copy of an entry, with its ticket.
@@ -35,7 +37,9 @@ fn copied(alloc: Global, names: &Names, entry: &Entry) -> Result<Answer, Refusal
     requires { IsPrintable names.now entry.now }
 {
     let copy = entry.copy(alloc)?;
-    line(alloc, names, &copy, true)
+    let answer = line(alloc, names, &copy, true);
+    drop(copy);
+    answer
 }
 
 /// The line of an entry, with its ticket or without.
@@ -48,8 +52,22 @@ fn line(alloc: Global, names: &Names, entry: &Entry, ticket: bool) -> Result<Ans
 /// `erased L ENTRY`: the line of the entry as an observer at the label sees it, without its ticket.
 fn erased(words: &mut Words, alloc: Global, names: &Names) -> Result<Answer, Refusal> {
     let observer = read_label(words, alloc, names)?;
+    let answer = erased_next(words, alloc, names, &observer);
+    drop(observer);
+    answer
+}
+
+/// The line of the next entry as an observer sees it, without its ticket.
+fn erased_next(
+    words: &mut Words,
+    alloc: Global,
+    names: &Names,
+    observer: &Label,
+) -> Result<Answer, Refusal> {
     let entry = read_entry(words, alloc, names)?;
-    seen(alloc, names, &observer, &entry)
+    let answer = seen(alloc, names, observer, &entry);
+    drop(entry);
+    answer
 }
 
 /// The line of an entry as an observer sees it, without its ticket.
@@ -58,13 +76,17 @@ fn seen(alloc: Global, names: &Names, observer: &Label, entry: &Entry) -> Result
 {
     erased_is_printable();
     let seen = entry.erase(alloc, observer)?;
-    line(alloc, names, &seen, false)
+    let answer = line(alloc, names, &seen, false);
+    drop(seen);
+    answer
 }
 
 /// `equal_entries ENTRY ENTRY`: whether the two are equal.
 fn equal(words: &mut Words, alloc: Global, names: &Names) -> Result<Answer, Refusal> {
     let one = read_entry(words, alloc, names)?;
-    equal_to_next(words, alloc, names, &one)
+    let answer = equal_to_next(words, alloc, names, &one);
+    drop(one);
+    answer
 }
 
 /// Whether the next entry is equal to this one.
@@ -75,7 +97,9 @@ fn equal_to_next(
     one: &Entry,
 ) -> Result<Answer, Refusal> {
     let other = read_entry(words, alloc, names)?;
-    Ok(Answer::Truth(*one == other))
+    let equal = *one == other;
+    drop(other);
+    Ok(Answer::Truth(equal))
 }
 
 /// `journal COUNT ENTRY..`: the lines of the journal, with their tickets.

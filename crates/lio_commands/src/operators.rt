@@ -1,5 +1,5 @@
 //! Commands on operators.
-ghost use Rattle.lio_events.specs.Named.{IsKindNamed, IsValueNamed};
+ghost use Rattle.lio_events.specs.Named.{IsFaultNamed, IsKindNamed, IsValueNamed};
 ghost use Rattle.lio_commands.specs.Given.{IsGivenNamed};
 
 use crate::answers::{Answer, Answered, finished};
@@ -30,7 +30,9 @@ fn one(words: &mut Words, alloc: Global, names: &Names) -> Result<Answer, Refusa
         return Err(Refusal::NoCommand);
     };
     let a = read_value(words, alloc, names)?;
-    on_one(alloc, names, op, &a, longest)
+    let answer = on_one(alloc, names, op, &a, longest);
+    drop(a);
+    answer
 }
 
 /// `operate2 LONGEST OP VALUE VALUE`: what the operator gives, where texts may have so many bytes.
@@ -40,7 +42,9 @@ fn two(words: &mut Words, alloc: Global, names: &Names) -> Result<Answer, Refusa
         return Err(Refusal::NoCommand);
     };
     let a = read_value(words, alloc, names)?;
-    with_next(words, alloc, names, &a, op, longest)
+    let answer = with_next(words, alloc, names, &a, op, longest);
+    drop(a);
+    answer
 }
 
 /// What an operator gives on a value and the next one.
@@ -55,7 +59,9 @@ fn with_next(
     requires { IsValueNamed names.now a.now }
 {
     let b = read_value(words, alloc, names)?;
-    on_two(alloc, names, op, a, &b, longest)
+    let answer = on_two(alloc, names, op, a, &b, longest);
+    drop(b);
+    answer
 }
 
 /// What an operator on one value gives.
@@ -85,7 +91,11 @@ fn given(alloc: Global, names: &Names, given: Result<Value, OpFault>) -> Result<
     requires { IsGivenNamed names.now given }
 {
     match given {
-        Ok(value) => Ok(Answer::Text(print_value(alloc, &value, names)?)),
+        Ok(value) => {
+            let text = print_value(alloc, &value, names);
+            drop(value);
+            Ok(Answer::Text(text?))
+        }
         Err(OpFault::Kind(kind)) => faulted(alloc, names, kind),
         Err(OpFault::NoMemory) => Err(Refusal::NoMemory),
     }
@@ -95,7 +105,21 @@ fn given(alloc: Global, names: &Names, given: Result<Value, OpFault>) -> Result<
 fn faulted(alloc: Global, names: &Names, kind: FaultKind) -> Result<Answer, Refusal>
     requires { IsKindNamed names.now kind }
 {
-    let at = Label::public(alloc)?;
-    let content = Content::Faulted(Held::new(alloc, Fault { kind, at })?);
-    Ok(Answer::Text(print_content(alloc, &content, names)?))
+    match Label::public(alloc) {
+        Ok(at) => thrown(alloc, names, Fault { kind, at }),
+        Err(_) => {
+            drop(kind);
+            Err(Refusal::NoMemory)
+        }
+    }
+}
+
+/// The text of a content that is a fault.
+fn thrown(alloc: Global, names: &Names, fault: Fault) -> Result<Answer, Refusal>
+    requires { IsFaultNamed names.now fault }
+{
+    let content = Content::Faulted(Held::new(alloc, fault)?);
+    let text = print_content(alloc, &content, names);
+    drop(content);
+    Ok(Answer::Text(text?))
 }

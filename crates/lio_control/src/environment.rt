@@ -110,11 +110,41 @@ impl Environment {
         ensures ok { OnOk result (self.new ≡ bind (bind self.old first.now value) second.now other) }
         ensures err { OnErr result (self.new ≡ self.old) }
     {
-        let mut environment = self.copy(alloc)?;
-        environment.bind(alloc, first, value)?;
-        environment.bind(alloc, second, other)?;
-        *self = environment;
-        Ok(())
+        match self.binding(alloc, first, value) {
+            Ok(mut environment) => match environment.bind(alloc, second, other) {
+                Ok(()) => {
+                    *self = environment;
+                    Ok(())
+                }
+                Err(error) => {
+                    drop(environment);
+                    Err(error)
+                }
+            },
+            Err(error) => {
+                drop(other);
+                Err(error)
+            }
+        }
+    }
+
+    /// A copy in which a name is bound to a value.
+    fn binding(&self, alloc: Global, name: &Text, value: Value) -> Result<Environment, NoMemory>
+        ensures { IfOk result (λ environment. environment ≡ bind self.now name.now value) }
+    {
+        match self.copy(alloc) {
+            Ok(mut environment) => match environment.bind(alloc, name, value) {
+                Ok(()) => Ok(environment),
+                Err(error) => {
+                    drop(environment);
+                    Err(error)
+                }
+            },
+            Err(error) => {
+                drop(value);
+                Err(error)
+            }
+        }
     }
 
     /// Forgets all bindings.

@@ -1,12 +1,12 @@
 //! Frames: what a procedure's names are bound to, and what it still has to do.
-ghost use Rattle.std.specs.Prelude.{◌≡◌, ◌+◌, ◌<◌, ◌≤◌, ◌++◌, List, [], ◌∷◌, map, true, false, MatchOption, MatchBool, IfOk, IfErr, OnOk, OnErr, vec_len, vec_capacity};
+ghost use Rattle.std.specs.Prelude.{◌≡◌, ◌+◌, ◌<◌, ◌≤◌, ◌++◌, List, [], ◌∷◌, map, true, false, MatchOption, MatchBool, IfSome, IfOk, IfErr, OnOk, OnErr, vec_len, vec_capacity};
 ghost use Rattle.lio_lines.specs.declared.line.Line.{Line};
 ghost use Rattle.lio_syntax.specs.Lines.{script_lines};
 ghost use Rattle.lio_control.specs.Environment.{Environment as Bindings};
 ghost use Rattle.lio_control.specs.Items.{Item, rest_of};
 ghost use Rattle.lio_control.specs.Throwing.{thrown};
 ghost use Rattle.lio_control.specs.Continuation.{call_over, frame_over};
-ghost use Rattle.lio_control.specs.Front.{IsFront, IsOwn};
+ghost use Rattle.lio_control.specs.Front.{IsAccess, IsFront, IsOwn};
 ghost use Rattle.lio_control.specs.Hiding.{HidesFrame, hide_item};
 ghost use Rattle.lio_control.specs.Parts.{IsOutside, IsRest, SaysFirst, SameFrame};
 
@@ -16,6 +16,7 @@ use crate::front::Front;
 use crate::part::{Left, Part};
 use lio_clauses::NoMemory;
 use lio_labels::Label;
+use lio_lines::Simple;
 use lio_syntax::Script;
 use lio_values::{Fault, Plain, Text, Value};
 use std::alloc::Global;
@@ -59,7 +60,7 @@ impl Frame {
     }
 
     /// What comes first in it.
-    pub(crate) fn front<'s>(&'s self, script: &'s Script) -> Option<Front<'s>>
+    pub(crate) fn front<'t, 's>(&'t self, script: &'s Script) -> Option<Front<'t, 's>>
         ensures { MatchOption result ((items : List Item) → frame_over (script_lines script.now) self.now items ≡ items)
             (λ front. (items : List Item) → IsFront (script_lines script.now) (frame_over (script_lines script.now) self.now items) front) }
     {
@@ -71,6 +72,17 @@ impl Frame {
             }
         }
         None
+    }
+
+    /// The statement whose access comes first in it, where the top part says so.
+    pub(crate) fn top_access<'s>(&self, script: &'s Script) -> Option<&'s Simple>
+        ensures { IfSome result (λ simple. (items : List Item) → IsAccess (frame_over (script_lines script.now) self.now items) simple.now) }
+    {
+        let count = self.parts.len();
+        if count == 0 {
+            return None;
+        }
+        self.parts[count - 1].access(script)
     }
 
     /// Drops what comes first, and answers the place of a statement that did.
@@ -161,8 +173,8 @@ impl Frame {
         'parts: while count > 0 {
             count -= 1;
             if let Some(handler) = self.parts[count].handler(script) {
-                let code = Value::Bare(Plain::Whole(code_of(&fault.kind)));
                 let payload = Value::Bare(payload_of(alloc, &fault.kind)?);
+                let code = Value::Bare(Plain::Whole(code_of(&fault.kind)));
                 self.environment
                     .bind_two(alloc, handler.code, code, handler.payload, payload)?;
                 self.parts[count] = Part::Rest(handler.at);

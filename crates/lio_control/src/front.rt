@@ -4,7 +4,7 @@ use lio_values::Fault;
 
 /// What comes first. A block is named by the place of its first line.
 #[derive(Drop)]
-pub enum Front<'s> {
+pub enum Front<'t, 's> {
     /// Nothing is left.
     Nothing,
     /// The way back to the caller.
@@ -12,7 +12,7 @@ pub enum Front<'s> {
     /// A mark: the block whose faults are caught is done.
     Mark,
     /// A fault that nothing catches.
-    Fail(&'s Fault),
+    Fail(&'t Fault),
     /// The access of a statement whose raise is done.
     Access(&'s Simple),
     /// A statement that opens no block.

@@ -99,7 +99,7 @@ pub(crate) fn next_place(script: &Script, at: usize) -> Option<usize>
 }
 
 /// What begins at a place, if a statement does.
-pub(crate) fn statement_at(script: &Script, at: usize) -> Option<Front<'_>>
+pub(crate) fn statement_at<'t, 's>(script: &'s Script, at: usize) -> Option<Front<'t, 's>>
     ensures { MatchOption result (block_at (script_lines script.now) at ≡ Nothing)
         (λ front. (items : List Item) → IsFront (script_lines script.now) (enter (block_at (script_lines script.now) at) items) front) }
 {

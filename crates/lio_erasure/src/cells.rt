@@ -7,7 +7,7 @@ ghost use Rattle.lio_cells.specs.State.{Kind, is_absent, ready};
 ghost use Rattle.lio_calculus.specs.Afforded.{kind_met};
 ghost use Rattle.lio_calculus.specs.Plan.{Node as by_handle};
 ghost use Rattle.lio_calculus.specs.Step.{cell_at, met};
-ghost use Rattle.lio_plan.specs.StateOf.{program_of};
+ghost use Rattle.lio_turns.specs.StateOf.{program_of};
 ghost use Rattle.lio_erasure.specs.Low.{LeavesOutBlanks, holder_in, is_kept, low_cell_of, low_configuration_of, low_task_in};
 ghost use Rattle.lio_erasure.specs.Turn.{Advances, CanAdvance, CanGoOn, CanServe, HasGoneOn, HasRoom, Places, Serves, Settles, node_of_holder, serving};
 
@@ -15,9 +15,10 @@ use crate::acts::{has_label, is_absent};
 use crate::gone::advance;
 use crate::hidden::is_seen;
 use lio_clauses::NoMemory;
+use lio_config::Holder;
 use lio_labels::Label;
 use lio_syntax::Script;
-use lio_task::{Holder, Task};
+use lio_task::Task;
 use lio_values::{Act, Entry, Handle};
 use std::alloc::Global;
 use std::marker::Model;
@@ -32,7 +33,7 @@ pub struct LowConfig {
 
 impl Model for LowConfig {
     ghost use Rattle.std.specs.Prelude.{List, Option};
-    ghost use Rattle.lio_task.specs.declared.config.Holder.{Holder};
+    ghost use Rattle.lio_config.specs.declared.config.Holder.{Holder};
 
     ghost Value = { List (Option Holder) };
 

@@ -36,7 +36,10 @@ pub fn channel_bytes(alloc: Global, journal: &Journal, channel: u32) -> Result<V
 {
     let mut bytes = Vec::new(alloc);
     for entry in journal.entries() {
-        bytes.extend_from_slice(sent_to(channel, entry))?;
+        let sent = sent_to(channel, entry);
+        if !sent.is_empty() {
+            bytes.extend_from_slice(sent)?;
+        }
     }
     Ok(bytes)
 }

@@ -2,7 +2,7 @@
 ghost use Rattle.std.specs.Prelude.{◌≡◌};
 
 use lio_clauses::NoMemory;
-use lio_policy::PolicyFault;
+use lio_draft::PolicyFault;
 use lio_start::StartFault;
 use lio_syntax::ScriptFault;
 use lio_values::Text;

@@ -4,7 +4,7 @@ use Rattle.std.specs.Prelude.{IfSome, ◌↔◌}
 use Rattle.lio_outside.specs.FileMap.{FileMap}
 use Rattle.lio_labels.specs.declared.label.Label.{Label}
 use Rattle.lio_start.specs.Start.{start_of}
-use Rattle.lio_task.specs.Configuration.{configuration_of}
+use Rattle.lio_config.specs.Configuration.{configuration_of}
 use Rattle.lio_powers.specs.Given.{powers_of}
 use Rattle.lio_powers.specs.Laws.{ReleasesByPowers}
 use Rattle.lio_run.specs.declared.by_rounds.Ran.{Ran}

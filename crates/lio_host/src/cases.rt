@@ -1,8 +1,8 @@
 //! Reads the worked runs of `rows.rt`, runs each over a store in memory, and compares.
 
-use crate::host::host_main;
+use crate::host::{Outcome, host_main};
 use lio_outside::MemStore;
-use lio_status::{detail_of, refusal_text};
+use lio_status::{HostStatus, detail_of, refusal_text};
 use std::alloc::{AllocError, Global};
 use std::test::Fail;
 
@@ -94,13 +94,14 @@ fn read_cases(alloc: Global, rows: &str) -> Result<Vec<Case>, AllocError> {
     Ok(cases)
 }
 
-/// A store with the files of a case, whose calls fail that are to fail.
-fn store(alloc: Global, case: &Case, policy: &str, script: &str) -> Result<MemStore, Fail> {
-    let mut failing = Vec::new(alloc);
-    if let Some(call) = case.number("fail")? {
-        failing.push(call as u64)?;
-    }
-    let mut store = MemStore::new(alloc, failing);
+/// Puts the files of a case into a store.
+fn put_files(
+    alloc: Global,
+    store: &mut MemStore,
+    case: &Case,
+    policy: &str,
+    script: &str,
+) -> Result<(), Fail> {
     store.put(alloc, b"p.json", policy.as_bytes())?;
     store.put(alloc, b"s.lio", script.as_bytes())?;
     for part in &case.parts {
@@ -108,7 +109,23 @@ fn store(alloc: Global, case: &Case, policy: &str, script: &str) -> Result<MemSt
             store.put(alloc, part.about.as_bytes(), part.text.as_bytes())?;
         }
     }
-    Ok(store)
+    Ok(())
+}
+
+/// A store with the files of a case, whose calls fail that are to fail.
+fn store(alloc: Global, case: &Case, policy: &str, script: &str) -> Result<MemStore, Fail> {
+    let mut failing = Vec::new(alloc);
+    if let Some(call) = case.number("fail")? {
+        failing.push(call as u64)?;
+    }
+    let mut store = MemStore::new(alloc, failing);
+    match put_files(alloc, &mut store, case, policy, script) {
+        Ok(()) => Ok(store),
+        Err(fail) => {
+            drop(store);
+            Err(fail)
+        }
+    }
 }
 
 /// The words of a case.
@@ -129,25 +146,80 @@ fn is_true_of(part: &Part, store: &MemStore) -> bool {
     }
 }
 
+/// Whether an answer is the expected one.
+fn is_expected(alloc: Global, expected: &Part, answer: &HostStatus) -> Result<bool, Fail> {
+    let status = format!(in alloc; "{answer}")?;
+    Ok(status.as_str() == expected.about.as_str())
+}
+
+/// Whether what is printed of an answer begins as a case says.
+fn begins_as_said(
+    alloc: Global,
+    case: &Case,
+    answer: &HostStatus,
+    words: &[String],
+    policy: &str,
+    script: &str,
+) -> Result<bool, Fail> {
+    let found = detail_of(alloc, answer, policy.as_bytes(), script.as_bytes())?;
+    let said = refusal_text(alloc, answer, words, &found);
+    drop(found);
+    Ok(said?.as_str().starts_with(case.text("says").unwrap_or("")))
+}
+
+/// Whether an answer is the expected one, and what is printed of it begins as a case says.
+fn answers_as_said(
+    alloc: Global,
+    case: &Case,
+    expected: &Part,
+    answer: &HostStatus,
+    words: &[String],
+    policy: &str,
+    script: &str,
+) -> Result<bool, Fail> {
+    Ok(
+        is_expected(alloc, expected, answer)?
+            && begins_as_said(alloc, case, answer, words, policy, script)?,
+    )
+}
+
+/// Whether the host does as a case says, over a store with its files.
+fn does_as_said(
+    alloc: Global,
+    case: &Case,
+    expected: &Part,
+    store: &mut MemStore,
+    words: &[String],
+    policy: &str,
+    script: &str,
+) -> Result<bool, Fail> {
+    let entries = case.number("entries")?.unwrap_or(0);
+    let Outcome { status, journal } = host_main(alloc, words, store);
+    let count = journal.entries().len();
+    drop(journal);
+    let as_said = answers_as_said(alloc, case, expected, &status, words, policy, script);
+    drop(status);
+    Ok(as_said? && count == entries && case.parts.iter().all(|part| is_true_of(part, store)))
+}
+
 /// Whether a case holds, under this policy and script.
 fn holds(alloc: Global, case: &Case, policy: &str, script: &str) -> Result<bool, Fail> {
     let Some(expected) = case.part("status") else {
         return Ok(false);
     };
-    let mut store = store(alloc, case, policy, script)?;
     let words = words(alloc, case)?;
-    let outcome = host_main(alloc, words.as_slice(), &mut store);
-    let answer = &outcome.status;
-    let status = format!(in alloc; "{answer}")?;
-    let found = detail_of(alloc, answer, policy.as_bytes(), script.as_bytes())?;
-    let said = refusal_text(alloc, answer, words.as_slice(), &found)?;
-    let entries = case.number("entries")?.unwrap_or(0);
-    Ok(
-        status.as_str() == expected.about.as_str()
-            && outcome.journal.entries().len() == entries
-            && said.as_str().starts_with(case.text("says").unwrap_or(""))
-            && case.parts.iter().all(|part| is_true_of(part, &store)),
-    )
+    let mut store = store(alloc, case, policy, script)?;
+    let holds = does_as_said(
+        alloc,
+        case,
+        expected,
+        &mut store,
+        words.as_slice(),
+        policy,
+        script,
+    );
+    drop(store);
+    holds
 }
 
 /// The name of the first case of a text that doesn't hold, or nothing where all do.

@@ -42,12 +42,17 @@ fn binary(
     ensures sound { IfOk result (IsSimple names.now) }
     ensures invalid { IfErr result (λ fault. fault ≡ LineFault.Invalid → spec.binary names.now x a.now op.now b.now ≡ None) }
 {
-    let a = read_operand(alloc, names, a)?;
     let Some(op) = Two::find(op) else {
         return Err(LineFault::Invalid);
     };
-    let b = read_operand(alloc, names, b)?;
-    Ok(Simple::LetTwo(x, a, op, b))
+    let a = read_operand(alloc, names, a)?;
+    match read_operand(alloc, names, b) {
+        Ok(b) => Ok(Simple::LetTwo(x, a, op, b)),
+        Err(fault) => {
+            drop(a);
+            Err(fault)
+        }
+    }
 }
 
 /// What stands behind `let X =`

@@ -4,9 +4,9 @@ use Rattle.std.specs.Option.{option_map}
 use Rattle.lio_syntax.specs.Statements.{Procedure}
 use Rattle.lio_schedule.specs.Rounds.{tasks_from}
 use Rattle.lio_task.specs.declared.task.Task.{Task}
-use Rattle.lio_task.specs.declared.config.Holder.{Holder}
+use Rattle.lio_config.specs.declared.config.Holder.{Holder}
 use Rattle.lio_task.specs.StateOf.{state_in}
-use Rattle.lio_task.specs.Configuration.{cell_of}
+use Rattle.lio_config.specs.Configuration.{cell_of}
 
 -- the numbers of the holders that have a task, from this number on
 abbrev pub holders_from : ℕ → List Holder → List ℕ

@@ -3,9 +3,9 @@ ghost use Rattle.std.specs.Prelude.{◌≡◌};
 
 use crate::births::born_in;
 use lio_clauses::NoMemory;
+use lio_config::{Config, StepFault};
 use lio_events::Journal;
 use lio_syntax::Script;
-use lio_task::{Config, StepFault};
 use lio_values::Entry;
 use std::alloc::Global;
 use std::marker::Model;
@@ -41,7 +41,7 @@ pub struct Machine {
 }
 
 impl Model for Machine {
-    ghost use Rattle.lio_task.specs.Configuration.{configuration_of};
+    ghost use Rattle.lio_config.specs.Configuration.{configuration_of};
     ghost use Rattle.lio_machine.specs.MachineParts.{MachineParts, machine_code};
     ghost use Rattle.lio_machine.specs.Invariant.{IsMachine};
 
@@ -56,7 +56,7 @@ impl Model for Machine {
 
 impl Machine {
     ghost use Rattle.std.specs.Prelude.{◌≡◌, ◌<◌, ◌^◌, ℕ, List, [], ◌∷◌, length, slice_index, false, IfOk, IfErr, OnOk, OnErr, Err};
-    ghost use Rattle.lio_task.specs.Configuration.{configuration_of};
+    ghost use Rattle.lio_config.specs.Configuration.{configuration_of};
     ghost use Rattle.lio_calculus.specs.Step.{can};
     ghost use Rattle.lio_wellformed.specs.WellFormed.{IsWellFormed};
     ghost use Rattle.lio_schedule.specs.Round.{round};

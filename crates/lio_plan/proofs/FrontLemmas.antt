@@ -19,13 +19,14 @@ use Rattle.lio_control.specs.Items.{Item, Do, Access, Mark, Back, Fail, rest_of}
 use Rattle.lio_control.specs.Continuation.{block_at}
 use Rattle.lio_control.specs.Front.{IsFront, IsBack, IsMark, Begins, IsGuarded}
 use Rattle.lio_calculus.specs.Plan.{Program, plan_statement, stepping}
-use Rattle.lio_plan.specs.declared.standing.Standing.{Standing}
+use Rattle.lio_turns.specs.declared.standing.Standing.{Standing}
 use Rattle.lio_plan.specs.declared.planned.Planned.{Planned}
 use Rattle.lio_plan.specs.declared.planned.Planned.TheVariants as planned
 use Rattle.lio_plan.specs.declared.planned.Control.TheVariants as control
-use Rattle.lio_plan.specs.declared.planned.Turn.{Turn}
-use Rattle.lio_plan.specs.Planned.{PlansFront, PlansBy, PlansAccess, plan_of, try_of}
-use Rattle.lio_plan.specs.StateOf.{state_of}
+use Rattle.lio_turns.specs.declared.turn.Turn.{Turn}
+use Rattle.lio_plan.specs.Planned.{PlansFront, PlansAccess, plan_of, try_of}
+use Rattle.lio_turns.specs.Turns.{PlansBy}
+use Rattle.lio_turns.specs.StateOf.{state_of}
 
 pub nothing_first : (program : Program) (task : Standing) (items : List Item) → items ≡ [] → PlansFront program task items (planned.Ends (Kept unit))
 nothing_first program task items e = subst (λ (is : List Item). PlansFront program task is (planned.Ends (Kept unit))) (sym e) refl

@@ -18,10 +18,11 @@ use Rattle.lio_operators.specs.declared.faults.OpFault.{OpFault}
 use Rattle.lio_calculus.specs.Operands.{bare_of, bound, seen_as}
 use Rattle.lio_calculus.specs.Task.{TaskState}
 use Rattle.lio_calculus.specs.Plan.{Plan, Program, bad_type, computed, plan_simple, with_seen}
-use Rattle.lio_plan.specs.declared.standing.Standing.{Standing}
-use Rattle.lio_plan.specs.declared.planned.Turn.{Turn}
-use Rattle.lio_plan.specs.Planned.{Computes, PlansBy, refusal, turn_of}
-use Rattle.lio_plan.specs.StateOf.{state_of}
+use Rattle.lio_turns.specs.declared.standing.Standing.{Standing}
+use Rattle.lio_turns.specs.declared.turn.Turn.{Turn}
+use Rattle.lio_plan.specs.Planned.{Computes}
+use Rattle.lio_turns.specs.Turns.{PlansBy, refusal, turn_of}
+use Rattle.lio_turns.specs.StateOf.{state_of}
 
 -- the plan of an operator on what its operands stand for
 abbrev two : ℕ → TaskState → List ℕ → Two → Option Value → Option Value → Plan
@@ -74,10 +75,10 @@ right-refuses program task name left op right (Ok turn) is e =
 right-refuses program task name left op right (Err error) is e = tt
 
 -- what an operator made is bound, or the refusal
-computes-answer : (task : Standing) (name other : List ℕ) (made : Result Value OpFault) (answer : Result Value FaultKind) (result : Result Turn NoMemory)
-    → IfOk result (λ turn. (given : Result Value FaultKind) → Answers given made → Computes task name given turn) → name ≡ other → Answers answer made → IfOk result (Computes task other answer)
-computes-answer task name other made answer (Ok turn) computes same answers = subst (λ (n : List ℕ). Computes task n answer turn) same (computes answer answers)
-computes-answer task name other made answer (Err error) computes same answers = tt
+computes-answer : (task : Standing) (name : List ℕ) (made : Result Value OpFault) (answer : Result Value FaultKind) (result : Result Turn NoMemory)
+    → IfOk result (λ turn. (given : Result Value FaultKind) → Answers given made → Computes task name given turn) → Answers answer made → IfOk result (Computes task name answer)
+computes-answer task name made answer (Ok turn) computes answers = computes answer answers
+computes-answer task name made answer (Err error) computes answers = tt
 
 -- both are bare
 both-bound : (program : Program) (task : Standing) (name : List ℕ) (left : Operand) (op : Two) (right : Operand) (a b : Plain) (result : Result Turn NoMemory)
@@ -90,9 +91,9 @@ both-bound program task name left op right a b (Ok turn) computes e f =
     computes (line.LetTwo name left op right) (script_lines program.procedures) ∙ both-bare program.longest state name op (bound state.environment left) (bound state.environment right) a b e f
 both-bound program task name left op right a b (Err error) computes e f = tt
 
-pub both-plan : (program : Program) (task : Standing) (name other : List ℕ) (left : Operand) (op : Two) (right : Operand) (a b : Plain) (made : Result Value OpFault) (result : Result Turn NoMemory)
-    → IfOk result (λ turn. (given : Result Value FaultKind) → Answers given made → Computes task name given turn) → name ≡ other → Answers (operate2 program.longest op (Bare a) (Bare b)) made
+pub both-plan : (program : Program) (task : Standing) (name : List ℕ) (left : Operand) (op : Two) (right : Operand) (a b : Plain) (made : Result Value OpFault) (result : Result Turn NoMemory)
+    → IfOk result (λ turn. (given : Result Value FaultKind) → Answers given made → Computes task name given turn) → Answers (operate2 program.longest op (Bare a) (Bare b)) made
     → Some a ≡ seen_as Some (state_of (script_lines program.procedures) task).environment left → Some b ≡ seen_as Some (state_of (script_lines program.procedures) task).environment right
-    → IfOk result (PlansBy program task (line.LetTwo other left op right))
-both-plan program task name other left op right a b made result computes same answers e f =
-    both-bound program task other left op right a b result (computes-answer task name other made (operate2 program.longest op (Bare a) (Bare b)) result computes same answers) e f
+    → IfOk result (PlansBy program task (line.LetTwo name left op right))
+both-plan program task name left op right a b made result computes answers e f =
+    both-bound program task name left op right a b result (computes-answer task name made (operate2 program.longest op (Bare a) (Bare b)) result computes answers) e f

@@ -1,17 +1,7 @@
 -- What the code's plan of a turn says: the plan of the definitions. Where there a block stands for itself, the code has the place at which it begins.
 use Rattle.std.specs.Prelude.{◌≡◌, ℕ, ◌+◌, List, [], ◌∷◌, Option, Some, Result, slice_get}
-use Rattle.lio_labels.specs.declared.label.Label.{Label}
-use Rattle.lio_values.specs.declared.fault.Fault.{Fault}
 use Rattle.lio_values.specs.declared.fault.FaultKind.{FaultKind}
-use Rattle.lio_values.specs.declared.value.Handle.{Handle}
-use Rattle.lio_values.specs.declared.value.Plain.{Plain}
-use Rattle.lio_values.specs.declared.value.Content.{Content}
 use Rattle.lio_values.specs.declared.value.Value.{Value}
-use Rattle.lio_values.specs.declared.act.Act.{Act}
-use Rattle.lio_values.specs.declared.act.Act.TheVariants as act
-use Rattle.lio_values.specs.declared.act.Op.{Op}
-use Rattle.lio_values.specs.declared.act.Op.TheVariants as op
-use Rattle.lio_values.specs.declared.act.Reply.TheVariants as reply
 use Rattle.lio_words.specs.declared.operators.One.{One}
 use Rattle.lio_operators.specs.Operators.{operate1}
 use Rattle.lio_lines.specs.declared.line.Line.{Line}
@@ -20,71 +10,22 @@ use Rattle.lio_lines.specs.declared.line.Operand.{Operand}
 use Rattle.lio_lines.specs.declared.line.Operand.TheVariants.{Name}
 use Rattle.lio_lines.specs.declared.line.Simple.{Simple}
 use Rattle.lio_lines.specs.declared.line.Simple.TheVariants as line
-use Rattle.lio_syntax.specs.Statements.{Statements, Nothing, Procedure}
+use Rattle.lio_syntax.specs.Statements.{Statements, Nothing}
 use Rattle.lio_syntax.specs.Lines.{script_lines}
 use Rattle.lio_syntax.specs.Statements as statement
-use Rattle.lio_cells.specs.State as kind
 use Rattle.lio_control.specs.Items.{Item, Do, Access, Back}
 use Rattle.lio_control.specs.Continuation.{block_at}
-use Rattle.lio_calculus.specs.Task.{TaskState}
 use Rattle.lio_calculus.specs.Going as going
 use Rattle.lio_calculus.specs.Plan as plan
-use Rattle.lio_calculus.specs.Plan.{Program, plan_simple}
+use Rattle.lio_calculus.specs.Plan.{Program}
 use Rattle.lio_plan.specs.declared.planned.Planned.{Planned}
 use Rattle.lio_plan.specs.declared.planned.Planned.TheVariants as planned
 use Rattle.lio_plan.specs.declared.planned.Control.{Control}
 use Rattle.lio_plan.specs.declared.planned.Control.TheVariants as control
-use Rattle.lio_plan.specs.declared.planned.Turn.{Turn}
-use Rattle.lio_plan.specs.declared.planned.Turn.TheVariants as turn
-use Rattle.lio_plan.specs.declared.planned.Target.{Target}
-use Rattle.lio_plan.specs.declared.planned.Target.TheVariants as target
-use Rattle.lio_plan.specs.declared.planned.Onward.{Onward}
-use Rattle.lio_plan.specs.declared.planned.Onward.TheVariants as onward
-use Rattle.lio_plan.specs.declared.standing.Standing.{Standing}
-use Rattle.lio_plan.specs.StateOf.{state_of}
-
--- the node that a turn meets
-abbrev pub target_of : Target → plan.Target
-target_of (target.Reference handle) = plan.Node kind.Reference handle
-target_of (target.Variable handle) = plan.Node kind.Variable handle
-target_of (target.Channel handle) = plan.Node kind.Channel handle
-target_of (target.Result handle) = plan.Node kind.Result handle
-target_of (target.New number) = plan.New number
-
--- how a task goes on, where this is the statement in front, or the access in front is of this statement
-abbrev pub onward_of : List Line → Simple → Onward → going.Onward
-onward_of lines simple onward.Advance = going.Advance
-onward_of lines simple (onward.Bind name value) = going.Bind name value
-onward_of lines simple (onward.Seal name label plain) = going.Seal name label plain
-onward_of lines simple (onward.Call name environment body) = going.Call name environment (block_at lines body)
-onward_of lines simple (onward.Return value) = going.Return value
-onward_of lines simple (onward.Raise label) = going.Raise label
-onward_of lines simple (onward.RaiseTo label) = going.RaiseTo label simple
-onward_of lines simple (onward.Unlabel name label source content) = going.Unlabel name label source content
-onward_of lines simple (onward.Lower clearance) = going.Lower clearance
-onward_of lines simple (onward.Release name label) = going.Release name label
-onward_of lines simple (onward.HoldReference name label) = going.HoldReference name label
-onward_of lines simple (onward.HoldVariable name label) = going.HoldVariable name label
-onward_of lines simple (onward.Fork name label cells turns) = going.Fork name label cells turns
-onward_of lines simple (onward.Spawn cells turns) = going.Spawn cells turns
-onward_of lines simple (onward.BindReply name) = going.BindReply name
-onward_of lines simple (onward.Throw fault) = going.Throw fault
-onward_of lines simple onward.End = going.End
-
--- how a task goes on after a turn
-abbrev pub onward_in : Turn → Onward
-onward_in (turn.Own act reply onward) = onward
-onward_in (turn.Visit act target onward) = onward
-
--- a turn's act
-abbrev pub act_in : Turn → Act
-act_in (turn.Own act reply onward) = act
-act_in (turn.Visit act target onward) = act
-
--- the plan of a statement that opens no block, or of its access
-abbrev pub turn_of : List Line → Simple → Turn → plan.Plan
-turn_of lines simple (turn.Own act reply onward) = plan.Own act reply (onward_of lines simple onward)
-turn_of lines simple (turn.Visit act target onward) = plan.Visit act (target_of target) (onward_of lines simple onward)
+use Rattle.lio_turns.specs.declared.turn.Turn.{Turn}
+use Rattle.lio_turns.specs.declared.standing.Standing.{Standing}
+use Rattle.lio_turns.specs.StateOf.{state_of}
+use Rattle.lio_turns.specs.Turns.{turn_of, IsFor, Is, refusal}
 
 -- the operand of the loop in front
 abbrev pub condition_of : List Item → Operand
@@ -134,36 +75,9 @@ abbrev pub PlansFront : Program → Standing → List Item → Planned → Type 
 PlansFront program task items planned =
     plan_of (script_lines program.procedures) items planned ≡ plan.plan_items program (state_of (script_lines program.procedures) task) items
 
--- a turn is a plan of a task's state, for a statement
-abbrev pub IsFor : Standing → Simple → Turn → (List Line → plan.Plan) → Type 0
-IsFor task simple turn p = (lines : List Line) → turn_of lines simple turn ≡ p lines
-
--- and for each statement
-abbrev pub Is : Standing → Turn → (List Line → plan.Plan) → Type 0
-Is task turn p = (simple : Simple) → IsFor task simple turn p
-
--- a turn is the plan of a statement by each program
-abbrev pub Plans : Standing → Simple → Turn → Type 0
-Plans task simple turn = (program : Program) → IsFor task simple turn (λ lines. plan_simple program (state_of lines task) simple)
-
--- a turn is a plan of a task's state in the lines of a script, for a statement
-abbrev pub IsIn : List Procedure → Standing → Simple → Turn → (TaskState → plan.Plan) → Type 0
-IsIn script task simple turn p = turn_of (script_lines script) simple turn ≡ p (state_of (script_lines script) task)
-
--- a turn is the plan of a statement by a program
-abbrev pub PlansBy : Program → Standing → Simple → Turn → Type 0
-PlansBy program task simple turn = IsIn program.procedures task simple turn (λ state. plan_simple program state simple)
-
 -- a turn is the plan of the access of a statement
 abbrev pub PlansAccess : Standing → Simple → Turn → Type 0
 PlansAccess task simple turn = IsFor task simple turn (λ lines. plan.plan_access (state_of lines task) simple)
-
--- a refused act throws the fault that its reply shows
-abbrev pub fault_of : Standing → FaultKind → Fault
-fault_of task kind = record { kind = kind; at = task.label.now }
-
-abbrev pub refusal : Standing → Act → FaultKind → Turn
-refusal task act kind = turn.Own act (reply.Refused (fault_of task kind)) (onward.Throw (fault_of task kind))
 
 -- what an operator made is bound, or is the refusal
 abbrev pub Computes : Standing → List ℕ → Result Value FaultKind → Turn → Type 0
@@ -173,69 +87,3 @@ Computes task name answer turn = Is task turn (λ lines. plan.computed (state_of
 abbrev pub ComputesOne : Standing → ℕ → List ℕ → One → Option Value → Turn → Type 0
 ComputesOne task longest name op seen turn =
     Is task turn (λ lines. plan.with_seen (state_of lines task) seen (λ value. plan.computed (state_of lines task) name (operate1 longest op value)))
-
--- the raise of a statement that has an access
-abbrev pub Raises : Standing → Op → Handle → Turn → Type 0
-Raises task op handle turn = (access : Simple) → IsFor task access turn (λ lines. plan.raising (state_of lines task) op access handle)
-
--- an act that makes a node, where there is a number for it
-abbrev pub MakesNode : Standing → Act → Onward → Turn → Type 0
-MakesNode task act onward turn =
-    (simple : Simple) → IsFor task simple turn (λ lines. plan.with_cells (state_of lines task) act 1 (plan.Visit act (plan.New task.first) (onward_of lines simple onward)))
-
--- an act that makes a child, where there are enough turns for it
-abbrev pub GivesTurns : Standing → Act → ℕ → Onward → Turn → Type 0
-GivesTurns task act turns onward turn =
-    (simple : Simple) → IsFor task simple turn (λ lines. plan.with_turns (state_of lines task) act turns (plan.Visit act (plan.New task.first) (onward_of lines simple onward)))
-
--- a turn, where a guard lets its act go
-abbrev pub Guards : Standing → Op → Label → Turn → Turn → Type 0
-Guards task operation label taken turn =
-    (simple : Simple) → IsFor task simple turn (λ lines. plan.with_verdict (state_of lines task) (act_in taken) (plan.verdict_on (state_of lines task) operation label) (λ current. turn_of lines simple taken))
-
--- an act that makes a node, where a guard lets it go and there is a number for it
-abbrev pub GuardsNode : Standing → Op → Label → Act → Onward → Turn → Type 0
-GuardsNode task operation label act onward turn =
-    (simple : Simple) → IsFor task simple turn (λ lines. plan.with_verdict (state_of lines task) act (plan.verdict_on (state_of lines task) operation label)
-    (λ current. plan.with_cells (state_of lines task) act 1 (plan.Visit act (plan.New task.first) (onward_of lines simple onward))))
-
--- a new reference
-abbrev pub MakesReference : Standing → List ℕ → Label → Value → Turn → Type 0
-MakesReference task name label value made = GuardsNode task op.NewRef label (act.NewRef label value) (onward.HoldReference name label) made
-
--- a new variable
-abbrev pub MakesVariable : Standing → List ℕ → Label → Option Value → Turn → Type 0
-MakesVariable task name label value made = GuardsNode task op.NewVar label (act.NewVar label value) (onward.HoldVariable name label) made
-
--- the write of a value to a reference
-abbrev pub Writes : Standing → Handle → Value → Turn → Type 0
-Writes task handle value made = Guards task op.Write handle.label (turn.Visit (act.Write value) (target.Reference handle) onward.Advance) made
-
--- the message of a text to a channel
-abbrev pub Sends : Standing → Handle → List ℕ → Turn → Type 0
-Sends task handle text made = Guards task op.Send handle.label (turn.Visit (act.Send text) (target.Channel handle) onward.Advance) made
-
--- the seal of a plain value under a label
-abbrev pub Seals : Standing → List ℕ → Label → Plain → Turn → Type 0
-Seals task name label plain made = Guards task op.Seal label (turn.Own (act.Seal label) reply.Done (onward.Seal name label plain)) made
-
--- the new clearance
-abbrev pub Lowers : Standing → Label → Turn → Type 0
-Lowers task label made = Guards task op.Lower label (turn.Own (act.Lower label) reply.Done (onward.Lower label)) made
-
--- the raise to a label
-abbrev pub Taints : Standing → Label → Turn → Type 0
-Taints task label made =
-    Is task made (λ lines. plan.with_verdict (state_of lines task) (act.Raise op.Taint label) (plan.verdict_on (state_of lines task) op.Taint label)
-    (λ current. plan.Own (act.Raise op.Taint label) reply.Done (going.Raise current)))
-
--- the raise to a label, under which a content is sealed
-abbrev pub Unlabels : Standing → List ℕ → Label → Content → Turn → Type 0
-Unlabels task name label content made =
-    Is task made (λ lines. plan.with_verdict (state_of lines task) (act.Raise op.Unlabel label) (plan.verdict_on (state_of lines task) op.Unlabel label)
-    (λ current. plan.Own (act.Raise op.Unlabel label) reply.Done (going.Unlabel name current label content)))
-
--- an act that makes a child, where there are enough numbers and turns for it
-abbrev pub MakesChild : Standing → Act → ℕ → ℕ → Onward → Turn → Type 0
-MakesChild task act cells turns onward turn =
-    (simple : Simple) → IsFor task simple turn (λ lines. plan.with_room (state_of lines task) act cells turns (plan.Visit act (plan.New task.first) (onward_of lines simple onward)))

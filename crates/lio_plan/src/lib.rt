@@ -1,9 +1,11 @@
 //! The plan of a task's next turn: what it does, and how the task goes on after it.
 #![tactic(auto)]
 
-mod plan;
+mod access;
+mod binding;
+mod front;
 mod planned;
-mod standing;
+mod simple;
 
-pub use planned::{Control, Onward, Planned, Target, Turn};
-pub use standing::Standing;
+pub use front::plan_next;
+pub use planned::{Control, Planned};

@@ -1,8 +1,4 @@
-pub mod ShapeLemmas
-pub mod ConvertedLemmas
-pub mod DocumentLemmas
-pub mod FailingLemmas
-pub mod VerdictLemmas
-pub mod EntryLemmas
+pub mod RuleLemmas
 pub mod MadeLemmas
 pub mod PolicyLemmas
+pub mod VerdictLemmas

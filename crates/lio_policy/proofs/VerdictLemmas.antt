@@ -1,31 +1,21 @@
 -- What the rules decide.
-use Rattle.std.proofs.Common.{◌≡◌, ◌∙◌, ◌⊎◌, inl, inr, ℕ, List, [], ◌∷◌, length, map, Option, Some, None, Result, Ok, Err, IfOk, IfErr, refl, sym, ap, subst}
+use Rattle.std.proofs.Common.{◌≡◌, ◌∙◌, ◌⊎◌, inl, inr, ℕ, List, [], ◌∷◌, Option, Some, None, Result, Ok, Err, IfOk, IfErr, refl, sym, ap, subst}
 use Rattle.std.specs.List.{filter_map}
-use Rattle.serde_json.specs.Data.{Data}
-use Rattle.serde_json.specs.Find.{as_str}
-use Rattle.serde_json.specs.View.{view}
-use Rattle.serde_json.specs.declared.value.Value.{Value}
-use Rattle.lio_policy.specs.Converted.{first_failing, unmade}
-use Rattle.lio_policy.specs.Shape.{Parts, parts_of, file_of, task_of}
-use Rattle.lio_policy.specs.Rules.{Failing, entries, version_fails, names_fail, labels_fail, flow_fails, arguments_fail, limits_fail, files_fail, file_entry, task_entry, known, tasks_of, longest_of}
-use Rattle.lio_policy.specs.Verdict.{Gives, fault_at, blamed, first_fault, declarations_fault, uses_fault, least, made, judged, unless_fault, shape_fails, drafted, draft_of, document_of, from_document, from_parts, from_draft, policy_of}
-use Rattle.lio_policy.specs.declared.draft.Draft.{Draft}
-use Rattle.lio_policy.specs.declared.draft.FileDraft.{FileDraft}
-use Rattle.lio_policy.specs.declared.draft.TaskDraft.{TaskDraft}
-use Rattle.lio_policy.specs.declared.fault.PolicyFault.{PolicyFault}
-use Rattle.lio_policy.specs.declared.fault.PolicyFault.TheVariants.{Bad, NoMemory}
+use Rattle.lio_draft.specs.Converted.{first_failing}
+use Rattle.lio_draft.specs.Failing.{Failing, entries, fault_at, blamed, unless_fault}
+use Rattle.lio_draft.specs.Drafted.{draft_of}
+use Rattle.lio_draft.specs.declared.draft.Draft.{Draft}
+use Rattle.lio_draft.specs.declared.fault.PolicyFault.{PolicyFault}
+use Rattle.lio_draft.specs.declared.fault.PolicyFault.TheVariants.{NoMemory}
+use Rattle.lio_draft.proofs.FailingLemmas.{Blames, not_blamed}
+use Rattle.lio_policy.specs.Rules.{version_fails, names_fail, labels_fail, flow_fails, arguments_fail, limits_fail, files_fail, file_entry, task_entry, known, tasks_of, longest_of}
+use Rattle.lio_policy.specs.Verdict.{Gives, first_fault, declarations_fault, uses_fault, least, made, judged, from_draft, policy_of}
+use Rattle.lio_policy.specs.Policy.{PolicyParts, IsPolicy}
 use Rattle.lio_policy.specs.declared.policy.Policy.{Policy}
 use Rattle.lio_policy.specs.declared.policy.FileEntry.{FileEntry}
 use Rattle.lio_policy.specs.declared.policy.TaskEntry.{TaskEntry}
-use Rattle.lio_policy.proofs.ConvertedLemmas.{unmade_of_map, filter_map_of_map}
-use Rattle.lio_policy.specs.Policy.{PolicyParts, IsPolicy}
 use Rattle.lio_policy.proofs.MadeLemmas.{nothing_fails}
 use Rattle.lio_policy.proofs.PolicyLemmas.{BreaksNone, parts, is_policy}
-use Rattle.lio_policy.proofs.FailingLemmas.{Blames, HasLengths, length_unmade}
-
--- where no entry fails, the rule blames none
-pub not_blamed : (rule : ℕ) (f : Failing) → first_failing 0 (entries f) ≡ None → blamed rule f ≡ None
-not_blamed rule f h = ap (fault_at rule) h
 
 blames_none : (rule : ℕ) (f : Failing) → blamed rule f ≡ None → first_failing 0 (entries f) ≡ None
 blames_none rule f h = by (first_failing 0 (entries f)) h
@@ -43,36 +33,6 @@ stop o more fault h = ap (λ p. first_fault (p ∷ more)) h
 none_first : (o : Option PolicyFault) (more : List (Option PolicyFault)) → first_fault (o ∷ more) ≡ None → (o ≡ None) × (first_fault more ≡ None)
 none_first None more h = (refl, h)
 none_first (Some fault) more h = absurd (cc)
-
--- the values of a document, seen as their data
-pub seen_none : {Z : Type 0} (make : Data → Option Z) (k : ℕ) (vs : List Value) → first_failing k (unmade (λ v. make (view v)) vs) ≡ None → first_failing k (unmade make (map view vs)) ≡ None
-seen_none make k vs h = ap (first_failing k) (unmade_of_map make view vs) ∙ h
-
-pub seen_blames : {Z : Type 0} (make : Data → Option Z) (rule k : ℕ) (vs : List Value) (fault : PolicyFault) → Blames rule (first_failing k (unmade (λ v. make (view v)) vs)) fault → Blames rule (first_failing k (unmade make (map view vs))) fault
-seen_blames make rule k vs fault h = subst (λ fs. Blames rule (first_failing k fs) fault) (sym (unmade_of_map make view vs)) h
-
-pub seen_made : {Z : Type 0} (make : Data → Option Z) (vs : List Value) (made : List Z) → made ≡ filter_map (λ v. make (view v)) vs → made ≡ filter_map make (map view vs)
-seen_made make vs made h = h ∙ sym (filter_map_of_map make view vs)
-
-pub shape_lengths : (p : Parts) (a b c : ℕ) → a ≡ length p.principals → b ≡ length p.channels → c ≡ length p.inputs → HasLengths (shape_fails p) a b c
-shape_lengths p a b c h i j = record { principals = length_unmade as_str p.principals ∙ sym h; channels = length_unmade file_of p.channels ∙ sym i; inputs = length_unmade file_of p.inputs ∙ sym j }
-
--- the draft of a document's parts, or the fault of its shape
-pub drafted_fault : (p : Parts) (fault : PolicyFault) → Blames 2 (first_failing 0 (entries (shape_fails p))) fault → (fault ≡ NoMemory) ⊎ (drafted p ≡ Err fault)
-drafted_fault p fault (inl e) = inl e
-drafted_fault p fault (inr e) = inr (ap (λ o. unless_fault o (Ok (draft_of p))) e)
-
-pub drafted_ok : (p : Parts) (ps : List (List ℕ)) (cs is : List FileDraft) (ts : List TaskDraft) → first_failing 0 (entries (shape_fails p)) ≡ None
-    → ps ≡ filter_map as_str p.principals → cs ≡ filter_map file_of p.channels → is ≡ filter_map file_of p.inputs → ts ≡ filter_map task_of p.tasks
-    → drafted p ≡ Ok (record { version = p.version; longest = p.longest; principals = ps; channels = cs; inputs = is; tasks = ts })
-drafted_ok p ps cs is ts none e f g h =
-    ap (λ o. unless_fault o (Ok (draft_of p))) (not_blamed 2 (shape_fails p) none)
-    ∙ sym (
-    ap (λ x. Ok (record { version = p.version; longest = p.longest; principals = x; channels = cs; inputs = is; tasks = ts })) e
-    ∙ ap (λ x. Ok (record { version = p.version; longest = p.longest; principals = filter_map as_str p.principals; channels = x; inputs = is; tasks = ts })) f
-    ∙ ap (λ x. Ok (record { version = p.version; longest = p.longest; principals = filter_map as_str p.principals; channels = filter_map file_of p.channels; inputs = x; tasks = ts })) g
-    ∙ ap (λ x. Ok (record { version = p.version; longest = p.longest; principals = filter_map as_str p.principals; channels = filter_map file_of p.channels; inputs = filter_map file_of p.inputs; tasks = x })) h
-    )
 
 -- no entry of a draft fails a rule
 abbrev pub Clean : Failing → Type 0
@@ -190,19 +150,14 @@ passes_all d p is a b = subst IsPolicy is (is_policy d (breaks_none d a b))
 
 -- ---- the text
 
-pub no_document : (bytes : List ℕ) (fault : PolicyFault) → (fault ≡ NoMemory) ⊎ ((fault ≡ Bad 1 0) × (document_of bytes ≡ None)) → (fault ≡ NoMemory) ⊎ (policy_of bytes ≡ Err fault)
+pub no_draft : (bytes : List ℕ) (fault : PolicyFault) → (fault ≡ NoMemory) ⊎ (draft_of bytes ≡ Err fault) → (fault ≡ NoMemory) ⊎ (policy_of bytes ≡ Err fault)
 unfolding policy_of
-no_document bytes fault (inl e) = inl e
-no_document bytes fault (inr e) = inr (ap (λ o. from_draft (from_document o)) e.1 ∙ ap (λ f. Err f) (sym e.0))
+no_draft bytes fault (inl e) = inl e
+no_draft bytes fault (inr e) = inr (ap from_draft e)
 
-pub no_draft : (bytes : List ℕ) (document : Data) (fault : PolicyFault) → document_of bytes ≡ Some document → (fault ≡ NoMemory) ⊎ (from_parts (parts_of document) ≡ Err fault) → (fault ≡ NoMemory) ⊎ (policy_of bytes ≡ Err fault)
+pub is_judged : (bytes : List ℕ) (d : Draft) → draft_of bytes ≡ Ok d → policy_of bytes ≡ judged d
 unfolding policy_of
-no_draft bytes document fault is (inl e) = inl e
-no_draft bytes document fault is (inr e) = inr (ap (λ o. from_draft (from_document o)) is ∙ ap from_draft e)
-
-pub is_judged : (bytes : List ℕ) (document : Data) (d : Draft) → document_of bytes ≡ Some document → from_parts (parts_of document) ≡ Ok d → policy_of bytes ≡ judged d
-unfolding policy_of
-is_judged bytes document d is e = ap (λ o. from_draft (from_document o)) is ∙ ap from_draft e
+is_judged bytes d e = ap from_draft e
 
 -- so what a draft gives, its text gives
 pub gives_ok : (r : Result Policy PolicyFault) (d : Draft) (bytes : List ℕ) → policy_of bytes ≡ judged d → Gives (judged d) r → IfOk r (λ policy. policy_of bytes ≡ Ok policy)

@@ -11,36 +11,21 @@ use Rattle.lio_labels.specs.LabelText as label
 use Rattle.lio_labels.specs.Flow.{flows}
 use Rattle.lio_labels.specs.declared.label.Label.{Label}
 use Rattle.lio_values.specs.declared.value.Plain.TheVariants as plain
-use Rattle.lio_policy.specs.Converted.{converted, unmade}
-use Rattle.lio_policy.specs.declared.draft.FileDraft.{FileDraft}
-use Rattle.lio_policy.specs.declared.draft.ArgDraft.{ArgDraft}
-use Rattle.lio_policy.specs.declared.draft.ArgDraft.TheVariants as draft
-use Rattle.lio_policy.specs.declared.draft.TaskDraft.{TaskDraft}
-use Rattle.lio_policy.specs.declared.draft.Draft.{Draft}
-use Rattle.lio_policy.specs.declared.draft.LabelledArg.{LabelledArg}
-use Rattle.lio_policy.specs.declared.draft.LabelledArg.TheVariants as labelled
-use Rattle.lio_policy.specs.declared.draft.LabelledTask.{LabelledTask}
+use Rattle.lio_draft.specs.Failing.{Failing}
+use Rattle.lio_draft.specs.Converted.{converted, unmade}
+use Rattle.lio_draft.specs.declared.draft.FileDraft.{FileDraft}
+use Rattle.lio_draft.specs.declared.draft.ArgDraft.{ArgDraft}
+use Rattle.lio_draft.specs.declared.draft.ArgDraft.TheVariants as draft
+use Rattle.lio_draft.specs.declared.draft.TaskDraft.{TaskDraft}
+use Rattle.lio_draft.specs.declared.draft.Draft.{Draft}
+use Rattle.lio_policy.specs.declared.labelled.LabelledArg.{LabelledArg}
+use Rattle.lio_policy.specs.declared.labelled.LabelledArg.TheVariants as labelled
+use Rattle.lio_policy.specs.declared.labelled.LabelledTask.{LabelledTask}
 use Rattle.lio_policy.specs.declared.policy.FileEntry.{FileEntry}
 use Rattle.lio_policy.specs.declared.policy.Arg.{Arg}
 use Rattle.lio_policy.specs.declared.policy.Arg.TheVariants as arg
 use Rattle.lio_policy.specs.declared.policy.TaskEntry.{TaskEntry}
 use Rattle.lio_policy.specs.declared.arguments.Known.{Known}
-
--- something of each entry
-pub record OfEntries (A : Type 0) : Type 0 where
-  pub document : A
-  pub principals : List A
-  pub channels : List A
-  pub inputs : List A
-  pub tasks : List A
-
--- the same in the order of their numbers
-abbrev pub entries : {A : Type 0} → OfEntries A → List A
-entries f = f.document ∷ (f.principals ++ (f.channels ++ (f.inputs ++ f.tasks)))
-
--- which entries fail
-abbrev pub Failing : Type 0
-Failing = OfEntries Bool
 
 -- no item of a list fails
 abbrev pub none_of : {X : Type 0} → List X → List Bool
@@ -101,6 +86,9 @@ labelled_arg names (draft.Bytes text) = Some (labelled.Fixed (plain.Bytes text))
 labelled_arg names (draft.Whole n) = Some (labelled.Fixed (plain.Whole n))
 labelled_arg names (draft.Flag b) = Some (labelled.Fixed (plain.Flag b))
 labelled_arg names draft.Unit = Some (labelled.Fixed plain.Unit)
+
+abbrev pub labels_of : List (List ℕ) → TaskDraft → Option (Label × Label)
+labels_of names t = option_and_then (λ l. option_map (λ clearance. (l, clearance)) (label_of names t.clearance)) (label_of names t.label)
 
 abbrev pub with_args : TaskDraft → Label → Label → List LabelledArg → LabelledTask
 with_args t l clearance args = record { name = t.name; proc_name = t.proc_name; label = l; clearance = clearance; turns = t.turns; cells = t.cells; args = args }

@@ -1,17 +1,16 @@
 //! Rule 7: arguments.
 ghost use Rattle.std.specs.Prelude.{◌≡◌, IfOk};
 ghost use Rattle.std.specs.List.{filter_map};
+ghost use Rattle.lio_draft.specs.Failing.{entries, Passes};
 ghost use Rattle.lio_policy.specs.Rules as spec;
-ghost use Rattle.lio_policy.specs.Rules.{entries, arguments_fail, tasks_of};
-ghost use Rattle.lio_policy.specs.Verdict.{Passes};
+ghost use Rattle.lio_policy.specs.Rules.{arguments_fail, tasks_of};
 
-use crate::conversion::{Conversion, each};
-use crate::draft::{Draft, LabelledArg, LabelledTask};
-use crate::entries::{each_entry, first_task, shown};
-use crate::fault::PolicyFault;
+use crate::copies::{copied_labels, copied_texts};
+use crate::labelled::{LabelledArg, LabelledTask};
 use crate::policy::{Arg, FileEntries, TaskEntries, TaskEntry};
 use crate::table::Table;
 use lio_clauses::NoMemory;
+use lio_draft::{Conversion, Draft, PolicyFault, each, each_entry, first_task, shown};
 use lio_labels::Label;
 use lio_values::{Handle, Plain, Text};
 use std::alloc::Global;
@@ -49,7 +48,14 @@ impl Known {
     pub(crate) fn into_channels(self) -> FileEntries
         ensures { result ≡ self.channels }
     {
-        self.channels
+        let Known {
+            channel_names,
+            channels,
+            input_names,
+        } = self;
+        drop(channel_names);
+        drop(input_names);
+        channels
     }
 }
 
@@ -80,11 +86,15 @@ impl Conversion<LabelledTask, TaskEntry> for Known {
 fn copied_parts(alloc: Global, task: &LabelledTask) -> Result<(Text, Text, Label, Label), NoMemory>
     ensures { IfOk result (λ parts. (parts.0 ≡ task.now.name) × (parts.1 ≡ task.now.proc_name) × (parts.2 ≡ task.now.label) × (parts.3 ≡ task.now.clearance)) }
 {
-    let name = task.name.copy(alloc)?;
-    let proc_name = task.proc_name.copy(alloc)?;
-    let label = task.label.copy(alloc)?;
-    let clearance = task.clearance.copy(alloc)?;
-    Ok((name, proc_name, label, clearance))
+    let (name, proc_name) = copied_texts(alloc, &task.name, &task.proc_name)?;
+    match copied_labels(alloc, task) {
+        Ok((label, clearance)) => Ok((name, proc_name, label, clearance)),
+        Err(refused) => {
+            drop(name);
+            drop(proc_name);
+            Err(refused)
+        }
+    }
 }
 
 /// A task with its arguments, if what they name is known.

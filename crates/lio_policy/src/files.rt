@@ -1,15 +1,13 @@
 //! Rule 9: names of files.
-ghost use Rattle.std.specs.Prelude.{◌≡◌, ◌==◌};
+ghost use Rattle.std.specs.Prelude.{◌≡◌, ◌==◌, []};
 ghost use Rattle.std.specs.List.{list_any};
-ghost use Rattle.lio_policy.specs.Rules.{begins_with_dash, entries, files_fail, no_file};
-ghost use Rattle.lio_policy.specs.Verdict.{Passes};
+ghost use Rattle.lio_draft.specs.Failing.{entries, Passes};
+ghost use Rattle.lio_policy.specs.Rules.{begins_with_dash, files_fail, no_file};
 
-use crate::draft::{Draft, FileDraft};
-use crate::entries::{first_channel, first_input};
-use crate::fault::PolicyFault;
 use crate::keys::{Key, add_keys};
 use crate::table::Table;
 use lio_clauses::NoMemory;
+use lio_draft::{Draft, FileDraft, PolicyFault, first_channel, first_input};
 use std::alloc::Global;
 
 /// The rule's number.
@@ -59,21 +57,24 @@ impl Key<FileDraft> for ByFile {
     }
 }
 
+/// Puts the files of a draft's channels and inputs into a table that has none, up to the first that fails.
+fn add_files(alloc: Global, draft: &Draft, files: &mut Table) -> Result<(), PolicyFault>
+    requires { files.old ≡ [] }
+    ensures { Passes RULE 0 (entries (files_fail draft.now)) result (λ _. Unit {0}) }
+{
+    let channels = draft.channels.as_slice();
+    add_keys(alloc, &ByFile, files, channels, RULE, first_channel(draft))?;
+    let inputs = draft.inputs.as_slice();
+    add_keys(alloc, &ByFile, files, inputs, RULE, first_input(draft))?;
+    Ok(())
+}
+
 /// Whether the files of a draft's channels and inputs may be so, and differ.
 pub(crate) fn check_files(alloc: Global, draft: &Draft) -> Result<(), PolicyFault>
     ensures { Passes RULE 0 (entries (files_fail draft.now)) result (λ _. Unit {0}) }
 {
     let mut files = Table::new(alloc);
-    let channels = draft.channels.as_slice();
-    add_keys(
-        alloc,
-        &ByFile,
-        &mut files,
-        channels,
-        RULE,
-        first_channel(draft),
-    )?;
-    let inputs = draft.inputs.as_slice();
-    add_keys(alloc, &ByFile, &mut files, inputs, RULE, first_input(draft))?;
-    Ok(())
+    let checked = add_files(alloc, draft, &mut files);
+    drop(files);
+    checked
 }

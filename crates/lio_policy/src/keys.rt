@@ -1,12 +1,11 @@
 //! Entries by a text of theirs that is not to be there before.
 ghost use Rattle.std.specs.Prelude.{◌≡◌, ◌++◌, ◌<◌, ◌^◌, IfOk, map};
+ghost use Rattle.lio_draft.specs.Failing.{Passes};
 ghost use Rattle.lio_policy.specs.Rules.{behind, key_fails};
-ghost use Rattle.lio_policy.specs.Verdict.{Passes};
 
-use crate::entries::fault_at;
-use crate::fault::PolicyFault;
 use crate::table::Table;
 use lio_clauses::NoMemory;
+use lio_draft::{PolicyFault, fault_at};
 use std::alloc::Global;
 
 /// A text of each entry, and which texts it may not be.

@@ -3,16 +3,18 @@ ghost use Rattle.std.specs.Prelude.{◌≡◌, IfOk, position};
 ghost use Rattle.std.specs.List.{filter_map};
 ghost use Rattle.std.specs.Result.{result_ok};
 ghost use Rattle.lio_clauses.specs.FormulaText.{reading};
+ghost use Rattle.lio_draft.specs.Failing.{entries, Passes};
 ghost use Rattle.lio_policy.specs.Rules as spec;
-ghost use Rattle.lio_policy.specs.Rules.{entries, labels_fail, flow_fails, tasks_of, file_entry, is_above};
-ghost use Rattle.lio_policy.specs.Verdict.{Passes};
+ghost use Rattle.lio_policy.specs.Rules.{labels_fail, flow_fails, tasks_of, file_entry, is_above};
 
-use crate::conversion::{Conversion, each};
-use crate::draft::{ArgDraft, Draft, FileDraft, LabelledArg, LabelledTask, TaskDraft};
-use crate::entries::{each_entry, fault_at, first_channel, first_input, first_task};
-use crate::fault::PolicyFault;
+use crate::copies::copied_texts;
+use crate::labelled::{LabelledArg, LabelledTask};
 use crate::policy::{FileEntries, FileEntry};
 use lio_clauses::{Formula, Names, NoMemory, TextFault};
+use lio_draft::{
+    ArgDraft, Conversion, Draft, FileDraft, PolicyFault, TaskDraft, each, each_entry, fault_at,
+    first_channel, first_input, first_task,
+};
 use lio_labels::{Label, Priv};
 use lio_values::{List, Plain, Text};
 use std::alloc::Global;
@@ -48,14 +50,20 @@ impl Conversion<FileDraft, FileEntry> for Names {
     ghost gives = { file_entry };
 
     fn convert(&self, alloc: Global, from: &FileDraft) -> Result<Option<FileEntry>, NoMemory> {
-        let Some(label) = label_of(alloc, &from.label, self)? else {
-            return Ok(None);
-        };
-        Ok(Some(FileEntry {
-            name: from.name.copy(alloc)?,
-            label,
-            file: from.file.copy(alloc)?,
-        }))
+        let (name, file) = copied_texts(alloc, &from.name, &from.file)?;
+        match label_of(alloc, &from.label, self) {
+            Ok(Some(label)) => Ok(Some(FileEntry { name, label, file })),
+            Ok(None) => {
+                drop(name);
+                drop(file);
+                Ok(None)
+            }
+            Err(refused) => {
+                drop(name);
+                drop(file);
+                Err(refused)
+            }
+        }
     }
 }
 
@@ -90,8 +98,61 @@ impl Conversion<TaskDraft, LabelledTask> for Names {
     }
 }
 
+/// The label and the clearance of a task, if they can be read.
+fn labels_of(
+    alloc: Global,
+    task: &TaskDraft,
+    names: &Names,
+) -> Result<Option<(Label, Label)>, NoMemory>
+    ensures { IfOk result (λ labels. labels ≡ spec.labels_of names.now task.now) }
+{
+    let Some(label) = label_of(alloc, &task.label, names)? else {
+        return Ok(None);
+    };
+    match label_of(alloc, &task.clearance, names) {
+        Ok(Some(clearance)) => Ok(Some((label, clearance))),
+        Ok(None) => {
+            drop(label);
+            Ok(None)
+        }
+        Err(refused) => {
+            drop(label);
+            Err(refused)
+        }
+    }
+}
+
+/// A task with these labels and arguments.
+fn with_args(
+    alloc: Global,
+    task: &TaskDraft,
+    label: Label,
+    clearance: Label,
+    args: List<LabelledArg>,
+) -> Result<LabelledTask, NoMemory>
+    ensures { IfOk result (λ made. made ≡ spec.with_args task.now label clearance args) }
+{
+    match copied_texts(alloc, &task.name, &task.proc_name) {
+        Ok((name, proc_name)) => Ok(LabelledTask {
+            name,
+            proc_name,
+            label,
+            clearance,
+            turns: task.turns,
+            cells: task.cells,
+            args,
+        }),
+        Err(refused) => {
+            drop(label);
+            drop(clearance);
+            drop(args);
+            Err(refused)
+        }
+    }
+}
+
 /// A task with its labels, if they can be read.
-#[tactic(auto, unfolding(crate::specs::Rules::labelled_task))]
+#[tactic(auto, using(crate::proofs::RuleLemmas::no_labels), unfolding(crate::specs::Rules::labelled_task))]
 fn labelled_task(
     alloc: Global,
     task: &TaskDraft,
@@ -99,24 +160,22 @@ fn labelled_task(
 ) -> Result<Option<LabelledTask>, NoMemory>
     ensures { IfOk result (λ made. made ≡ spec.labelled_task names.now task.now) }
 {
-    let Some(label) = label_of(alloc, &task.label, names)? else {
+    let Some((label, clearance)) = labels_of(alloc, task, names)? else {
         return Ok(None);
     };
-    let Some(clearance) = label_of(alloc, &task.clearance, names)? else {
-        return Ok(None);
-    };
-    let Ok(args) = each(alloc, names, task.args.as_slice())? else {
-        return Ok(None);
-    };
-    Ok(Some(LabelledTask {
-        name: task.name.copy(alloc)?,
-        proc_name: task.proc_name.copy(alloc)?,
-        label,
-        clearance,
-        turns: task.turns,
-        cells: task.cells,
-        args,
-    }))
+    match each(alloc, names, task.args.as_slice()) {
+        Ok(Ok(args)) => Ok(Some(with_args(alloc, task, label, clearance, args)?)),
+        Ok(Err(_place)) => {
+            drop(label);
+            drop(clearance);
+            Ok(None)
+        }
+        Err(refused) => {
+            drop(label);
+            drop(clearance);
+            Err(refused)
+        }
+    }
 }
 
 /// The channels, inputs and tasks of a draft with their labels.

@@ -3,25 +3,18 @@
 #![tactic(auto)]
 
 mod arguments;
-mod conversion;
-mod document;
-mod draft;
-mod entries;
-mod fault;
+mod copies;
 mod files;
-mod json;
 mod keys;
+mod labelled;
 mod labels;
 pub mod laws;
 mod limits;
 mod names;
-mod numbering;
 mod policy;
 mod read;
-mod shape;
 mod table;
 
-pub use fault::PolicyFault;
-pub use numbering::{EntryAt, EntryKind, entry_at};
+pub use lio_draft::PolicyFault;
 pub use policy::{Arg, Args, FileEntries, FileEntry, Policy, TaskEntries, TaskEntry};
 pub use read::read_policy;

@@ -1,13 +1,14 @@
 //! Rule 8: limits.
 ghost use Rattle.std.specs.Prelude.{◌≡◌, ◌<◌, ◌≤◌, ◌+◌, ◌*◌, ◌^◌, ◌||◌, nat_le, nat_lt, []};
 ghost use Rattle.std.specs.List.{list_any};
+ghost use Rattle.lio_draft.specs.Failing.{entries, Passes};
 ghost use Rattle.lio_policy.specs.Rules as spec;
-ghost use Rattle.lio_policy.specs.Rules.{behind, entries, limits_fail, task_fails, is_past_256, is_too_long};
-ghost use Rattle.lio_policy.specs.Verdict.{Passes};
+ghost use Rattle.lio_policy.specs.Rules.{behind, limits_fail, task_fails, is_past_256, is_too_long};
 
-use crate::draft::{ArgDraft, Draft, FileDraft, TaskDraft};
-use crate::entries::{fault_at, first_channel, first_input, first_task};
-use crate::fault::PolicyFault;
+use lio_draft::{
+    ArgDraft, Draft, FileDraft, PolicyFault, TaskDraft, fault_at, first_channel, first_input,
+    first_task,
+};
 
 /// The rule's number.
 const RULE: u32 = 8;

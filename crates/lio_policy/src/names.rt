@@ -1,14 +1,15 @@
 //! Rule 4: names.
 ghost use Rattle.std.specs.Prelude.{◌≡◌, ◌<◌, ◌^◌, ◌++◌, [], ◌∷◌, false, Ok, IfOk};
-ghost use Rattle.lio_policy.specs.Rules.{behind, principal_fails, key_fails, no_name, entries, names_fail, file_names, task_names};
-ghost use Rattle.lio_policy.specs.Verdict.{Passes};
+ghost use Rattle.lio_draft.specs.Failing.{entries, Passes};
+ghost use Rattle.lio_policy.specs.Rules.{behind, principal_fails, key_fails, no_name, names_fail, file_names, task_names};
 
-use crate::draft::{Draft, FileDraft, TaskDraft};
-use crate::entries::{FIRST_PRINCIPAL, fault_at, first_channel, first_input, first_task};
-use crate::fault::PolicyFault;
 use crate::keys::{Key, add_keys};
 use crate::table::Table;
 use lio_clauses::{NameFault, Names, NoMemory};
+use lio_draft::{
+    Draft, FIRST_PRINCIPAL, FileDraft, PolicyFault, TaskDraft, fault_at, first_channel,
+    first_input, first_task,
+};
 use lio_values::Text;
 use std::alloc::Global;
 
@@ -35,6 +36,28 @@ fn add_name(alloc: Global, names: &mut Names, name: &[u8]) -> Result<bool, NoMem
     }
 }
 
+/// Adds principals to names that are none yet, as entries from the given one on, up to the first that fails.
+fn add_all(
+    alloc: Global,
+    names: &mut Names,
+    principals: &[Text],
+    first: u128,
+) -> Result<(), PolicyFault>
+    requires none { names.old ≡ [] }
+    requires small { first < 2 ^ 67 }
+    ensures { Passes RULE first (behind principal_fails [] principals.now) result
+        (λ _. names.new ≡ principals.now) }
+{
+    let mut place = 0;
+    for name in principals {
+        if add_name(alloc, names, name.bytes())? {
+            return Err(fault_at(RULE, first + place));
+        }
+        place += 1;
+    }
+    Ok(())
+}
+
 /// The principals with these names, which are entries from the given one on.
 fn add_principals(alloc: Global, principals: &[Text], first: u128) -> Result<Names, PolicyFault>
     requires { first < 2 ^ 67 }
@@ -42,14 +65,13 @@ fn add_principals(alloc: Global, principals: &[Text], first: u128) -> Result<Nam
         (λ names. names ≡ principals.now) }
 {
     let mut names = Names::new(alloc)?;
-    let mut place = 0;
-    for name in principals {
-        if add_name(alloc, &mut names, name.bytes())? {
-            return Err(fault_at(RULE, first + place));
+    match add_all(alloc, &mut names, principals, first) {
+        Ok(()) => Ok(names),
+        Err(fault) => {
+            drop(names);
+            Err(fault)
         }
-        place += 1;
     }
-    Ok(names)
 }
 
 /// Whether these bytes are no name.

@@ -1,20 +1,19 @@
 //! Reading a policy: its rules in their order.
 ghost use Rattle.std.specs.Prelude.{◌≡◌, ◌⊎◌, IfOk, IfErr, Ok, Err};
 ghost use Rattle.std.specs.List.{filter_map};
+ghost use Rattle.lio_draft.specs.Failing.{entries, Passes};
 ghost use Rattle.lio_policy.specs.Rules as spec;
-ghost use Rattle.lio_policy.specs.Rules.{entries, is_one, version_fails, file_entry, file_names, tasks_of, task_entry, longest_of};
-ghost use Rattle.lio_policy.specs.Verdict.{Gives, Obeys, Passes, declarations_fault, judged, policy_of, uses_fault};
+ghost use Rattle.lio_policy.specs.Rules.{is_one, version_fails, file_entry, file_names, tasks_of, task_entry, longest_of};
+ghost use Rattle.lio_policy.specs.Verdict.{Gives, Obeys, declarations_fault, judged, policy_of, uses_fault};
 
 use crate::arguments::{Known, read_arguments};
-use crate::document::{read_draft, read_value};
-use crate::draft::{Draft, LabelledTask};
-use crate::entries::fault_at;
-use crate::fault::PolicyFault;
 use crate::files::check_files;
+use crate::labelled::LabelledTask;
 use crate::labels::{Labelled, check_flow, read_labels};
 use crate::limits::check_limits;
 use crate::names::{Named, read_names};
 use crate::policy::{Policy, TaskEntries};
+use lio_draft::{Draft, PolicyFault, fault_at, read_draft};
 use std::alloc::Global;
 
 /// The number of the rule on the version.
@@ -135,7 +134,12 @@ pub fn read_policy(alloc: Global, bytes: &[u8]) -> Result<Policy, PolicyFault>
     ensures fault { IfErr result (λ fault. (fault ≡ PolicyFault.NoMemory)
         ⊎ (policy_of bytes.now ≡ Err fault)) }
 {
-    let value = read_value(alloc, bytes)?;
-    let draft = read_draft(alloc, &value)?;
-    judge(alloc, &draft)
+    match read_draft(alloc, bytes) {
+        Ok(draft) => {
+            let policy = judge(alloc, &draft);
+            drop(draft);
+            policy
+        }
+        Err(fault) => Err(fault),
+    }
 }

@@ -3,6 +3,7 @@ ghost use Rattle.std.specs.Prelude.{◌≡◌, All, IfOk, None, length};
 ghost use Rattle.lio_events.specs.Named.{IsContentNamed};
 ghost use Rattle.lio_events.specs.Printable.{IsPrintable};
 ghost use Rattle.lio_calculus.specs.Erased.{erase};
+ghost use Rattle.lio_config.specs.Configuration.{configuration_of};
 ghost use Rattle.lio_start.specs.Fits.{fits};
 ghost use Rattle.lio_start.specs.Start.{start_of};
 ghost use Rattle.lio_syntax.specs.Verdict.{IsOver};
@@ -15,6 +16,7 @@ use crate::runs::{Source, prepared, read_viewer, released};
 use crate::turns::push_refused;
 use lio_clauses::{Names, NoMemory};
 use lio_commands::Answer;
+use lio_config::{Config, Holder};
 use lio_erasure::{Low, LowConfig, LowFault, erase_config};
 use lio_events::print_entry;
 use lio_fields::read_numbers;
@@ -23,7 +25,6 @@ use lio_policy::Policy;
 use lio_policy::laws::policy_keeps_rules;
 use lio_start::start;
 use lio_syntax::Script;
-use lio_task::Holder;
 use lio_values::{Entry, Text};
 use lio_view::Contents;
 use std::alloc::{AllocError, Global};
@@ -57,6 +58,23 @@ pub fn answer(alloc: Global, word: &[u8], fields: &[Vec<u8>]) -> Answered {
     }
 }
 
+/// A copy of the first configuration.
+fn copied_start(
+    alloc: Global,
+    policy: &Policy,
+    script: &Script,
+    texts: &[Text],
+) -> Result<Config, NoMemory>
+    requires fits { fits policy.now.tasks script.now ≡ None }
+    requires inputs { length texts.now ≡ length policy.now.inputs }
+    ensures { IfOk result (λ config. configuration_of script.now config ≡ start_of policy.now script.now texts.now) }
+{
+    let config = start(alloc, policy, script, texts)?;
+    let copy = config.copy(alloc);
+    drop(config);
+    copy
+}
+
 /// What an observer sees of the first configuration.
 fn seen_start(
     alloc: Global,
@@ -70,7 +88,7 @@ fn seen_start(
     ensures seen { IfOk result (λ seen. low_configuration_of script.now policy.now.longest seen ≡ erase observer.now (start_of policy.now script.now texts.now)) }
     ensures kept { IfOk result LeavesOutBlanks }
 {
-    let config = start(alloc, policy, script, texts)?;
+    let config = copied_start(alloc, policy, script, texts)?;
     let seen = erase_config(alloc, &config, observer);
     drop(config);
     seen

@@ -2,8 +2,9 @@
 
 use crate::refusal::{Answered, Refusal};
 use lio_commands::Answer;
+use lio_draft::{EntryAt, EntryKind, entry_at};
 use lio_fields::read_number;
-use lio_policy::{EntryAt, EntryKind, Policy, entry_at, read_policy};
+use lio_policy::{Policy, read_policy};
 use std::alloc::{AllocError, Global};
 
 /// What a command on policies answers, if the word and the number of fields are those of one.

@@ -2,8 +2,8 @@
 
 use lio_clauses::{NoMemory, TextFault};
 use lio_commands::Answer;
+use lio_draft::PolicyFault;
 use lio_fields::FieldFault;
-use lio_policy::PolicyFault;
 use lio_start::StartFault;
 use lio_syntax::ScriptFault;
 use std::alloc::AllocError;

@@ -14,7 +14,7 @@ use Rattle.lio_calculus.specs.Laws.{RunSeenAs}
 use Rattle.lio_schedule.specs.Rounds.{IsComplete, rounds}
 use Rattle.lio_schedule.specs.LowLaws.{RoundsSeenAs}
 use Rattle.lio_wellformed.specs.WellFormed.{IsWellFormed}
-use Rattle.lio_task.specs.Configuration.{configuration_of}
+use Rattle.lio_config.specs.Configuration.{configuration_of}
 use Rattle.lio_run.specs.declared.by_rounds.Ran.{Ran}
 
 -- the run that the code's journal and configuration stand for, with a script

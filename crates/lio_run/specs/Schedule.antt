@@ -4,7 +4,7 @@ use Rattle.std.specs.Option.{option_map_or}
 use Rattle.lio_values.specs.declared.entry.Entry.{Entry}
 use Rattle.lio_syntax.specs.Statements.{Procedure}
 use Rattle.lio_calculus.specs.Step.{Configuration, can, step}
-use Rattle.lio_task.specs.Configuration.{configuration_of}
+use Rattle.lio_config.specs.Configuration.{configuration_of}
 use Rattle.lio_machine.specs.MachineState.{HasTaken, MachineState}
 use Rattle.lio_run.specs.declared.by_schedule.Scheduled.{Scheduled}
 

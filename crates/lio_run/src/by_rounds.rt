@@ -10,13 +10,13 @@ ghost use Rattle.lio_powers.specs.Laws.{ReleasesByPowers};
 ghost use Rattle.lio_run.specs.Runs.{IsSeen, RunsByRounds, SeesChannels, ran_of};
 
 use lio_clauses::NoMemory;
+use lio_config::Config;
 use lio_events::Journal;
 use lio_machine::Machine;
 use lio_policy::Policy;
 use lio_policy::laws::policy_keeps_rules;
 use lio_start::start;
 use lio_syntax::Script;
-use lio_task::Config;
 use lio_values::Text;
 use std::alloc::Global;
 

@@ -1,17 +1,17 @@
 //! The first configuration of a policy and a script.
 ghost use Rattle.std.specs.Prelude.{◌≡◌, IfOk, None, length};
 ghost use Rattle.lio_wellformed.specs.WellFormed.{IsWellFormed};
-ghost use Rattle.lio_task.specs.Configuration.{configuration_of};
+ghost use Rattle.lio_config.specs.Configuration.{configuration_of};
 ghost use Rattle.lio_start.specs.Fits as spec;
 ghost use Rattle.lio_start.specs.Start.{start_of};
 
 use crate::holders::{add_channels, add_free, add_jobs, cells_in_all};
 use crate::inputs::sealed_inputs;
 use lio_clauses::NoMemory;
+use lio_config::Config;
 use lio_policy::Policy;
 use lio_policy::laws::policy_keeps_rules;
 use lio_syntax::Script;
-use lio_task::Config;
 use lio_values::Text;
 use std::alloc::Global;
 

@@ -2,16 +2,16 @@
 ghost use Rattle.std.specs.Prelude.{◌≡◌, ◌<◌, ◌^◌, IfOk, OnOk, List, map, replicate};
 ghost use Rattle.lio_syntax.specs.Statements.{Procedure};
 ghost use Rattle.lio_calculus.specs.Step.{blank};
-ghost use Rattle.lio_task.specs.Configuration.{cell_of};
+ghost use Rattle.lio_config.specs.Configuration.{cell_of};
 ghost use Rattle.lio_start.specs.Start.{cells_in_all, channel_cell, job_cells};
 ghost use Rattle.lio_start.specs.Making.{Adds, CanBegin, CanBeginAll};
 
 use crate::beginning::job;
 use lio_cells::{Node, State};
 use lio_clauses::NoMemory;
+use lio_config::Holder;
 use lio_policy::{FileEntry, TaskEntry};
 use lio_syntax::Script;
-use lio_task::Holder;
 use lio_values::{Text, Values};
 use std::alloc::Global;
 

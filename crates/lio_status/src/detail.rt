@@ -2,10 +2,11 @@
 
 use crate::status::HostStatus;
 use lio_clauses::NoMemory;
+use lio_draft::{EntryAt, PolicyFault, entry_at};
 use lio_front::{MOST_POLICY_BYTES, MOST_SCRIPT_BYTES};
 use lio_lines::read_header;
 use lio_outside::Store;
-use lio_policy::{EntryAt, PolicyFault, entry_at, read_policy};
+use lio_policy::{Policy, read_policy};
 use lio_values::Text;
 use lio_words::split_word;
 use std::alloc::Global;
@@ -207,17 +208,7 @@ fn line_detail(alloc: Global, script: &[u8], number: u32, rule: u32) -> Result<D
 }
 
 /// A task of a policy that can't begin in a script.
-fn task_detail(
-    alloc: Global,
-    policy: &[u8],
-    script: &[u8],
-    place: u32,
-) -> Result<Detail, NoMemory> {
-    let policy = match read_policy(alloc, policy) {
-        Ok(policy) => policy,
-        Err(PolicyFault::Bad { .. }) => return Ok(Detail::Nothing),
-        Err(PolicyFault::NoMemory) => return Err(NoMemory),
-    };
+fn task_at(alloc: Global, policy: &Policy, script: &[u8], place: u32) -> Result<Detail, NoMemory> {
     let Some(task) = policy.tasks.as_slice().get(place as usize) else {
         return Ok(Detail::Nothing);
     };
@@ -227,6 +218,24 @@ fn task_detail(
         given: task.args.as_slice().len(),
         wanted: parameters(script, task.proc_name.bytes()),
     }))
+}
+
+/// The same, of the policy that a text is.
+fn task_detail(
+    alloc: Global,
+    policy: &[u8],
+    script: &[u8],
+    place: u32,
+) -> Result<Detail, NoMemory> {
+    match read_policy(alloc, policy) {
+        Ok(policy) => {
+            let detail = task_at(alloc, &policy, script, place);
+            drop(policy);
+            detail
+        }
+        Err(PolicyFault::Bad { .. }) => Ok(Detail::Nothing),
+        Err(PolicyFault::NoMemory) => Err(NoMemory),
+    }
 }
 
 /// What the texts of the policy and the script say of a refusal.

@@ -3,7 +3,7 @@
 use crate::detail::{Detail, Hint};
 use crate::display::Shown;
 use crate::status::HostStatus;
-use lio_policy::{EntryAt, EntryKind};
+use lio_draft::{EntryAt, EntryKind};
 use lio_values::Text;
 use std::alloc::{AllocError, Global};
 use std::fmt::Write;

@@ -12,7 +12,7 @@ use Rattle.lio_control.specs.Throwing.{Place}
 use Rattle.lio_calculus.specs.Task.{TaskState}
 use Rattle.lio_calculus.specs.Step.{child_of, parameters_of, body_of}
 use Rattle.lio_lookup.specs.Procedure.{IsNumbered}
-use Rattle.lio_plan.specs.StateOf.{program_of}
+use Rattle.lio_turns.specs.StateOf.{program_of}
 
 -- a task at a place, with what a birth gives it
 abbrev pub placed : Place → Label → Birth → TaskState

@@ -1,11 +1,3 @@
 pub mod StepLemmas
 pub mod BirthLemmas
-pub mod StepAfter
 pub mod PlannedLemmas
-pub mod HolderLemmas
-pub mod MoveLemmas
-pub mod PairLemmas
-pub mod LentLemmas
-pub mod TurnLemmas
-pub mod PreviewLemmas
-pub mod WellFormedLemmas

@@ -11,9 +11,10 @@ use Rattle.lio_calculus.specs.Afforded.{Affords, AffordsPlan}
 use Rattle.lio_calculus.proofs.AffordedLemmas.{plan_affords}
 use Rattle.lio_plan.specs.declared.planned.Planned.{Planned}
 use Rattle.lio_plan.specs.declared.planned.Planned.TheVariants as planned
-use Rattle.lio_plan.specs.declared.planned.Turn.{Turn}
-use Rattle.lio_plan.specs.declared.planned.Turn.TheVariants as turn
-use Rattle.lio_plan.specs.Planned.{onward_in, onward_of, plan_of, simple_of, turn_of}
+use Rattle.lio_turns.specs.declared.turn.Turn.{Turn}
+use Rattle.lio_turns.specs.declared.turn.Turn.TheVariants as turn
+use Rattle.lio_plan.specs.Planned.{plan_of, simple_of}
+use Rattle.lio_turns.specs.Turns.{onward_in, onward_of, turn_of}
 use Rattle.lio_task.specs.Next.{next_by, next_of, resumed_by, resumed}
 
 pub next_is : (program : Program) (lines : List Line) (task : TaskState) (p : Planned) → plan_of lines task.items p ≡ plan program task → next_by (plan_of lines task.items p) ≡ next_of program task
@@ -22,11 +23,13 @@ next_is program lines task p e = ap next_by e
 -- a task affords how it goes on after a turn
 pub turn_afforded : (program : Program) (lines : List Line) (task : TaskState) (t : Turn) → IsTrue (flows task.label task.clearance) → plan_of lines task.items (planned.Turn t) ≡ plan program task
     → Affords task (onward_of lines (simple_of task.items) (onward_in t))
+turn_afforded program lines task (turn.Step onward) cleared e = subst (AffordsPlan program task) (sym e) (plan_affords program task cleared)
 turn_afforded program lines task (turn.Own asked reply onward) cleared e = subst (AffordsPlan program task) (sym e) (plan_affords program task cleared)
 turn_afforded program lines task (turn.Visit asked target onward) cleared e = (subst (AffordsPlan program task) (sym e) (plan_affords program task cleared)).0
 
 -- a task after its turn
 pub turn_resumes : (lines : List Line) (task : TaskState) (asked : Act) (reply : Reply) (t : Turn) → gone_on task (onward_of lines (simple_of task.items) (onward_in t)) asked reply ≡ resumed_by task asked reply (turn_of lines (simple_of task.items) t)
+turn_resumes lines task asked reply (turn.Step onward) = refl
 turn_resumes lines task asked reply (turn.Own act answer onward) = refl
 turn_resumes lines task asked reply (turn.Visit act target onward) = refl
 

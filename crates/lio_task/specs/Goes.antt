@@ -12,8 +12,9 @@ use Rattle.lio_calculus.specs.Going as going
 use Rattle.lio_calculus.specs.Going.{gone_on}
 use Rattle.lio_calculus.specs.Afforded.{Affords}
 use Rattle.lio_plan.specs.declared.planned.Control.{Control}
-use Rattle.lio_plan.specs.declared.planned.Onward.{Onward}
-use Rattle.lio_plan.specs.Planned.{control_of, onward_of, simple_of}
+use Rattle.lio_turns.specs.declared.turn.Onward.{Onward}
+use Rattle.lio_plan.specs.Planned.{control_of, simple_of}
+use Rattle.lio_turns.specs.Turns.{onward_of}
 use Rattle.lio_plan.specs.Leads.{Leads}
 use Rattle.lio_task.specs.declared.go.Way.{Way}
 use Rattle.lio_task.specs.declared.go.Way.TheVariants as way

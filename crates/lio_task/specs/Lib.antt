@@ -3,7 +3,3 @@ pub mod Births
 pub mod Goes
 pub mod Next
 pub mod Status
-pub mod Configuration
-pub mod Pair
-pub mod Turns
-pub mod Takes

@@ -12,7 +12,7 @@ impl Task {
     ghost use Rattle.std.specs.Prelude.{◌≡◌, ℕ, IfOk};
     ghost use Rattle.std.specs.Option.{option_map};
     ghost use Rattle.lio_calculus.specs.Step.{born, child_of};
-    ghost use Rattle.lio_plan.specs.StateOf.{program_of};
+    ghost use Rattle.lio_turns.specs.StateOf.{program_of};
     ghost use Rattle.lio_task.specs.Births.{CanBear, CanBeBorn};
     ghost use Rattle.lio_task.specs.StateOf.{state_in};
 

@@ -1,20 +1,21 @@
 //! How a task goes on after its turn.
 use crate::task::Task;
 use lio_clauses::NoMemory;
-use lio_plan::{Control, Onward};
+use lio_plan::Control;
 use lio_syntax::Script;
+use lio_turns::Onward;
 use lio_values::{Act, Reply};
 use std::alloc::Global;
 
 /// How a task goes on after its turn.
 #[derive(Drop)]
-pub(crate) enum Way {
+pub enum Way<'s> {
     /// By a step of control.
     Step(Control),
     /// Not at all.
     End,
     /// After the turn of a statement or of its access.
-    On(Onward),
+    On(Onward<'s>),
 }
 
 impl Task {
@@ -24,7 +25,8 @@ impl Task {
 
     /// Goes on after its turn, with the turn's act and reply.
     #[tactic(auto, unfolding(lio_calculus::specs::Going::gone_on))]
-    pub(crate) fn go(
+    #[inline(always)]
+    pub fn go(
         &mut self,
         alloc: Global,
         script: &Script,
@@ -33,7 +35,7 @@ impl Task {
         reply: &Reply,
     ) -> Result<(), NoMemory>
         requires { CanGo script.now self.old way }
-        ensures ok { OnOk result (Goes script.now self.old self.new way act.now reply.now) }
+        ensures ok { OnOk result (Goes script.now self.old self.new way.entry act.now reply.now) }
         ensures err { OnErr result (state_in script.now self.new ≡ state_in script.now self.old) }
     {
         match way {

@@ -44,6 +44,7 @@ impl Task {
     }
 
     /// A name is bound to a value.
+    #[inline(always)]
     fn go_bind(&mut self, alloc: Global, script: &Script, name: &Text, value: Value) -> Done
         requires { AtStatement (state_in script.now self.old).items }
         ensures ok { OnOk result (state_in script.now self.new ≡ going.binding (spent (state_in script.now self.old)) name.now value) }

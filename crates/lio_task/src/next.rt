@@ -5,8 +5,9 @@ ghost use Rattle.lio_values.specs.declared.act.Act.TheVariants as act;
 use crate::go::Way;
 use crate::task::Task;
 use lio_clauses::NoMemory;
-use lio_plan::{Planned, Turn};
+use lio_plan::{Planned, plan_next};
 use lio_syntax::Script;
+use lio_turns::Turn;
 use lio_values::{Act, Content, Held, Reply};
 use std::alloc::Global;
 
@@ -25,23 +26,23 @@ impl Task {
     ghost use Rattle.std.specs.Prelude.{◌≡◌, IfOk, OnOk, OnErr};
     ghost use Rattle.lio_syntax.specs.Lines.{script_lines};
     ghost use Rattle.lio_calculus.specs.Plan as plan;
-    ghost use Rattle.lio_plan.specs.StateOf.{program_of};
+    ghost use Rattle.lio_turns.specs.StateOf.{program_of};
     ghost use Rattle.lio_plan.specs.Planned.{plan_of};
     ghost use Rattle.lio_plan.specs.Leads.{LeadsOn};
     ghost use Rattle.lio_task.specs.Next.{next_of, resumed};
     ghost use Rattle.lio_task.specs.StateOf.{state_in};
 
     /// The plan of its next turn.
-    pub(crate) fn plan(
+    pub fn plan<'s>(
         &self,
         alloc: Global,
-        script: &Script,
+        script: &'s Script,
         longest: u32,
-    ) -> Result<Planned, NoMemory>
+    ) -> Result<Planned<'s>, NoMemory>
         ensures plan { IfOk result (λ planned. let state = state_in script.now self.now in plan_of (script_lines script.now) state.items planned ≡ plan.plan (program_of script.now longest) state) }
         ensures leads { IfOk result (LeadsOn (script_lines script.now) (state_in script.now self.now).items) }
     {
-        self.standing().plan(alloc, script, longest)
+        plan_next(alloc, &self.standing(), script, longest)
     }
 
     /// What its next turn does. Over comes exactly where it has ended.
@@ -52,6 +53,10 @@ impl Task {
             Planned::Over => Ok(Next::Over),
             Planned::Control(_) => Ok(Next::Own(Act::Step, Reply::Done)),
             Planned::Ends(content) => Ok(Next::Own(ended(alloc, content)?, Reply::Done)),
+            Planned::Turn(Turn::Step(onward)) => {
+                drop(onward);
+                Ok(Next::Own(Act::Step, Reply::Done))
+            }
             Planned::Turn(Turn::Own(act, reply, onward)) => {
                 drop(onward);
                 Ok(Next::Own(act, reply))
@@ -88,7 +93,7 @@ impl Task {
 }
 
 /// The act in which a task ends with a content.
-pub(crate) fn ended(alloc: Global, content: Content) -> Result<Act, NoMemory>
+pub fn ended(alloc: Global, content: Content) -> Result<Act, NoMemory>
     ensures { IfOk result (λ asked. asked ≡ act.Ended content) }
 {
     Ok(Act::Ended(Held::new(alloc, content)?))

@@ -25,9 +25,23 @@ pub enum Status {
 }
 
 impl Task {
-    ghost use Rattle.std.specs.Prelude.{◌≡◌};
+    ghost use Rattle.std.specs.Prelude.{◌≡◌, ◌⊎◌};
+    ghost use Rattle.lio_task.specs.declared.status.Status.TheVariants as status;
     ghost use Rattle.lio_task.specs.StateOf.{state_in};
     ghost use Rattle.lio_task.specs.Status.{status_of};
+
+    /// Where it stands, as far as the top of what it has to do says: elsewhere it is said to run. It takes no memory.
+    pub fn top_status(&self, script: &Script) -> Status
+        ensures { (result ≡ status.Running) ⊎ (result ≡ status_of (state_in script.now self.now)) }
+    {
+        if self.ended {
+            return Status::Ended;
+        }
+        match self.continuation.top_access(script) {
+            Some(simple) => status_at(self.continuation.environment(), simple),
+            None => Status::Running,
+        }
+    }
 
     /// Where it stands. It takes no memory.
     pub fn status(&self, script: &Script) -> Status

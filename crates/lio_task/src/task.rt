@@ -4,7 +4,7 @@ ghost use Rattle.lio_labels.specs.Flow.{flows};
 
 use lio_control::Continuation;
 use lio_labels::Label;
-use lio_plan::Standing;
+use lio_turns::Standing;
 
 /// A task: where it stands in its script, its current label and its clearance, the turns that it has left, and the numbers that it owns.
 /// Source: the tasks of LIO, ICFP 2012.
@@ -22,7 +22,7 @@ pub struct Task {
 }
 
 impl Task {
-    ghost use Rattle.lio_plan.specs.StateOf as plan;
+    ghost use Rattle.lio_turns.specs.StateOf as plan;
     ghost use Rattle.lio_lines.specs.declared.line.Line.{Line};
     ghost use Rattle.lio_task.specs.StateOf.{state_of};
 

@@ -5,20 +5,25 @@ use lio_clauses::NoMemory;
 use lio_values::Content;
 use std::alloc::Global;
 use std::marker::Model;
+use std::mem;
 
 /// A list of contents, which keeps the allocator that it was made with. Its front can be taken out.
 #[derive(Drop)]
 pub struct Contents {
+    /// The contents, behind so many that were taken out.
     items: Vec<Content>,
+    taken: usize,
 }
 
 impl Model for Contents {
-    ghost use Rattle.std.specs.Prelude.{List};
+    ghost use Rattle.std.specs.Prelude.{◌≤◌, List, drop as drop_first, length};
     ghost use Rattle.lio_values.specs.declared.value.Content.{Content};
 
     ghost Value = { List Content };
 
-    ghost view = { λ contents. contents.items.items };
+    ghost view = { λ contents. drop_first contents.taken contents.items.items };
+
+    ghost invariant = { λ contents. contents.taken ≤ length contents.items.items };
 }
 
 impl Contents {
@@ -28,6 +33,7 @@ impl Contents {
     {
         Contents {
             items: Vec::new(alloc),
+            taken: 0,
         }
     }
 
@@ -44,17 +50,16 @@ impl Contents {
     pub fn as_slice(&self) -> &[Content]
         ensures { result.now ≡ self.now }
     {
-        self.items.as_slice()
+        &self.items[self.taken..]
     }
 
-    /// Takes the first content out, if there is one. It takes no memory.
+    /// Takes the first content out, if there is one, at the same cost however many there are. It takes no memory.
     pub fn take_front(&mut self) -> Option<Content>
         ensures { MatchOption result ((self.old ≡ []) × (self.new ≡ [])) (λ content. self.old ≡ content ∷ self.new) }
     {
-        if self.items.is_empty() {
-            None
-        } else {
-            Some(self.items.remove(0))
-        }
+        let first = self.items.get_mut(self.taken)?;
+        let content = mem::replace(first, Content::Hidden);
+        self.taken += 1;
+        Some(content)
     }
 }

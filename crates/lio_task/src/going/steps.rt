@@ -14,6 +14,7 @@ impl Task {
 
     /// Goes on by a step of control.
     #[tactic(auto, using(crate::proofs::StepLemmas::skip_on, crate::proofs::StepLemmas::repeat_on, crate::proofs::StepLemmas::guard_on, crate::proofs::StepLemmas::leave_on), unfolding(lio_calculus::specs::Going::gone_on))]
+    #[inline(always)]
     pub(crate) fn go_step(&mut self, alloc: Global, script: &Script, control: Control) -> Done
         requires { Leads (script_lines script.now) (state_in script.now self.old).items control }
         ensures ok { OnOk result (Steps script.now self.old self.new control) }

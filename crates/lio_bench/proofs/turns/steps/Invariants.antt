@@ -1,5 +1,5 @@
 use Rattle.lio_wellformed.specs.WellFormed.{IsWellFormed}
-use Rattle.lio_task.specs.Configuration.{configuration_of}
+use Rattle.lio_config.specs.Configuration.{configuration_of}
 use Rattle.lio_bench.proofs.turns.steps.Given as goal
 
 -- the configuration is well-formed

@@ -1,7 +1,7 @@
 use Rattle.std.proofs.Common.{refl, length}
 use Rattle.lio_policy.specs.Rules.{arguments_fail}
 use Rattle.lio_policy.specs.declared.arguments.TheConstants.{RULE}
-use Rattle.lio_policy.proofs.FailingLemmas.{passes_in_tasks, arguments_lengths, first_none_of}
+use Rattle.lio_policy.proofs.RuleLemmas.{passes_in_tasks, arguments_lengths, first_none_of}
 use Rattle.lio_policy.proofs.arguments.read_arguments.Goals as goal
 
 pub returns : goal.returns

@@ -2,8 +2,9 @@ use Rattle.std.proofs.Common.{◌≡◌, ◌∙◌, ◌<◌, ◌≤◌, ◌+◌,
 use Rattle.std.proofs.lemmas.List.{append-nil, at_drop_all}
 use Rattle.lio_clauses.specs.FormulaText.{shown}
 use Rattle.lio_policy.specs.Rules.{behind, key_fails}
-use Rattle.lio_policy.specs.declared.fault.PolicyFault.TheVariants.{Bad}
-use Rattle.lio_policy.proofs.FailingLemmas.{fails_here, none_left, fault_from, first_from_none}
+use Rattle.lio_draft.specs.declared.fault.PolicyFault.TheVariants.{Bad}
+use Rattle.lio_policy.proofs.RuleLemmas.{fails_here, none_left}
+use Rattle.lio_draft.proofs.FailingLemmas.{fault_from, first_from_none}
 use Rattle.lio_policy.proofs.keys.add_keys.Goals as goal
 
 pub returns-then-branch : goal.returns-then-branch

@@ -7,7 +7,7 @@ use Rattle.lio_calculus.specs.Step.{Configuration}
 use Rattle.lio_wellformed.specs.WellFormed.{IsWellFormed}
 use Rattle.lio_schedule.specs.Rounds.{tasks}
 use Rattle.lio_start.specs.Start.{start_of}
-use Rattle.lio_task.specs.Configuration.{configuration_of}
+use Rattle.lio_config.specs.Configuration.{configuration_of}
 use Rattle.lio_machine.specs.MachineState.{MachineState}
 use Rattle.lio_machine.specs.MachineParts.{machine_of}
 use Rattle.lio_run.specs.Schedule.{ScheduledRun, scheduled_of}

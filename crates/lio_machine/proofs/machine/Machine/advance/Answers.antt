@@ -1,7 +1,7 @@
 use Rattle.std.proofs.Common.{◌≡◌, ◌∙◌, ℕ, List, [], ◌∷◌, ◌++◌, length, append-nil, sym, ap, subst, Some}
 use Rattle.lio_values.specs.declared.entry.Entry.{Entry}
 use Rattle.lio_calculus.specs.Step.{Configuration, Turn, step}
-use Rattle.lio_task.specs.Configuration.{configuration_of}
+use Rattle.lio_config.specs.Configuration.{configuration_of}
 use Rattle.lio_machine.specs.Births.{listed}
 use Rattle.lio_machine.proofs.MachineLemmas.{machine-took}
 use Rattle.lio_machine.proofs.machine.Machine.advance.Goals as goal

@@ -4,7 +4,7 @@ use Rattle.lio_calculus.specs.Step.{Configuration}
 use Rattle.lio_schedule.specs.Rounds.{tasks}
 use Rattle.lio_schedule.specs.Laws.{IsOrderOf}
 use Rattle.lio_schedule.proofs.OrderLemmas.{tasks_are_an_order}
-use Rattle.lio_task.specs.Configuration.{configuration_of}
+use Rattle.lio_config.specs.Configuration.{configuration_of}
 use Rattle.lio_machine.specs.MachineState.{MachineState}
 use Rattle.lio_machine.proofs.HolderTasks.{holders_from, holders_from-end, tasks_from-holders}
 use Rattle.lio_machine.proofs.machine.Machine.new.Goals as goal

@@ -1,5 +1,5 @@
 use Rattle.std.proofs.Common.{◌≡◌, ◌<◌, ℕ, List, length, ap, arith}
-use Rattle.lio_task.specs.Configuration.{configuration_of}
+use Rattle.lio_config.specs.Configuration.{configuration_of}
 use Rattle.lio_schedule.proofs.OrderLaws.{order-short}
 use Rattle.lio_machine.proofs.machine.Machine.order.Goals as goal
 

@@ -1,0 +1,8 @@
+pub mod StepAfter
+pub mod HolderLemmas
+pub mod MoveLemmas
+pub mod PairLemmas
+pub mod LentLemmas
+pub mod TurnLemmas
+pub mod PreviewLemmas
+pub mod WellFormedLemmas

@@ -1,0 +1,4 @@
+pub mod Configuration
+pub mod Pair
+pub mod Turns
+pub mod Takes

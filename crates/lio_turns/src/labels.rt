@@ -1,0 +1,310 @@
+//! Sealing, unlabelling, raising, lowering and releasing.
+#![tactic(auto, unfolding(lio_calculus::specs::Plan::plan_simple))]
+
+ghost use Rattle.std.specs.Prelude.{◌≡◌, IfOk};
+ghost use Rattle.lio_values.specs.declared.act.Act.TheVariants as act;
+ghost use Rattle.lio_values.specs.declared.act.Op.TheVariants as op;
+ghost use Rattle.lio_values.specs.declared.act.Reply.TheVariants as reply;
+ghost use Rattle.lio_values.specs.declared.value.Content.TheVariants as content;
+ghost use Rattle.lio_turns.specs.declared.turn.Turn.TheVariants as turn;
+ghost use Rattle.lio_turns.specs.declared.turn.Onward.TheVariants as onward;
+
+use crate::guarded::both;
+use crate::standing::Standing;
+use crate::turn::{Attempt, Onward, Turn};
+use lio_clauses::NoMemory;
+use lio_guards::{Verdict, guard_relabel};
+use lio_labels::{Label, Priv};
+use lio_lines::Operand;
+use lio_lookup::operands;
+use lio_values::{Act, Content, FaultKind, Held, Op, Plain, Reply, Text};
+use std::alloc::Global;
+
+impl Standing<'_> {
+    ghost use Rattle.std.specs.Prelude.{◌≡◌, IfOk, List};
+    ghost use Rattle.lio_lines.specs.declared.line.Line.{Line};
+    ghost use Rattle.lio_lines.specs.declared.line.Simple.TheVariants as line;
+    ghost use Rattle.lio_calculus.specs.Plan as plan;
+    ghost use Rattle.lio_values.specs.declared.act.Act.TheVariants as act;
+    ghost use Rattle.lio_values.specs.declared.value.Content.TheVariants as content;
+    ghost use Rattle.lio_turns.specs.Turns.{Is, Lowers, Plans, Seals, Taints, Unlabels, refusal};
+    ghost use Rattle.lio_turns.specs.StateOf.{state_of};
+
+    /// `label X L A`
+    pub fn plan_label<'s>(
+        &self,
+        alloc: Global,
+        name: &'s Text,
+        label: &Operand,
+        value: &Operand,
+    ) -> Attempt<'s>
+        ensures { IfOk result (Plans self.now (line.Label name.now label.now value.now)) }
+    {
+        let environment = self.environment();
+        let Some(label) = operands::label(environment, label) else {
+            return self.bad_type(alloc);
+        };
+        match operands::bare(environment, value) {
+            Some(plain) => self.sealing(alloc, name, label, plain),
+            None => self.bad_type(alloc),
+        }
+    }
+
+    /// The seal of a plain value under a label.
+    fn sealing<'s>(
+        &self,
+        alloc: Global,
+        name: &'s Text,
+        label: &Label,
+        plain: &Plain,
+    ) -> Attempt<'s>
+        ensures { IfOk result (Seals self.now name.now label.now plain.now) }
+    {
+        let turn = sealed(alloc, name, label, plain)?;
+        self.guarded(alloc, Op::Seal, label, turn)
+    }
+
+    /// `unlabel X A`
+    pub fn plan_unlabel<'s>(&self, alloc: Global, name: &'s Text, value: &Operand) -> Attempt<'s>
+        ensures { IfOk result (Plans self.now (line.Unlabel name.now value.now)) }
+    {
+        match operands::sealed(self.environment(), value) {
+            Some((label, content)) => self.unlabelling(alloc, name, label, content),
+            None => self.bad_type(alloc),
+        }
+    }
+
+    /// The raise to a label, under which a content is sealed.
+    fn unlabelling<'s>(
+        &self,
+        alloc: Global,
+        name: &'s Text,
+        label: &Label,
+        content: &Content,
+    ) -> Attempt<'s>
+        ensures { IfOk result (Unlabels self.now name.now label.now content.now) }
+    {
+        match self.verdict(alloc, Op::Unlabel, label)? {
+            Verdict::Go(current) => unlabelled(alloc, name, label, content, current),
+            Verdict::No(kind) => self.refused_raise(alloc, Op::Unlabel, label, kind),
+        }
+    }
+
+    /// A refused raise, for an operation on a thing with this label.
+    pub fn refused_raise(
+        &self,
+        alloc: Global,
+        op: Op,
+        label: &Label,
+        kind: FaultKind,
+    ) -> Attempt<'static>
+        ensures { IfOk result (λ planned. planned ≡ refusal self.now (act.Raise op label.now) kind) }
+    {
+        match label.copy(alloc) {
+            Ok(asked) => self.refused(alloc, Act::Raise(op, asked), kind),
+            Err(error) => {
+                drop(kind);
+                Err(error)
+            }
+        }
+    }
+
+    /// `taint L`
+    pub fn plan_taint(&self, alloc: Global, label: &Operand) -> Attempt<'static>
+        ensures { IfOk result (Plans self.now (line.Taint label.now)) }
+    {
+        match operands::label(self.environment(), label) {
+            Some(label) => self.tainting(alloc, label),
+            None => self.bad_type(alloc),
+        }
+    }
+
+    /// The raise to a label.
+    fn tainting(&self, alloc: Global, label: &Label) -> Attempt<'static>
+        ensures { IfOk result (Taints self.now label.now) }
+    {
+        match self.verdict(alloc, Op::Taint, label)? {
+            Verdict::Go(current) => {
+                let asked = label.copy(alloc)?;
+                Ok(Turn::Own(
+                    Act::Raise(Op::Taint, asked),
+                    Reply::Done,
+                    Onward::Raise(current),
+                ))
+            }
+            Verdict::No(kind) => self.refused_raise(alloc, Op::Taint, label, kind),
+        }
+    }
+
+    /// `lower L`
+    pub fn plan_lower(&self, alloc: Global, label: &Operand) -> Attempt<'static>
+        ensures { IfOk result (Plans self.now (line.Lower label.now)) }
+    {
+        match operands::label(self.environment(), label) {
+            Some(label) => self.lowering(alloc, label),
+            None => self.bad_type(alloc),
+        }
+    }
+
+    /// The clearance is lowered to a label.
+    fn lowering(&self, alloc: Global, label: &Label) -> Attempt<'static>
+        ensures { IfOk result (Lowers self.now label.now) }
+    {
+        let (asked, clearance) = both(label.copy(alloc), label.copy(alloc))?;
+        let turn = Turn::Own(Act::Lower(asked), Reply::Done, Onward::Lower(clearance));
+        self.guarded(alloc, Op::Lower, label, turn)
+    }
+
+    /// `relabel X A L P`
+    pub fn plan_relabel<'s>(
+        &self,
+        alloc: Global,
+        name: &'s Text,
+        value: &Operand,
+        label: &Operand,
+        power: &Operand,
+    ) -> Attempt<'s>
+        ensures { IfOk result (Plans self.now (line.Relabel name.now value.now label.now power.now)) }
+    {
+        let environment = self.environment();
+        let Some((source, content)) = operands::sealed(environment, value) else {
+            return self.bad_type(alloc);
+        };
+        let Some(target) = operands::label(environment, label) else {
+            return self.bad_type(alloc);
+        };
+        let Some(power) = operands::power(environment, power) else {
+            return self.bad_type(alloc);
+        };
+        self.releasing(alloc, name, source, content, target, power)
+    }
+
+    /// The release of a content that is sealed under a label to another, by a privilege.
+    fn releasing<'s>(
+        &self,
+        alloc: Global,
+        name: &'s Text,
+        source: &Label,
+        content: &Content,
+        target: &Label,
+        power: &Priv,
+    ) -> Attempt<'s>
+        ensures { IfOk result (λ planned. Is self.now planned (λ (lines : List Line). plan.releasing (state_of lines self.now) name.now (record { label = source.now; content = content.now }) target.now power.now)) }
+    {
+        match guard_relabel(alloc, self.label, self.clearance, source, target, power)? {
+            Verdict::Go(current) => {
+                drop(current);
+                released(alloc, name, source, content, target, power)
+            }
+            Verdict::No(kind) => self.refused_release(alloc, source, target, power, kind),
+        }
+    }
+
+    /// A refused release, which shows no content.
+    fn refused_release(
+        &self,
+        alloc: Global,
+        source: &Label,
+        target: &Label,
+        power: &Priv,
+        kind: FaultKind,
+    ) -> Attempt<'static>
+        ensures { IfOk result (λ planned. planned ≡ refusal self.now (act.Release source.now target.now power.now content.Hidden) kind) }
+    {
+        match hidden_release(alloc, source, target, power) {
+            Ok(act) => self.refused(alloc, act, kind),
+            Err(error) => {
+                drop(kind);
+                Err(error)
+            }
+        }
+    }
+}
+
+/// The turn that seals a plain value.
+fn sealed<'s>(alloc: Global, name: &'s Text, label: &Label, plain: &Plain) -> Attempt<'s>
+    ensures { IfOk result (λ made. made ≡ turn.Own (act.Seal label.now) reply.Done (onward.Seal name.entry label.now plain.now)) }
+{
+    let (plain, asked) = both(Held::new(alloc, plain.copy(alloc)?), label.copy(alloc))?;
+    let label = label.copy(alloc)?;
+    Ok(Turn::Own(
+        Act::Seal(asked),
+        Reply::Done,
+        Onward::Seal(name, label, plain),
+    ))
+}
+
+/// The turn that opens a sealed value, at this current label.
+fn unlabelled<'s>(
+    alloc: Global,
+    name: &'s Text,
+    label: &Label,
+    content: &Content,
+    current: Label,
+) -> Attempt<'s>
+    ensures { IfOk result (λ made. made ≡ turn.Own (act.Raise op.Unlabel label.now) reply.Done (onward.Unlabel name.entry current label.now content.now)) }
+{
+    let (source, content) = both(held_label(alloc, label), held_content(alloc, content))?;
+    let asked = label.copy(alloc)?;
+    let onward = Onward::Unlabel(name, current, source, content);
+    Ok(Turn::Own(Act::Raise(Op::Unlabel, asked), Reply::Done, onward))
+}
+
+/// A label on the heap.
+fn held_label(alloc: Global, label: &Label) -> Result<Held<Label>, NoMemory>
+    ensures { IfOk result (λ held. held ≡ label.now) }
+{
+    Held::new(alloc, label.copy(alloc)?)
+}
+
+/// A content on the heap.
+fn held_content(alloc: Global, content: &Content) -> Result<Held<Content>, NoMemory>
+    ensures { IfOk result (λ held. held ≡ content.now) }
+{
+    Held::new(alloc, content.copy(alloc)?)
+}
+
+/// The turn that releases a content.
+fn released<'s>(
+    alloc: Global,
+    name: &'s Text,
+    source: &Label,
+    content: &Content,
+    target: &Label,
+    power: &Priv,
+) -> Attempt<'s>
+    ensures { IfOk result (λ made. made ≡ turn.Own (act.Release source.now target.now power.now content.now) reply.Done (onward.Release name.entry target.now)) }
+{
+    let content = held_content(alloc, content)?;
+    let label = target.copy(alloc)?;
+    let act = releasing(alloc, source, target, power, content)?;
+    Ok(Turn::Own(act, Reply::Done, Onward::Release(name, label)))
+}
+
+/// The release of no content.
+fn hidden_release(
+    alloc: Global,
+    source: &Label,
+    target: &Label,
+    power: &Priv,
+) -> Result<Act, NoMemory>
+    ensures { IfOk result (λ made. made ≡ act.Release source.now target.now power.now content.Hidden) }
+{
+    let hidden = Held::new(alloc, Content::Hidden)?;
+    releasing(alloc, source, target, power, hidden)
+}
+
+/// The release of a content from a label to another by a privilege.
+fn releasing(
+    alloc: Global,
+    source: &Label,
+    target: &Label,
+    power: &Priv,
+    content: Held<Content>,
+) -> Result<Act, NoMemory>
+    ensures { IfOk result (λ made. made ≡ act.Release source.now target.now power.now content) }
+{
+    let by = power.copy(alloc)?;
+    let (from, to) = both(held_label(alloc, source), held_label(alloc, target))?;
+    Ok(Act::Release(from, to, by, content))
+}
