@@ -1,5 +1,5 @@
 -- What is told of a configuration's next steps before they are taken.
-use Rattle.std.proofs.Common.{◌≡◌, ◌∙◌, refl, sym, ap, subst, ℕ, ◌<◌, ◌==◌, Bool, true, false, ◌&&◌, not, if◌then◌else◌, List, [], ◌∷◌, length, All, Option, Some, None, option_and_then, true≢false, arith, ◌⊎◌, inl, inr, IsTrue}
+use Rattle.std.proofs.Common.{◌≡◌, ◌∙◌, refl, sym, ap, subst, ℕ, ◌<◌, ◌==◌, Bool, true, false, ◌&&◌, not, if◌then◌else◌, List, [], ◌∷◌, length, All, Option, Some, None, option_and_then, true≢false, arith}
 use Rattle.std.specs.Prelude.{◌||◌}
 use Rattle.std.specs.Option.{option_map, option_map_or}
 use Rattle.std.proofs.lemmas.Bool.{and_parts}
@@ -94,16 +94,6 @@ can-by c k task sound is =
     by : (ended : Bool) → not (ended || is_waiting c task) ≡ moves_by c (task.turns == 0) (if ended then status.Ended else status_by task.environment task.items)
     by true = refl
     by false = front-moves c (task.turns == 0) task.environment task.items (sound.names k task is).environment (sound.literals k task is)
-
-pub not-granted : (granted : Bool) → IsTrue (not granted) → granted ≡ false
-not-granted true h = absurd (true≢false (sym h))
-not-granted false h = refl
-
--- a task that stands still, as it is said or as it stands
-pub still-by : (c : Configuration) (k : ℕ) (task : TaskState) (said : Status) → IsSound c → IsTaskOf c k task → (said ≡ status.Running) ⊎ (said ≡ status_of task)
-    → moves_by c (task.turns == 0) said ≡ false → can c k ≡ false
-still-by c k task said sound is (inl e) still = absurd (true≢false (sym (ap (moves_by c (task.turns == 0)) e) ∙ still))
-still-by c k task said sound is (inr e) still = can-by c k task sound is ∙ ap (moves_by c (task.turns == 0)) (sym e) ∙ still
 
 -- the entry of a move
 shows : (c : Configuration) (k ticket : ℕ) (task : TaskState) (move : Move) → IsTaskOf c k task → move_of (cell_at c) (plan c.program task) ≡ Some move → WouldShow c k ticket (entry_of ticket k task move)

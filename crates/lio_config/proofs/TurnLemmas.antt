@@ -1,12 +1,11 @@
 -- The turns of lent holders, and the steps of a configuration that they make.
-use Rattle.std.proofs.Common.{◌≡◌, ◌∙◌, refl, sym, ap, subst, ℕ, ◌<◌, Bool, true, false, ◌||◌, List, length, get_or, Some, None}
+use Rattle.std.proofs.Common.{◌≡◌, ◌∙◌, refl, sym, ap, subst, ℕ, ◌<◌, Bool, true, false, true≢false, ◌||◌, List, length, get_or, Some, None}
 use Rattle.std.specs.Prelude.{Result, Ok, Err, IfErr, slice_set}
 use Rattle.std.specs.Vec.{with_items}
 use Rattle.std.proofs.lemmas.List.{length-set, with_items_is}
 use Rattle.lio_values.specs.declared.act.Act.{Act}
 use Rattle.lio_values.specs.declared.act.Reply.{Reply}
 use Rattle.lio_values.specs.declared.entry.Entry.{Entry}
-use Rattle.lio_cells.specs.declared.state.State.{State}
 use Rattle.lio_cells.specs.State.{ready as is_ready, answer, is_job, state_after}
 use Rattle.lio_cells.specs.Node.{takes_part}
 use Rattle.lio_syntax.specs.Statements.{Procedure}
@@ -27,14 +26,14 @@ use Rattle.lio_turns.specs.Turns.{onward_of, target_of}
 use Rattle.lio_config.specs.declared.config.Config.{Config}
 use Rattle.lio_config.specs.declared.config.Holder.{Holder}
 use Rattle.lio_config.specs.declared.config.StepFault.{StepFault}
-use Rattle.lio_config.specs.declared.config.StepFault.TheVariants.{Still, NoMemory}
+use Rattle.lio_config.specs.declared.config.StepFault.TheVariants.{NoMemory}
 use Rattle.lio_task.specs.declared.go.Way.{Way}
 use Rattle.lio_task.specs.declared.go.Way.TheVariants as way
 use Rattle.lio_task.specs.declared.task.Task.{Task}
 use Rattle.lio_task.specs.StateOf.{state_in}
 use Rattle.lio_config.specs.Configuration.{cell_of, configuration_of, task_in}
 use Rattle.lio_config.specs.Takes.{PlansOwn, PlansVisit, Stays, Steps}
-use Rattle.lio_config.specs.Turns.{AreAsBefore, CanMeet, CanTurnAlone, Turned, TurnedAlone, TurnedMeeting, Unmet, move_in}
+use Rattle.lio_config.specs.Turns.{AreAsBefore, CanMeet, CanTurnAlone, Turned, TurnedAlone, TurnedMeeting, move_in}
 use Rattle.lio_config.proofs.HolderLemmas.{cell_at-configuration_of, cells-length, configuration_of-with_holder, task-cell, task-within, task_in-at, two-cells, with_holder}
 use Rattle.lio_config.proofs.MoveLemmas.{meeting, visit-bears, visit-moves, visit-ready, waits-still}
 use Rattle.lio_config.proofs.StepAfter.{meeting-after, steps-by, with_cell-same}
@@ -172,30 +171,29 @@ pub short-stays : {T : Type 0} (c : Configuration) (k : ℕ) (result : Result T 
 short-stays c k (Ok entry) e = tt
 short-stays c k (Err fault) e = subst (Stays c k) (sym e) tt
 
-unready-stays : (c : Configuration) (k : ℕ) (asked : Act) (state : State) (fault : StepFault) → (is_ready state asked ≡ false → can c k ≡ false) → Unmet k state asked fault → Stays c k fault
-unready-stays c k asked state (Still i) still unmet = (unmet.0, still unmet.1)
-unready-stays c k asked state NoMemory still unmet = tt
-
-pub unmet-stays : {T : Type 0} (script : List Procedure) (config : Config) (k n : ℕ) (asked : Act) (named : Named) (onward : Onward) (was : Holder) (result : Result T StepFault) → IsSound (configuration_of script config) → PlansVisit script config k asked named onward
-    → n ≡ number_of (target_of named) → StandsAt config n was → IfErr result (Unmet k was.node.state asked) → IfErr result (Stays (configuration_of script config) k)
-unmet-stays script config k n asked named onward was (Ok entry) sound plans number stands unmet = tt
-unmet-stays script config k n asked named onward was (Err fault) sound plans number stands unmet =
-    let c : Configuration = configuration_of script config in
-    unready-stays c k asked was.node.state fault
-    (λ unready. waits-still script config k asked named onward sound plans
-    (ap (λ (i : ℕ). is_ready (cell_at c i).state asked) (sym number) ∙ ap (λ (cell : Cell). is_ready cell.state asked) (cell-there script config n was stands) ∙ unready)) unmet
-
--- a task whose turn would meet its own node waits
-pub self-still : (script : List Procedure) (config : Config) (k : ℕ) (asked : Act) (named : Named) (onward : Onward) → IsSound (configuration_of script config) → PlansVisit script config k asked named onward
-    → number_of (target_of named) ≡ k → can (configuration_of script config) k ≡ false
-self-still script config k asked named onward sound plans itself =
-    let c : Configuration = configuration_of script config in
-    waits-still script config k asked named onward sound plans
-    (not-true (is_ready (cell_at c (number_of (target_of named))).state asked) (λ ready. (meeting script config k asked named onward sound plans).other ready (sym itself)))
+-- a task that can take a turn that meets a node finds that node ready
+pub met-ready : (script : List Procedure) (config : Config) (k : ℕ) (asked : Act) (named : Named) (onward : Onward) → IsSound (configuration_of script config) → PlansVisit script config k asked named onward
+    → can (configuration_of script config) k ≡ true → is_ready (cell_at (configuration_of script config) (number_of (target_of named))).state asked ≡ true
+met-ready script config k asked named onward sound plans moves =
+    not-false (is_ready (cell_at (configuration_of script config) (number_of (target_of named))).state asked)
+    (λ unready. true≢false (sym moves ∙ waits-still script config k asked named onward sound plans unready))
   where
-    not-true : (b : Bool) → (b ≡ true → ⊥) → b ≡ false
-    not-true true h = absurd (h refl)
-    not-true false h = refl
+    not-false : (b : Bool) → (b ≡ false → ⊥) → b ≡ true
+    not-false true h = refl
+    not-false false h = absurd (h refl)
+
+pub holder-ready : (script : List Procedure) (config : Config) (k n : ℕ) (asked : Act) (named : Named) (onward : Onward) (was : Holder) → IsSound (configuration_of script config) → PlansVisit script config k asked named onward
+    → can (configuration_of script config) k ≡ true → n ≡ number_of (target_of named) → StandsAt config n was → is_ready was.node.state asked ≡ true
+holder-ready script config k n asked named onward was sound plans moves number stands =
+    let c : Configuration = configuration_of script config in
+    ap (λ (cell : Cell). is_ready cell.state asked) (sym (cell-there script config n was stands))
+    ∙ ap (λ (i : ℕ). is_ready (cell_at c i).state asked) number ∙ met-ready script config k asked named onward sound plans moves
+
+-- and it is the node of another holder
+pub meets-other : (script : List Procedure) (config : Config) (k n : ℕ) (asked : Act) (named : Named) (onward : Onward) → IsSound (configuration_of script config) → PlansVisit script config k asked named onward
+    → can (configuration_of script config) k ≡ true → n ≡ number_of (target_of named) → k ≡ n → ⊥
+meets-other script config k n asked named onward sound plans moves number itself =
+    (meeting script config k asked named onward sound plans).other (met-ready script config k asked named onward sound plans moves) (itself ∙ number)
 
 -- the node that a turn meets is in the list
 pub met-within : (script : List Procedure) (config : Config) (k n : ℕ) (asked : Act) (named : Named) (onward : Onward) → IsSound (configuration_of script config) → PlansVisit script config k asked named onward → n ≡ number_of (target_of named)

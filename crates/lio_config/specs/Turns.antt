@@ -1,5 +1,5 @@
 -- Words for the contracts of a turn, over the holders that it is lent: the actor's, and that of the node that its act meets.
-use Rattle.std.specs.Prelude.{◌≡◌, ℕ, true, false, List, Option, Some, None}
+use Rattle.std.specs.Prelude.{◌≡◌, ℕ, true, List, Option, Some, None}
 use Rattle.std.specs.Option.{option_map}
 use Rattle.lio_labels.specs.declared.label.Label.{Label}
 use Rattle.lio_values.specs.declared.act.Act.{Act}
@@ -17,8 +17,6 @@ use Rattle.lio_calculus.specs.Step.{Cell, Move, actor_after, born, entry_of, met
 use Rattle.lio_turns.specs.declared.turn.Onward.{Onward}
 use Rattle.lio_turns.specs.StateOf.{program_of}
 use Rattle.lio_config.specs.declared.config.Holder.{Holder}
-use Rattle.lio_config.specs.declared.config.StepFault.{StepFault}
-use Rattle.lio_config.specs.declared.config.StepFault.TheVariants.{Still, NoMemory}
 use Rattle.lio_task.specs.declared.go.Way.{Way}
 use Rattle.lio_task.specs.declared.go.Way.TheVariants as way
 use Rattle.lio_task.specs.declared.task.Task.{Task}
@@ -102,11 +100,6 @@ pub record TurnedMeeting (script : List Procedure) (old new was now : Holder) (k
   pub turned : (task : Task) (target : Target) → old.task ≡ Some task → number_of target ≡ n
       → Turned script old new k ticket task (move_in script task asked (Some target) (answer was.node.state asked) (way.On onward)) entry
   pub met : (task : Task) (longest : ℕ) → old.task ≡ Some task → cell_of script now ≡ met_after (program_of script longest) task.label asked (cell_of script was)
-
--- why a turn that meets a node wasn't taken: the node wasn't ready, or no memory was left
-abbrev pub Unmet : ℕ → State → Act → StepFault → Type 0
-Unmet k state asked (Still n) = (n ≡ k) × (is_ready state asked ≡ false)
-Unmet k state asked NoMemory = is_ready state asked ≡ true
 
 -- two holders stand for the same cells as before
 pub record AreAsBefore (script : List Procedure) (old new was now : Holder) : Type 0 where

@@ -47,11 +47,12 @@ impl From<NoMemory> for StepFault {
 }
 
 impl Config {
-    ghost use Rattle.std.specs.Prelude.{◌≡◌, IfOk, IfErr, OnOk, OnErr};
+    ghost use Rattle.std.specs.Prelude.{◌≡◌, IsTrue, IfOk, IfErr, OnOk, OnErr};
     ghost use Rattle.std.specs.Option.{option_copied};
     ghost use Rattle.lio_values.specs.declared.act.Act.TheVariants.{Step as stepping};
     ghost use Rattle.lio_values.specs.declared.act.Reply.TheVariants.{Done as done};
     ghost use Rattle.lio_calculus.specs.Sound.{IsSound};
+    ghost use Rattle.lio_calculus.specs.Step.{can};
     ghost use Rattle.lio_wellformed.specs.WellFormed.{IsWellFormed};
     ghost use Rattle.lio_config.specs.Configuration.{configuration_of, task_in};
     ghost use Rattle.lio_config.specs.Takes.{PlansOwn, PlansVisit, Stays, Steps};
@@ -108,7 +109,7 @@ impl Config {
         actor.step_alone(alloc, script, ticket, k, way)
     }
 
-    /// The turn of a task that meets a node. A task that waits for its own result can't go on.
+    /// The turn of a task that can take one, and that meets a node.
     fn visit(
         &mut self,
         alloc: Global,
@@ -121,17 +122,13 @@ impl Config {
     ) -> Result<Entry, StepFault>
         requires sound { IsSound (configuration_of script.now self.old) }
         requires plans { PlansVisit script.now self.old k act target onward }
+        requires can { IsTrue (can (configuration_of script.now self.old) k) }
         ensures ok { IfOk result (Steps (configuration_of script.now self.old) (configuration_of script.now self.new) k ticket) }
         ensures fault { IfErr result (Stays (configuration_of script.now self.old) k) }
         ensures err { OnErr result (configuration_of script.now self.new ≡ configuration_of script.now self.old) }
     {
         let n = target.number();
         drop(target);
-        if n == k {
-            drop(act);
-            drop(onward);
-            return Err(StepFault::Still(k));
-        }
         let (actor, met) = pair_mut(&mut self.holders, k as usize, n as usize);
         actor.turn_meeting(alloc, script, ticket, k, met, n, act, onward)
     }
@@ -154,12 +151,13 @@ impl Config {
         let Some(task) = self.task(k) else {
             return Err(StepFault::Still(k));
         };
-        if self.stands_still(script, task) {
+        let front = task.front(script);
+        if !self.can_go_on(task, task.status_by(&front)) {
             return Err(StepFault::Still(k));
         }
-        match task.plan(alloc, script, self.longest) {
+        match task.plan_by(alloc, script, self.longest, front) {
             Err(NoMemory) => Err(StepFault::NoMemory),
-            Ok(Planned::Over) => Err(StepFault::Still(k)),
+            Ok(Planned::Over) => unreachable!(),
             Ok(Planned::Control(control)) => {
                 self.own_step(alloc, script, ticket, k, Way::Step(control))
             }

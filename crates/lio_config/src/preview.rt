@@ -39,7 +39,7 @@ fn entry_of(
 }
 
 impl Config {
-    ghost use Rattle.std.specs.Prelude.{◌≡◌, ℕ, List, Some, false, IfOk, IfErr, IsTrue};
+    ghost use Rattle.std.specs.Prelude.{◌≡◌, ℕ, List, Some, IfOk, IfErr};
     ghost use Rattle.lio_syntax.specs.Statements.{Procedure};
     ghost use Rattle.lio_cells.specs.State.{grants};
     ghost use Rattle.lio_calculus.specs.Sound.{IsSound};
@@ -49,6 +49,7 @@ impl Config {
     ghost use Rattle.lio_config.specs.Configuration.{configuration_of, task_in};
     ghost use Rattle.lio_task.specs.Next.{next_of};
     ghost use Rattle.lio_task.specs.StateOf.{state_in};
+    ghost use Rattle.lio_task.specs.Status.{status_of};
     ghost use Rattle.lio_config.specs.Takes.{Stays, WouldShow};
 
     /// Whether the node with a number gives what a task at its access wishes for.
@@ -61,30 +62,27 @@ impl Config {
         }
     }
 
-    /// Whether a task has ended, or waits with turns left for a node that isn't ready, as the top of what it has to do says. It takes no memory.
-    pub(crate) fn stands_still(&self, script: &Script, task: &Task) -> bool
-        requires { IsSound (configuration_of script.now self.now) }
-        ensures { IsTrue result → (k : ℕ) → task_in self.now k ≡ Some task.now → can (configuration_of script.now self.now) k ≡ false }
+    /// Whether a task that stands so can take a turn: it hasn't ended, and has no turns left or stands at no access whose node isn't ready. It takes
+    /// no memory.
+    pub(crate) fn can_go_on(&self, task: &Task, status: Status) -> bool
+        ensures { (script : List Procedure) (k : ℕ) → IsSound (configuration_of script self.now) → task_in self.now k ≡ Some task.now
+            → status ≡ status_of (state_in script task.now) → result ≡ can (configuration_of script self.now) k }
     {
-        match task.top_status(script) {
-            Status::Ended => true,
-            Status::Access(n, wish) => task.turns_left() != 0 && !self.grants(n, wish),
-            _ => false,
+        match status {
+            Status::Ended => false,
+            Status::Running | Status::Reading(_) => true,
+            Status::Access(n, wish) => task.turns_left() == 0 || self.grants(n, wish),
         }
     }
 
-    /// Whether task `k` can take a turn: it is there, hasn't ended, and has no turns left or stands at no access whose node isn't ready. It takes no memory.
+    /// Whether task `k` is there and can take a turn. It takes no memory.
     pub fn can_move(&self, script: &Script, k: u32) -> bool
         requires { IsSound (configuration_of script.now self.now) }
         ensures { result ≡ can (configuration_of script.now self.now) k }
     {
-        let Some(task) = self.task(k) else {
-            return false;
-        };
-        match task.status(script) {
-            Status::Ended => false,
-            Status::Running | Status::Reading(_) => true,
-            Status::Access(n, wish) => task.turns_left() == 0 || self.grants(n, wish),
+        match self.task(k) {
+            Some(task) => self.can_go_on(task, task.status(script)),
+            None => false,
         }
     }
 

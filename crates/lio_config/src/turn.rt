@@ -22,7 +22,7 @@ impl Holder {
     ghost use Rattle.lio_config.specs.Configuration.{cell_of};
     ghost use Rattle.lio_config.specs.declared.config.StepFault.TheVariants.{NoMemory as without_memory};
     ghost use Rattle.lio_task.specs.declared.go.Way.TheVariants as way;
-    ghost use Rattle.lio_config.specs.Turns.{AreAsBefore, Bears, CanMeet, CanTurn, CanTurnAlone, Gone, HasTask, IsChild, IsLabelOf, Served, TurnedAlone, TurnedMeeting, Unmet};
+    ghost use Rattle.lio_config.specs.Turns.{AreAsBefore, Bears, CanMeet, CanTurn, CanTurnAlone, Gone, HasTask, IsChild, IsLabelOf, Served, TurnedAlone, TurnedMeeting};
 
     /// A copy of its task's label, for an entry.
     fn label(&self, alloc: Global) -> Result<Label, NoMemory>
@@ -274,8 +274,8 @@ impl Holder {
         }
     }
 
-    /// Takes the turn of its task, which has number `k`, where the turn meets the node of another holder, which has number `n`. `Still` comes
-    /// where that node isn't ready. After a refusal all is as before.
+    /// Takes the turn of its task, which has number `k`, where the turn meets the node of another holder, which has number `n` and is ready. After a
+    /// refusal of memory all is as before.
     pub(crate) fn turn_meeting(
         &mut self,
         alloc: Global,
@@ -287,16 +287,12 @@ impl Holder {
         act: Act,
         onward: Onward,
     ) -> Result<Entry, StepFault>
-        requires { CanMeet script.now self.old act onward }
+        requires meets { CanMeet script.now self.old act onward }
+        requires ready { IsTrue (is_ready met.old.node.state act) }
         ensures ok { IfOk result (TurnedMeeting script.now self.old self.new met.old met.new k ticket n act onward.entry) }
-        ensures fault { IfErr result (Unmet k met.old.node.state act) }
+        ensures fault { IfErr result (λ fault. fault ≡ without_memory) }
         ensures err { OnErr result (AreAsBefore script.now self.old self.new met.old met.new) }
     {
-        if !met.node.ready(&act) {
-            drop(act);
-            drop(onward);
-            return Err(StepFault::Still(k));
-        }
         let (at, child) = match self.born(alloc, script, &act) {
             Ok(born) => born,
             Err(NoMemory) => {

@@ -28,7 +28,7 @@ use Rattle.lio_control.specs.Environment.{Environment, bind}
 use Rattle.lio_control.specs.Items.{Item, Do, Access, Mark, Back, Fail, enter, rest_of, open_calls}
 use Rattle.lio_control.specs.Throwing.{Place, code_of, payload_of, thrown, returned}
 use Rattle.lio_control.specs.Continuation.{block_at, access_of, access_at, mark_of, mark_at, part_over, parts_over, call_over, calls_over}
-use Rattle.lio_control.specs.Front.{IsAccess, IsFront, IsOwn, choice_at}
+use Rattle.lio_control.specs.Front.{IsFront, IsOwn, choice_at}
 use Rattle.lio_control.specs.Places.{else_at, block_of_else}
 use Rattle.lio_control.specs.Parts.{IsOutside, StandsForNothing, IsRest, SaysFirst, IsLeft, CatchesNothing}
 use Rattle.lio_control.proofs.BlockLemmas.{block_at-do, block_at-while, block_at-if, block_at-try, block_at-none, block_at-proc, block_at-else, block_at-catch, block_at-end}
@@ -263,14 +263,6 @@ parts_all lines parts n is items = let whole : take n parts ≡ parts = grind (a
 pub parts_none : (lines : List Line) (parts : List Part) (n : ℕ) → n ≡ 0 → (items : List Item) → parts_over lines (take n parts) items ≡ items
 unfolding parts_over
 parts_none lines parts n is items = let none : take n parts ≡ [] = grind (arith, common_steps) in ap (λ ps. parts_over lines ps items) none
-
--- the access of a statement that is the part on top comes first
-pub access-on-top : (lines : List Line) (parts : List Part) (n i : ℕ) (p : Part) (simple : Simple) → n ≡ length parts → n ≡ i + 1 → p ≡ get_or parts i p
-    → ((items : List Item) → part_over lines p items ≡ Access simple ∷ items) → (items : List Item) → IsAccess (parts_over lines parts items) simple
-access-on-top lines parts n i p simple is above at says items =
-    let first : parts_over lines parts items ≡ Access simple ∷ parts_over lines (take i parts) items =
-    parts_all lines parts n is items ∙ parts_at lines parts n i p above (omega arith) at items ∙ says (parts_over lines (take i parts) items) in
-    first ∙ ap (λ rest. Access simple ∷ rest) (sym (ap rest_of first))
 
 -- the part on top is dropped
 pub advanced-done : (lines : List Line) (parts news : List Part) (n i : ℕ) (p : Part) → n ≡ i + 1 → i < length parts → p ≡ get_or parts i p

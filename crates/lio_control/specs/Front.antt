@@ -3,7 +3,6 @@ use Rattle.std.specs.Prelude.{◌≡◌, ℕ, ◌+◌, List, [], ◌∷◌, Opti
 use Rattle.lio_lines.specs.declared.line.Operand.{Operand}
 use Rattle.lio_lines.specs.declared.line.Line.{Line}
 use Rattle.lio_lines.specs.declared.line.Line.TheVariants as line
-use Rattle.lio_lines.specs.declared.line.Simple.{Simple}
 use Rattle.lio_syntax.specs.Statements.{Statement, Statements, If, IfElse, While, Try}
 use Rattle.lio_syntax.specs.Statements as statement
 use Rattle.lio_control.specs.declared.front.Front.{Front}
@@ -63,17 +62,13 @@ pub record IsGuarded (lines : List Line) (items : List Item) (block catch : ℕ)
   pub line : slice_get lines catch ≡ Some (line.Catch code payload)
   pub begins : Begins items (Try (block_at lines block) code payload (block_at lines (catch + 1)))
 
--- the access of a statement comes first
-abbrev pub IsAccess : List Item → Simple → Type 0
-IsAccess items simple = items ≡ Access simple ∷ rest_of items
-
 -- items begin as it is said
 abbrev pub IsFront : List Line → List Item → Front → Type 0
 IsFront lines items front.Nothing = items ≡ []
 IsFront lines items front.Back = IsBack items
 IsFront lines items front.Mark = IsMark items
 IsFront lines items (front.Fail fault) = items ≡ Fail fault.now ∷ rest_of items
-IsFront lines items (front.Access simple) = IsAccess items simple.now
+IsFront lines items (front.Access simple) = items ≡ Access simple.now ∷ rest_of items
 IsFront lines items (front.Simple simple) = Begins items (statement.Do simple.now)
 IsFront lines items (front.Choice condition block other) = Begins items (choice_at lines condition.now block other)
 IsFront lines items (front.Loop condition block) = Begins items (While condition.now (block_at lines block))

@@ -1,10 +1,10 @@
 //! What a task still has to do.
-ghost use Rattle.std.specs.Prelude.{◌≡◌, List, [], IfOk, IfSome};
+ghost use Rattle.std.specs.Prelude.{◌≡◌, List, [], IfOk};
 ghost use Rattle.lio_lines.specs.declared.line.Line.{Line};
 ghost use Rattle.lio_syntax.specs.Lines.{script_lines};
 ghost use Rattle.lio_control.specs.Items.{enter, open_calls};
 ghost use Rattle.lio_control.specs.Continuation.{block_at, place_of};
-ghost use Rattle.lio_control.specs.Front.{IsAccess, IsFront};
+ghost use Rattle.lio_control.specs.Front.{IsFront};
 ghost use Rattle.lio_control.specs.Hiding.{hide_place};
 
 use crate::environment::Environment;
@@ -12,7 +12,6 @@ use crate::frame::{Call, Frame};
 use crate::front::Front;
 use lio_clauses::NoMemory;
 use lio_labels::Label;
-use lio_lines::Simple;
 use lio_syntax::Script;
 use std::alloc::Global;
 
@@ -61,13 +60,6 @@ impl Continuation {
         ensures { (lines : List Line) → result ≡ open_calls (place_of lines self.now).items }
     {
         self.calls.as_slice().len()
-    }
-
-    /// The statement whose access comes first, where the top of what it still has to do says so.
-    pub fn top_access<'s>(&self, script: &'s Script) -> Option<&'s Simple>
-        ensures { IfSome result (λ simple. IsAccess (place_of (script_lines script.now) self.now).items simple.now) }
-    {
-        self.frame.top_access(script)
     }
 
     /// What comes first.

@@ -1,12 +1,12 @@
 //! Frames: what a procedure's names are bound to, and what it still has to do.
-ghost use Rattle.std.specs.Prelude.{◌≡◌, ◌+◌, ◌<◌, ◌≤◌, ◌++◌, List, [], ◌∷◌, map, true, false, MatchOption, MatchBool, IfSome, IfOk, IfErr, OnOk, OnErr, vec_len, vec_capacity};
+ghost use Rattle.std.specs.Prelude.{◌≡◌, ◌+◌, ◌<◌, ◌≤◌, ◌++◌, List, [], ◌∷◌, map, true, false, MatchOption, MatchBool, IfOk, IfErr, OnOk, OnErr, vec_len, vec_capacity};
 ghost use Rattle.lio_lines.specs.declared.line.Line.{Line};
 ghost use Rattle.lio_syntax.specs.Lines.{script_lines};
 ghost use Rattle.lio_control.specs.Environment.{Environment as Bindings};
 ghost use Rattle.lio_control.specs.Items.{Item, rest_of};
 ghost use Rattle.lio_control.specs.Throwing.{thrown};
 ghost use Rattle.lio_control.specs.Continuation.{call_over, frame_over};
-ghost use Rattle.lio_control.specs.Front.{IsAccess, IsFront, IsOwn};
+ghost use Rattle.lio_control.specs.Front.{IsFront, IsOwn};
 ghost use Rattle.lio_control.specs.Hiding.{HidesFrame, hide_item};
 ghost use Rattle.lio_control.specs.Parts.{IsOutside, IsRest, SaysFirst, SameFrame};
 
@@ -16,7 +16,6 @@ use crate::front::Front;
 use crate::part::{Left, Part};
 use lio_clauses::NoMemory;
 use lio_labels::Label;
-use lio_lines::Simple;
 use lio_syntax::Script;
 use lio_values::{Fault, Plain, Text, Value};
 use std::alloc::Global;
@@ -72,17 +71,6 @@ impl Frame {
             }
         }
         None
-    }
-
-    /// The statement whose access comes first in it, where the top part says so.
-    pub(crate) fn top_access<'s>(&self, script: &'s Script) -> Option<&'s Simple>
-        ensures { IfSome result (λ simple. (items : List Item) → IsAccess (frame_over (script_lines script.now) self.now items) simple.now) }
-    {
-        let count = self.parts.len();
-        if count == 0 {
-            return None;
-        }
-        self.parts[count - 1].access(script)
     }
 
     /// Drops what comes first, and answers the place of a statement that did.

@@ -1,7 +1,7 @@
 //! The parts of what a procedure still has to do.
-ghost use Rattle.std.specs.Prelude.{◌≡◌, ◌∷◌, List, MatchOption, IfSome, IfOk};
+ghost use Rattle.std.specs.Prelude.{◌≡◌, List, MatchOption, IfOk};
 ghost use Rattle.lio_syntax.specs.Lines.{script_lines};
-ghost use Rattle.lio_control.specs.Items.{Item, Access};
+ghost use Rattle.lio_control.specs.Items.{Item};
 ghost use Rattle.lio_control.specs.Continuation.{part_over};
 ghost use Rattle.lio_control.specs.Front.{IsFront};
 ghost use Rattle.lio_control.specs.Parts.{StandsForNothing, IsLeft, IsHandler, CatchesNothing};
@@ -9,7 +9,7 @@ ghost use Rattle.lio_control.specs.Parts.{StandsForNothing, IsLeft, IsHandler, C
 use crate::front::Front;
 use crate::places::{line_at, next_place, statement_at};
 use lio_clauses::NoMemory;
-use lio_lines::{Line, Simple};
+use lio_lines::Line;
 use lio_syntax::Script;
 use lio_values::{Fault, Held, Text};
 use std::alloc::Global;
@@ -64,20 +64,6 @@ impl Part {
                 _ => None,
             },
             Part::Fail(fault) => Some(Front::Fail(fault.get())),
-        }
-    }
-
-    /// The statement whose access it is.
-    #[tactic(auto, unfolding(crate::specs::Continuation::access_at))]
-    pub(crate) fn access<'s>(&self, script: &'s Script) -> Option<&'s Simple>
-        ensures { IfSome result (λ simple. (items : List Item) → part_over (script_lines script.now) self.now items ≡ Access simple.now ∷ items) }
-    {
-        match self {
-            Part::Access(at) => match line_at(script, *at) {
-                Some(Line::Do(simple)) => Some(simple),
-                _ => None,
-            },
-            _ => None,
         }
     }
 

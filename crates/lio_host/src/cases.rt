@@ -1,6 +1,6 @@
 //! Reads the worked runs of `rows.rt`, runs each over a store in memory, and compares.
 
-use crate::host::{Outcome, host_main};
+use lio_main::{Outcome, host_main};
 use lio_outside::MemStore;
 use lio_status::{HostStatus, detail_of, refusal_text};
 use std::alloc::{AllocError, Global};

@@ -1,11 +1,12 @@
 //! Runs a script under a policy over labelled inputs, and writes what it sends to its channels.
 #![tactic(auto)]
 
+ghost use Rattle.std.specs.Prelude.{◌≡◌};
+ghost use Rattle.std.specs.Process.{exit_status};
+ghost use Rattle.lio_status.specs.ExitStatus.{exit_status as status_number};
+
 #[cfg(test)]
 mod cases;
-mod command;
-mod host;
-mod job;
 #[cfg(test)]
 mod rows;
 #[cfg(test)]
@@ -13,9 +14,9 @@ mod tests;
 #[cfg(test)]
 mod worked;
 
-use host::host_main;
+use lio_main::host_main;
 use lio_outside::RealStore;
-use lio_status::{print_refusal, refusal_detail};
+use lio_status::{HostStatus, print_refusal, refusal_detail};
 use std::process::ExitCode;
 use std::{env, io};
 
@@ -23,6 +24,13 @@ use std::{env, io};
 fn words(rt: &HostRuntime) -> io::Result<Vec<String>> {
     let words = env::args(rt)?.skip(1).collect(rt.alloc())?;
     Ok(words)
+}
+
+/// The exit status of an answer.
+fn exit_code(status: &HostStatus) -> ExitCode
+    ensures { exit_status result ≡ status_number status.now }
+{
+    ExitCode::from(status.number())
 }
 
 fn main(rt: HostRuntime) -> ExitCode {
@@ -34,5 +42,5 @@ fn main(rt: HostRuntime) -> ExitCode {
     let detail = refusal_detail(rt.alloc(), &rt, &mut store, &outcome.status, words);
     // A refusal that can't be printed still has its exit status.
     let _ = print_refusal(&rt, rt.alloc(), &outcome.status, words, &detail);
-    ExitCode::from(outcome.status.number())
+    exit_code(&outcome.status)
 }

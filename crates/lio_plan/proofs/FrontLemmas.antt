@@ -24,8 +24,8 @@ use Rattle.lio_plan.specs.declared.planned.Planned.{Planned}
 use Rattle.lio_plan.specs.declared.planned.Planned.TheVariants as planned
 use Rattle.lio_plan.specs.declared.planned.Control.TheVariants as control
 use Rattle.lio_turns.specs.declared.turn.Turn.{Turn}
-use Rattle.lio_plan.specs.Planned.{PlansFront, PlansAccess, plan_of, try_of}
-use Rattle.lio_turns.specs.Turns.{PlansBy}
+use Rattle.lio_plan.specs.Planned.{PlansFront, plan_of, try_of}
+use Rattle.lio_turns.specs.Turns.{PlansAccess, PlansBy}
 use Rattle.lio_turns.specs.StateOf.{state_of}
 
 pub nothing_first : (program : Program) (task : Standing) (items : List Item) → items ≡ [] → PlansFront program task items (planned.Ends (Kept unit))

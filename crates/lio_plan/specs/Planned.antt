@@ -25,7 +25,7 @@ use Rattle.lio_plan.specs.declared.planned.Control.TheVariants as control
 use Rattle.lio_turns.specs.declared.turn.Turn.{Turn}
 use Rattle.lio_turns.specs.declared.standing.Standing.{Standing}
 use Rattle.lio_turns.specs.StateOf.{state_of}
-use Rattle.lio_turns.specs.Turns.{turn_of, IsFor, Is, refusal}
+use Rattle.lio_turns.specs.Turns.{turn_of, Is, refusal}
 
 -- the operand of the loop in front
 abbrev pub condition_of : List Item → Operand
@@ -74,10 +74,6 @@ IsPlanned program task planned =
 abbrev pub PlansFront : Program → Standing → List Item → Planned → Type 0
 PlansFront program task items planned =
     plan_of (script_lines program.procedures) items planned ≡ plan.plan_items program (state_of (script_lines program.procedures) task) items
-
--- a turn is the plan of the access of a statement
-abbrev pub PlansAccess : Standing → Simple → Turn → Type 0
-PlansAccess task simple turn = IsFor task simple turn (λ lines. plan.plan_access (state_of lines task) simple)
 
 -- what an operator made is bound, or is the refusal
 abbrev pub Computes : Standing → List ℕ → Result Value FaultKind → Turn → Type 0

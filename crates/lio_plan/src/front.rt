@@ -17,7 +17,6 @@ ghost use Rattle.lio_plan.specs.Planned.{IsPlanned, PlansFront, plan_of};
 ghost use Rattle.lio_turns.specs.Turns.{fault_of};
 ghost use Rattle.lio_turns.specs.StateOf.{program_of, state_of};
 
-use crate::access::plan_access;
 use crate::planned::{Control, Planned};
 use crate::simple::plan_simple;
 use lio_clauses::NoMemory;
@@ -29,14 +28,16 @@ use lio_turns::Standing;
 use lio_values::{Content, Fault, FaultKind, Held, Plain};
 use std::alloc::Global;
 
-/// What the next turn does.
+/// What the next turn does, by what comes first.
 #[tactic(auto, unfolding(lio_calculus::specs::Plan::plan))]
 pub fn plan_next<'s>(
     alloc: Global,
     task: &Standing<'_>,
-    script: &'s Script,
+    script: &Script,
     longest: u32,
+    front: Front<'_, 's>,
 ) -> Result<Planned<'s>, NoMemory>
+    requires { IsFront (script_lines script.now) (state_of (script_lines script.now) task.now).items front }
     ensures plan { IfOk result (IsPlanned (program_of script.now longest) task.now) }
     ensures leads { IfOk result (LeadsOn (script_lines script.now) (state_of (script_lines script.now) task.now).items) }
 {
@@ -46,13 +47,7 @@ pub fn plan_next<'s>(
     if task.turns == 0 {
         return without_turns(alloc, task);
     }
-    plan_front(
-        alloc,
-        task,
-        script,
-        longest,
-        task.continuation.front(script),
-    )
+    plan_front(alloc, task, script, longest, front)
 }
 
 /// The end of a task that has no turn left.
@@ -80,7 +75,7 @@ fn plan_front<'s>(
         Front::Back => Ok(Planned::Control(Control::Leave)),
         Front::Mark => Ok(Planned::Control(Control::Pass)),
         Front::Fail(fault) => failing(alloc, fault),
-        Front::Access(simple) => Ok(Planned::Turn(plan_access(alloc, task, simple)?)),
+        Front::Access(simple) => Ok(Planned::Turn(task.plan_access(alloc, simple)?)),
         Front::Simple(simple) => Ok(Planned::Turn(plan_simple(
             alloc, task, script, longest, simple,
         )?)),

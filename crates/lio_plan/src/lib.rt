@@ -1,7 +1,6 @@
 //! The plan of a task's next turn: what it does, and how the task goes on after it.
 #![tactic(auto)]
 
-mod access;
 mod binding;
 mod front;
 mod planned;

@@ -5,6 +5,7 @@ ghost use Rattle.lio_values.specs.declared.act.Act.TheVariants as act;
 use crate::go::Way;
 use crate::task::Task;
 use lio_clauses::NoMemory;
+use lio_control::Front;
 use lio_plan::{Planned, plan_next};
 use lio_syntax::Script;
 use lio_turns::Turn;
@@ -25,6 +26,7 @@ pub enum Next {
 impl Task {
     ghost use Rattle.std.specs.Prelude.{◌≡◌, IfOk, OnOk, OnErr};
     ghost use Rattle.lio_syntax.specs.Lines.{script_lines};
+    ghost use Rattle.lio_control.specs.Front.{IsFront};
     ghost use Rattle.lio_calculus.specs.Plan as plan;
     ghost use Rattle.lio_turns.specs.StateOf.{program_of};
     ghost use Rattle.lio_plan.specs.Planned.{plan_of};
@@ -42,7 +44,22 @@ impl Task {
         ensures plan { IfOk result (λ planned. let state = state_in script.now self.now in plan_of (script_lines script.now) state.items planned ≡ plan.plan (program_of script.now longest) state) }
         ensures leads { IfOk result (LeadsOn (script_lines script.now) (state_in script.now self.now).items) }
     {
-        plan_next(alloc, &self.standing(), script, longest)
+        self.plan_by(alloc, script, longest, self.front(script))
+    }
+
+    /// The plan of its next turn, by what comes first in it.
+    pub fn plan_by<'s>(
+        &self,
+        alloc: Global,
+        script: &Script,
+        longest: u32,
+        front: Front<'_, 's>,
+    ) -> Result<Planned<'s>, NoMemory>
+        requires { IsFront (script_lines script.now) (state_in script.now self.now).items front }
+        ensures plan { IfOk result (λ planned. let state = state_in script.now self.now in plan_of (script_lines script.now) state.items planned ≡ plan.plan (program_of script.now longest) state) }
+        ensures leads { IfOk result (LeadsOn (script_lines script.now) (state_in script.now self.now).items) }
+    {
+        plan_next(alloc, &self.standing(), script, longest, front)
     }
 
     /// What its next turn does. Over comes exactly where it has ended.

@@ -25,21 +25,30 @@ pub enum Status {
 }
 
 impl Task {
-    ghost use Rattle.std.specs.Prelude.{◌≡◌, ◌⊎◌};
-    ghost use Rattle.lio_task.specs.declared.status.Status.TheVariants as status;
+    ghost use Rattle.std.specs.Prelude.{◌≡◌, List};
+    ghost use Rattle.lio_syntax.specs.Lines.{script_lines};
+    ghost use Rattle.lio_syntax.specs.Statements.{Procedure};
+    ghost use Rattle.lio_control.specs.Front.{IsFront};
     ghost use Rattle.lio_task.specs.StateOf.{state_in};
     ghost use Rattle.lio_task.specs.Status.{status_of};
 
-    /// Where it stands, as far as the top of what it has to do says: elsewhere it is said to run. It takes no memory.
-    pub fn top_status(&self, script: &Script) -> Status
-        ensures { (result ≡ status.Running) ⊎ (result ≡ status_of (state_in script.now self.now)) }
+    /// What comes first in what it still has to do.
+    pub fn front<'t, 's>(&'t self, script: &'s Script) -> Front<'t, 's>
+        ensures { IsFront (script_lines script.now) (state_in script.now self.now).items result }
+    {
+        self.continuation.front(script)
+    }
+
+    /// Where it stands, by what comes first in it. It takes no memory.
+    pub fn status_by(&self, front: &Front<'_, '_>) -> Status
+        ensures { (script : List Procedure) → IsFront (script_lines script) (state_in script self.now).items front.now → result ≡ status_of (state_in script self.now) }
     {
         if self.ended {
             return Status::Ended;
         }
-        match self.continuation.top_access(script) {
-            Some(simple) => status_at(self.continuation.environment(), simple),
-            None => Status::Running,
+        match front {
+            Front::Access(simple) => status_at(self.continuation.environment(), simple),
+            _ => Status::Running,
         }
     }
 
@@ -47,13 +56,7 @@ impl Task {
     pub fn status(&self, script: &Script) -> Status
         ensures { result ≡ status_of (state_in script.now self.now) }
     {
-        if self.ended {
-            return Status::Ended;
-        }
-        match self.continuation.front(script) {
-            Front::Access(simple) => status_at(self.continuation.environment(), simple),
-            _ => Status::Running,
-        }
+        self.status_by(&self.front(script))
     }
 }
 

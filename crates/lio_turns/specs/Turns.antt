@@ -97,6 +97,10 @@ IsIn script task simple turn p = turn_of (script_lines script) simple turn ≡ p
 abbrev pub PlansBy : Program → Standing → Simple → Turn → Type 0
 PlansBy program task simple turn = IsIn program.procedures task simple turn (λ state. plan_simple program state simple)
 
+-- a turn is the plan of the access of a statement
+abbrev pub PlansAccess : Standing → Simple → Turn → Type 0
+PlansAccess task simple turn = IsFor task simple turn (λ lines. plan.plan_access (state_of lines task) simple)
+
 -- a refused act throws the fault that its reply shows
 abbrev pub fault_of : Standing → FaultKind → Fault
 fault_of task kind = record { kind = kind; at = task.label.now }

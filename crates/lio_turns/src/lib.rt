@@ -1,6 +1,7 @@
-//! The turns of statements on labels: what each does, under its guard, and how the task goes on after it.
+//! The turns of statements on labels and of accesses: what each does, and how the task goes on after it.
 #![tactic(auto)]
 
+mod access;
 mod guarded;
 mod labels;
 mod standing;

@@ -1,4 +1,4 @@
-use Rattle.std.proofs.Common.{◌≡◌, ◌∙◌, refl, sym, ap, subst}
+use Rattle.std.proofs.Common.{◌≡◌, ◌∙◌, refl, sym, ap, subst, true≢false}
 use Rattle.std.specs.Option.{option_copied}
 use Rattle.lio_values.specs.declared.act.Act.{Act}
 use Rattle.lio_values.specs.declared.act.Reply.TheVariants.{Done}
@@ -22,13 +22,19 @@ pub returns-in_default-clause-fault : goal.returns-in_default-clause-fault
 returns-in_default-clause-fault c =
     (refl, no-task-still (configuration_of c.args.script.now c.args.self.now) c.args.k (no-task-cell c.args.script.now c.args.self.now c.args.k (sym c.task.ensures ∙ ap option_copied c.in_default.is)))
 
-pub returns-in-Ok-Over-clause-fault : goal.returns-in-Ok-Over-clause-fault
-returns-in-Ok-Over-clause-fault c =
-    let script = c.args.script.now in let state = state_in script c.in-Some.task.now in (
-      refl,
-      over-still (configuration_of script c.args.self.now) c.args.k state (task-cell script c.args.self.now c.args.k c.in-Some.task.now (sym c.task.ensures ∙ ap option_copied c.in-Some.is))
-          (ap (plan_of (script_lines script) state.items) (sym c.in-Ok-Over.field-0-is) ∙ c.in-Ok-Over.ensures.plan),
-    )
+pub returns-then-not-can_go_on-clause-fault : goal.returns-then-not-can_go_on-clause-fault
+returns-then-not-can_go_on-clause-fault c =
+    let script = c.args.script.now in
+    let says = c.can_go_on.ensures script c.args.k c.requires (sym c.task.ensures ∙ ap option_copied c.in-Some.is) (c.status_by.ensures script c.front-front.ensures) in
+    (refl, sym says ∙ c.if-not-can_go_on.true)
+
+pub unreachable-requires : goal.unreachable-requires
+unreachable-requires c =
+    let script = c.args.script.now in let state = state_in script c.in-Some.task.now in
+    let says = c.can_go_on.ensures script c.args.k c.requires (sym c.task.ensures ∙ ap option_copied c.in-Some.is) (c.status_by.ensures script c.front-front.ensures) in
+    absurd (true≢false (sym c.if-not-can_go_on.false ∙ says
+    ∙ over-still (configuration_of script c.args.self.now) c.args.k state (task-cell script c.args.self.now c.args.k c.in-Some.task.now (sym c.task.ensures ∙ ap option_copied c.in-Some.is))
+    (ap (plan_of (script_lines script) state.items) (sym c.in-Ok-Over.field-0-is) ∙ c.in-Ok-Over.ensures.plan)))
 
 pub own_step-requires-clause-plans : goal.own_step-requires-clause-plans
 own_step-requires-clause-plans c =
@@ -84,6 +90,10 @@ visit-requires-clause-plans c =
       at = subst (LeadsOn lines state.items) is c.in-Ok-Turn-Visit.ensures.leads;
       plans = sym (ap (plan_of lines state.items) (sym is) ∙ c.in-Ok-Turn-Visit.ensures.plan);
     }
+
+pub visit-requires-clause-can : goal.visit-requires-clause-can
+visit-requires-clause-can c =
+    sym (c.can_go_on.ensures c.args.script.now c.args.k c.requires (sym c.task.ensures ∙ ap option_copied c.in-Some.is) (c.status_by.ensures c.args.script.now c.front-front.ensures)) ∙ c.if-not-can_go_on.false
 
 pub returns-in-Ok-Control-clause-well_formed : goal.returns-in-Ok-Control-clause-well_formed
 returns-in-Ok-Control-clause-well_formed c =

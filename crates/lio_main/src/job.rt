@@ -5,7 +5,7 @@ ghost use Rattle.lio_syntax.specs.Verdict.{IsOver};
 ghost use Rattle.lio_start.specs.Fits.{fits};
 ghost use Rattle.lio_front.specs.Causes.{AreInputs};
 ghost use Rattle.lio_front.specs.Clash.{clash};
-ghost use Rattle.lio_host.specs.Preparing.{named, IsPrepared, PrepareSays, TakingSays};
+ghost use Rattle.lio_main.specs.Preparing.{named, IsPrepared, PrepareSays, TakingSays};
 
 use crate::command::Command;
 use lio_front::{clash as find_clash, load, load_inputs};

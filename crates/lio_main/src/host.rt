@@ -1,8 +1,8 @@
 //! The top call: words, policy, script, inputs, run, files.
 
 ghost use Rattle.std.specs.Prelude.{◌≡◌, ◌↔◌, [], None, IfSome};
-ghost use Rattle.lio_host.specs.Command.{command_of, bytes_of_words};
-ghost use Rattle.lio_host.specs.Answers.{Says, Follows};
+ghost use Rattle.lio_main.specs.Command.{command_of, bytes_of_words};
+ghost use Rattle.lio_main.specs.Answers.{Says, Follows};
 
 use crate::command::read_command;
 use crate::job::{Job, prepare};

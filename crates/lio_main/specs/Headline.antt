@@ -7,7 +7,7 @@ use Rattle.lio_start.specs.Start.{start_of}
 use Rattle.lio_powers.specs.Given.{powers_of}
 use Rattle.lio_powers.specs.Laws.{ReleasesByPowers}
 use Rattle.lio_run.specs.Runs.{IsSeen, RunsByRounds, SeesChannels}
-use Rattle.lio_host.specs.declared.job.Job.{Job}
+use Rattle.lio_main.specs.declared.job.Job.{Job}
 
 -- the first configuration of what is run
 abbrev pub first_of : Job → Configuration

@@ -9,14 +9,14 @@ use Rattle.lio_powers.specs.Given.{powers_of}
 use Rattle.lio_powers.specs.Laws.{ReleasesByPowers}
 use Rattle.lio_run.specs.declared.by_rounds.Ran.{Ran}
 use Rattle.lio_run.specs.Runs.{IsSeen, RunsByRounds, SeesChannels, ran_of}
-use Rattle.lio_host.specs.declared.job.Job.{Job}
+use Rattle.lio_main.specs.declared.job.Job.{Job}
 use Rattle.lio_status.specs.declared.status.HostStatus.{HostStatus}
 use Rattle.lio_status.specs.declared.status.HostStatus.TheVariants.{Done, BadWords, Missing, ReadFault, BadPolicy, BadScript, BadStart, WriteFault, NoMemory, Clash}
-use Rattle.lio_host.specs.Command.{Command, command_of}
-use Rattle.lio_host.specs.Preparing.{IsPrepared, PrepareSays}
-use Rattle.lio_host.specs.Headline.{IsRunOf}
-use Rattle.lio_host.specs.Verdict.{Fetched, found, prepared, verdict}
-use Rattle.lio_host.specs.Answers.{Call, IsVerdict, NothingDone, Refuses, Says, Follows, answer_of}
+use Rattle.lio_main.specs.Command.{Command, command_of}
+use Rattle.lio_main.specs.Preparing.{IsPrepared, PrepareSays}
+use Rattle.lio_main.specs.Headline.{IsRunOf}
+use Rattle.lio_main.specs.Verdict.{Fetched, found, prepared, verdict}
+use Rattle.lio_main.specs.Answers.{Call, IsVerdict, NothingDone, Refuses, Says, Follows, answer_of}
 
 -- the verdict is what the command is found to be
 pub verdict-prepared : (told : Option FileMap) (words : List (List ℕ)) (command : Command) (is : Result Job HostStatus) → command_of words ≡ Some command → IsPrepared told command is → IsVerdict told words is

@@ -1,7 +1,7 @@
 //! The words of the command line.
 
 ghost use Rattle.std.specs.Prelude.{◌≡◌, None, Some, MatchOption};
-ghost use Rattle.lio_host.specs.Command.{is_name, command_of, bytes_of_words};
+ghost use Rattle.lio_main.specs.Command.{is_name, command_of, bytes_of_words};
 
 /// What the words name.
 #[derive(Clone, Copy)]

@@ -4,14 +4,14 @@ use Rattle.lio_outside.proofs.CountLemmas.{Rose-in_part}
 use Rattle.lio_values.specs.declared.entry.Entry.{Entry}
 use Rattle.lio_front.specs.Outputs.{Output, kept, outputs, KeepsFirst, StopsAt}
 use Rattle.lio_front.proofs.LawLemmas.{outputs_hold_each_channel}
-use Rattle.lio_host.specs.declared.job.Job.{Job}
+use Rattle.lio_main.specs.declared.job.Job.{Job}
 use Rattle.lio_status.specs.declared.status.HostStatus.TheVariants.{BadWords, NoMemory}
-use Rattle.lio_host.specs.Command.{bytes_of_words}
-use Rattle.lio_host.specs.Headline.{IsRunOf}
-use Rattle.lio_host.specs.Answers.{Call, RunsJob}
-use Rattle.lio_host.specs.Preparing.{named}
-use Rattle.lio_host.proofs.Says.{run-of, says-bad_words, verdict-prepared, says-prepare, says-same}
-use Rattle.lio_host.proofs.host.answer.Goals as goal
+use Rattle.lio_main.specs.Command.{bytes_of_words}
+use Rattle.lio_main.specs.Headline.{IsRunOf}
+use Rattle.lio_main.specs.Answers.{Call, RunsJob}
+use Rattle.lio_main.specs.Preparing.{named}
+use Rattle.lio_main.proofs.Says.{run-of, says-bad_words, verdict-prepared, says-prepare, says-same}
+use Rattle.lio_main.proofs.host.answer.Goals as goal
 
 pub returns-in_default : goal.returns-in_default
 returns-in_default g c =

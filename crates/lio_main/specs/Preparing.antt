@@ -8,12 +8,12 @@ use Rattle.lio_front.specs.declared.fault.FrontFault.TheVariants as front_fault
 use Rattle.lio_front.specs.declared.loading.Front.{Front}
 use Rattle.lio_front.specs.Causes.{IsLoaded, InputsSay, IsRead, ReadsInput}
 use Rattle.lio_front.specs.Clash.{clash}
-use Rattle.lio_host.specs.declared.command.Command as declared_command
-use Rattle.lio_host.specs.declared.job.Job.{Job}
+use Rattle.lio_main.specs.declared.command.Command as declared_command
+use Rattle.lio_main.specs.declared.job.Job.{Job}
 use Rattle.lio_status.specs.declared.status.HostStatus.{HostStatus}
 use Rattle.lio_status.specs.declared.status.HostStatus.TheVariants.{Missing, ReadFault, BadPolicy, BadScript, BadStart, NoMemory, Clash}
-use Rattle.lio_host.specs.Command.{Command}
-use Rattle.lio_host.specs.Verdict.{Fetched, found, prepared}
+use Rattle.lio_main.specs.Command.{Command}
+use Rattle.lio_main.specs.Verdict.{Fetched, found, prepared}
 
 -- the command that the words name
 abbrev pub named : declared_command.Command → Command

@@ -5,9 +5,9 @@ use Rattle.lio_front.specs.Causes.{AreInputs, IsLoaded, LoadSays}
 use Rattle.lio_front.specs.Clash.{clash}
 use Rattle.lio_front.specs.declared.loading.Front.{Front}
 use Rattle.lio_status.specs.declared.status.HostStatus.{HostStatus}
-use Rattle.lio_host.specs.Preparing.{named, TakingSays}
-use Rattle.lio_host.proofs.Prepares.{prepared-job, says-load, says-taking}
-use Rattle.lio_host.proofs.job.prepare.Goals as goal
+use Rattle.lio_main.specs.Preparing.{named, TakingSays}
+use Rattle.lio_main.proofs.Prepares.{prepared-job, says-load, says-taking}
+use Rattle.lio_main.proofs.job.prepare.Goals as goal
 
 pub returns-in_err-front-clause-err : goal.returns-in_err-front-clause-err
 returns-in_err-front-clause-err g c =

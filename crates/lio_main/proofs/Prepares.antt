@@ -12,13 +12,13 @@ use Rattle.lio_front.specs.declared.loading.Front.{Front}
 use Rattle.lio_front.specs.Causes.{Gave, AreInputs, InputsSay, IsLoaded, LoadSays}
 use Rattle.lio_front.specs.Clash.{clash}
 use Rattle.lio_front.specs.Loading.{texts_of, most_policy_bytes, most_script_bytes}
-use Rattle.lio_host.specs.declared.job.Job.{Job}
+use Rattle.lio_main.specs.declared.job.Job.{Job}
 use Rattle.lio_status.specs.declared.status.HostStatus.{HostStatus}
 use Rattle.lio_status.specs.declared.status.HostStatus.TheVariants.{Done, BadWords, Missing, ReadFault, BadPolicy, BadScript, BadStart, WriteFault, NoMemory, Clash}
-use Rattle.lio_host.specs.Command.{Command}
-use Rattle.lio_host.specs.Preparing.{IsFetched, IsPrepared, PrepareSays, TakingSays}
+use Rattle.lio_main.specs.Command.{Command}
+use Rattle.lio_main.specs.Preparing.{IsFetched, IsPrepared, PrepareSays, TakingSays}
 use Rattle.lio_status.specs.StatusOf.{status_of}
-use Rattle.lio_host.specs.Verdict.{Fetched, found}
+use Rattle.lio_main.specs.Verdict.{Fetched, found}
 
 -- what was fetched of the files of a command, and of inputs by their names
 record Fetches (told : Option FileMap) (command : Command) (policy_text script_text : Option (List ℕ)) (longest : ℕ) (gave : List ℕ → Option (List ℕ)) : Type 0 where

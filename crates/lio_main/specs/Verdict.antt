@@ -6,11 +6,11 @@ use Rattle.lio_front.specs.declared.loading.Front.{Front}
 use Rattle.lio_front.specs.Steps.{◌>>=◌, or_refused, unless, told_as}
 use Rattle.lio_front.specs.Loading.{loaded, texts_of, most_policy_bytes, most_script_bytes}
 use Rattle.lio_front.specs.Clash.{clash}
-use Rattle.lio_host.specs.declared.job.Job.{Job}
+use Rattle.lio_main.specs.declared.job.Job.{Job}
 use Rattle.lio_status.specs.declared.status.HostStatus.{HostStatus}
 use Rattle.lio_status.specs.declared.status.HostStatus.TheVariants.{BadWords, Clash}
 use Rattle.lio_status.specs.StatusOf.{status_of}
-use Rattle.lio_host.specs.Command.{Command, command_of}
+use Rattle.lio_main.specs.Command.{Command, command_of}
 
 -- what was found under the names of the policy and of the script, and under each name with the limit of inputs; nothing where no file has the name
 pub record Fetched : Type 0 where

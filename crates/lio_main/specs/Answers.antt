@@ -6,13 +6,13 @@ use Rattle.lio_outside.specs.Fetch.{IsMissing}
 use Rattle.lio_outside.specs.Count.{Rose}
 use Rattle.lio_front.specs.Laws.{HoldsEachChannel}
 use Rattle.lio_front.specs.Outputs.{kept, outputs, KeepsFirst, StopsAt}
-use Rattle.lio_host.specs.declared.job.Job.{Job}
+use Rattle.lio_main.specs.declared.job.Job.{Job}
 use Rattle.lio_status.specs.declared.status.HostStatus.{HostStatus}
 use Rattle.lio_status.specs.declared.status.HostStatus.TheVariants.{Done, BadWords, Missing, ReadFault, BadPolicy, BadScript, BadStart, WriteFault, NoMemory, Clash}
-use Rattle.lio_host.specs.Command.{Command, command_of}
-use Rattle.lio_host.specs.Preparing.{ReadsFile}
-use Rattle.lio_host.specs.Verdict.{Fetched, found, verdict}
-use Rattle.lio_host.specs.Headline.{IsRunOf}
+use Rattle.lio_main.specs.Command.{Command, command_of}
+use Rattle.lio_main.specs.Preparing.{ReadsFile}
+use Rattle.lio_main.specs.Verdict.{Fetched, found, verdict}
+use Rattle.lio_main.specs.Headline.{IsRunOf}
 
 -- a call of the host: its words, what the store told of its files and how many faults it had counted, before and after
 -- the call, and the journal of the answer
