@@ -35,24 +35,6 @@ fn handle(words: &mut Words, alloc: Global, names: &Names) -> Result<Handle, Fie
     Ok(Handle { number, label })
 }
 
-/// A plain value that is a handle.
-fn plain_handle(
-    word: &[u8],
-    words: &mut Words,
-    alloc: Global,
-    names: &Names,
-) -> Result<Plain, FieldFault>
-    ensures { IfOk result (IsPlainNamed names.now) }
-{
-    match word {
-        b"ref" => Ok(Plain::RefOf(handle(words, alloc, names)?)),
-        b"var" => Ok(Plain::VarOf(handle(words, alloc, names)?)),
-        b"result" => Ok(Plain::ResultOf(handle(words, alloc, names)?)),
-        b"chan" => Ok(Plain::ChanOf(handle(words, alloc, names)?)),
-        _ => Err(FieldFault::Invalid),
-    }
-}
-
 /// A plain value.
 fn plain(words: &mut Words, alloc: Global, names: &Names) -> Result<Plain, FieldFault>
     ensures { IfOk result (IsPlainNamed names.now) }
@@ -65,7 +47,11 @@ fn plain(words: &mut Words, alloc: Global, names: &Names) -> Result<Plain, Field
         b"text" => Ok(Plain::Bytes(Text::of(alloc, words.next()?)?)),
         b"label" => Ok(Plain::Lab(read_label(words, alloc, names)?)),
         b"power" => Ok(Plain::Power(power(words, alloc, names)?)),
-        word => plain_handle(word, words, alloc, names),
+        b"ref" => Ok(Plain::RefOf(handle(words, alloc, names)?)),
+        b"var" => Ok(Plain::VarOf(handle(words, alloc, names)?)),
+        b"result" => Ok(Plain::ResultOf(handle(words, alloc, names)?)),
+        b"chan" => Ok(Plain::ChanOf(handle(words, alloc, names)?)),
+        _ => Err(FieldFault::Invalid),
     }
 }
 
@@ -79,13 +65,8 @@ pub(crate) fn two_labels(
     ensures second { IfOk result (λ labels. AreNamed names.now labels.1) }
 {
     let first = read_label(words, alloc, names)?;
-    match read_label(words, alloc, names) {
-        Ok(second) => Ok((first, second)),
-        Err(fault) => {
-            drop(first);
-            Err(fault)
-        }
-    }
+    let second = read_label(words, alloc, names)?;
+    Ok((first, second))
 }
 
 /// The kind of a fault without labels.
@@ -105,16 +86,11 @@ fn short_kind(word: &[u8], words: &mut Words) -> Result<FaultKind, FieldFault>
     }
 }
 
-/// The kind of a fault that tells two labels, or none.
-fn labels_kind(
-    word: &[u8],
-    words: &mut Words,
-    alloc: Global,
-    names: &Names,
-) -> Result<FaultKind, FieldFault>
+/// The kind of a fault.
+fn kind(words: &mut Words, alloc: Global, names: &Names) -> Result<FaultKind, FieldFault>
     ensures { IfOk result (IsKindNamed names.now) }
 {
-    match word {
+    match words.next()? {
         b"flow_current" => {
             let (current, target) = two_labels(words, alloc, names)?;
             Ok(FaultKind::FlowCurrent(current, target))
@@ -127,36 +103,17 @@ fn labels_kind(
             let (raised, clearance) = two_labels(words, alloc, names)?;
             Ok(FaultKind::FlowRaise(raised, clearance))
         }
+        b"flow_privilege" => {
+            let power = power(words, alloc, names)?;
+            let (source, target) = two_labels(words, alloc, names)?;
+            Ok(FaultKind::FlowPrivilege(power, source, target))
+        }
         b"label_wide" => {
             let (left, right) = two_labels(words, alloc, names)?;
             Ok(FaultKind::LabelWide(left, right))
         }
-        _ => short_kind(word, words),
-    }
-}
-
-/// The kind of the fault of a privilege that doesn't reach so far.
-fn privilege_kind(words: &mut Words, alloc: Global, names: &Names) -> Result<FaultKind, FieldFault>
-    ensures { IfOk result (IsKindNamed names.now) }
-{
-    let power = power(words, alloc, names)?;
-    match two_labels(words, alloc, names) {
-        Ok((source, target)) => Ok(FaultKind::FlowPrivilege(power, source, target)),
-        Err(fault) => {
-            drop(power);
-            Err(fault)
-        }
-    }
-}
-
-/// The kind of a fault.
-fn kind(words: &mut Words, alloc: Global, names: &Names) -> Result<FaultKind, FieldFault>
-    ensures { IfOk result (IsKindNamed names.now) }
-{
-    match words.next()? {
-        b"flow_privilege" => privilege_kind(words, alloc, names),
         b"user" => Ok(FaultKind::User(plain(words, alloc, names)?)),
-        word => labels_kind(word, words, alloc, names),
+        word => short_kind(word, words),
     }
 }
 

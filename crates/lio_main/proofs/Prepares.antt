@@ -1,8 +1,7 @@
 -- What a command is found to run, over what the store gave.
-use Rattle.std.proofs.Common.{◌≡◌, ◌∙◌, sym, ap, refl, subst, ℕ, ◌≤◌, arith, List, [], ◌∷◌, map, Option, Some, None, Result, Ok, Err, inl, inr}
-use Rattle.std.specs.Prelude.{IfSome, ◌⊎◌}
+use Rattle.std.proofs.Common.{◌≡◌, ◌∙◌, refl, ℕ, ◌≤◌, arith, List, [], ◌∷◌, Option, Some, None, Ok, Err, inl, inr}
 use Rattle.lio_outside.specs.FileMap.{FileMap}
-use Rattle.lio_outside.specs.Fetch.{given, IsMissing}
+use Rattle.lio_outside.specs.Fetch.{given}
 use Rattle.lio_outside.proofs.CountLemmas.{Rose-in_part, IsMissing-in_part}
 use Rattle.lio_policy.specs.declared.policy.FileEntry.{FileEntry}
 use Rattle.lio_policy.specs.declared.policy.Policy.{Policy}
@@ -12,7 +11,6 @@ use Rattle.lio_front.specs.declared.loading.Front.{Front}
 use Rattle.lio_front.specs.Causes.{Gave, AreInputs, InputsSay, IsLoaded, LoadSays}
 use Rattle.lio_front.specs.Clash.{clash}
 use Rattle.lio_front.specs.Loading.{texts_of, most_policy_bytes, most_script_bytes}
-use Rattle.lio_main.specs.declared.job.Job.{Job}
 use Rattle.lio_status.specs.declared.status.HostStatus.{HostStatus}
 use Rattle.lio_status.specs.declared.status.HostStatus.TheVariants.{Done, BadWords, Missing, ReadFault, BadPolicy, BadScript, BadStart, WriteFault, NoMemory, Clash}
 use Rattle.lio_main.specs.Command.{Command}

@@ -1,5 +1,5 @@
 -- What a call of the host is to do, as its words and the files say: the answer that refuses it, or what is run.
-use Rattle.std.specs.Prelude.{ℕ, List, Option, Some, None, Result, Ok, Err}
+use Rattle.std.specs.Prelude.{ℕ, List, Option, Result, Ok}
 use Rattle.lio_outside.specs.FileMap.{FileMap}
 use Rattle.lio_outside.specs.Fetch.{given}
 use Rattle.lio_front.specs.declared.loading.Front.{Front}

@@ -6,11 +6,12 @@ ghost use Rattle.lio_main.specs.Answers.{Says, Follows};
 
 use crate::command::read_command;
 use crate::job::{Job, prepare};
+use lio_clauses::NoMemory;
 use lio_events::Journal;
 use lio_front::{OutFault, write_out};
 use lio_outside::Store;
 use lio_policy::laws::policy_keeps_rules;
-use lio_run::run;
+use lio_run::{Ran, run};
 use lio_status::HostStatus;
 use std::alloc::Global;
 
@@ -55,19 +56,31 @@ fn answer<S: Store>(alloc: Global, words: &[String], store: &mut S) -> Outcome
         Err(status) => return refused(alloc, status),
     };
     policy_keeps_rules(&policy);
-    let Ok(ran) = run(alloc, &policy, script, inputs.as_slice()) else {
-        return refused(alloc, HostStatus::NoMemory);
+    let ran = run(alloc, &policy, script, inputs.as_slice());
+    drop(inputs);
+    let Ran { journal, config } = match ran {
+        Ok(ran) => ran,
+        Err(NoMemory) => {
+            drop(policy);
+            return refused(alloc, HostStatus::NoMemory);
+        }
     };
-    match write_out(alloc, store, &policy, &ran.journal) {
+    drop(config);
+    let written = write_out(alloc, store, &policy, &journal);
+    drop(policy);
+    match written {
         Ok(()) => Outcome {
             status: HostStatus::Done,
-            journal: ran.journal,
+            journal,
         },
         Err(OutFault::WriteFault(name)) => Outcome {
             status: HostStatus::WriteFault(name),
-            journal: ran.journal,
+            journal,
         },
-        Err(OutFault::NoMemory) => refused(alloc, HostStatus::NoMemory),
+        Err(OutFault::NoMemory) => {
+            drop(journal);
+            refused(alloc, HostStatus::NoMemory)
+        }
     }
 }
 

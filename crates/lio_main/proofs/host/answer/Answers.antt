@@ -1,4 +1,4 @@
-use Rattle.std.proofs.Common.{◌∙◌, ◌≡◌, ap, subst, sym, refl, List, ℕ, Option, Some, arith, Ok, inl, inr}
+use Rattle.std.proofs.Common.{◌∙◌, ◌≡◌, ap, subst, sym, refl, List, Option, arith, Ok, inr}
 use Rattle.lio_outside.specs.FileMap.{FileMap}
 use Rattle.lio_outside.proofs.CountLemmas.{Rose-in_part}
 use Rattle.lio_values.specs.declared.entry.Entry.{Entry}
@@ -38,15 +38,15 @@ returns-in-Err g c =
           (says-prepare call (named c.in-Some.command) c.in-Err.status c.in-Some.ensures (record { files = c.in-Err.ensures.files; journal = c.refused-in-Err.ensures.journal }) c.in-Err.ensures.err);
     }
 
-pub returns-in-Ok-write_out : goal.returns-in-Ok-write_out
-returns-in-Ok-write_out g c =
+pub returns-in-Ok-written : goal.returns-in-Ok-written
+returns-in-Ok-written g c =
     let told = g.S.Store.holds c.args.store.now in
-    let now = g.S.Store.holds c.write_out.new.store in
+    let now = g.S.Store.holds c.write_out-written.new.store in
     let job : Job = c.in-Ok.job in
-    let journal : List Entry = c.in-Ok-run.ran.journal in
+    let journal : List Entry = c.in-Ok-ran.ran.journal in
     let files : List Output = outputs job.policy journal in
-    let is_run : IsRunOf job journal = run-of job c.as_slice.result.now c.in-Ok-run.ran c.as_slice.ensures c.in-Ok-run.ensures.run c.in-Ok-run.ensures.seen c.in-Ok-run.ensures.channels c.in-Ok-run.ensures.powers in
-    let kept_is : now ≡ kept told files = c.in-Ok-write_out.ensures.ok ∙ ap (λ (t : Option FileMap). kept t files) c.in-Ok.ensures.files in
+    let is_run : IsRunOf job journal = run-of job c.as_slice.result.now c.in-Ok-ran.ran c.as_slice.ensures c.in-Ok-ran.ensures.run c.in-Ok-ran.ensures.seen c.in-Ok-ran.ensures.channels c.in-Ok-ran.ensures.powers in
+    let kept_is : now ≡ kept told files = c.in-Ok-written.ensures.ok ∙ ap (λ (t : Option FileMap). kept t files) c.in-Ok.ensures.files in
     record {
       says = record {
         job = job;
@@ -60,38 +60,38 @@ returns-in-Ok-write_out g c =
 pub returns-in-Err-WriteFault : goal.returns-in-Err-WriteFault
 returns-in-Err-WriteFault g c =
     let told = g.S.Store.holds c.args.store.now in
-    let now = g.S.Store.holds c.write_out.new.store in
+    let now = g.S.Store.holds c.write_out-written.new.store in
     let job : Job = c.in-Ok.job in
-    let journal : List Entry = c.in-Ok-run.ran.journal in
+    let journal : List Entry = c.in-Ok-ran.ran.journal in
     let files : List Output = outputs job.policy journal in
-    let is_run : IsRunOf job journal = run-of job c.as_slice.result.now c.in-Ok-run.ran c.as_slice.ensures c.in-Ok-run.ensures.run c.in-Ok-run.ensures.seen c.in-Ok-run.ensures.channels c.in-Ok-run.ensures.powers in
+    let is_run : IsRunOf job journal = run-of job c.as_slice.result.now c.in-Ok-ran.ran c.as_slice.ensures c.in-Ok-ran.ensures.run c.in-Ok-ran.ensures.seen c.in-Ok-ran.ensures.channels c.in-Ok-ran.ensures.powers in
     let says = rw c.in-Err-WriteFault.field-0-is at c.in-Err-WriteFault.ensures.err in
     record {
       says = record {
         job = job;
         ran = record { verdict = verdict-prepared told (bytes_of_words c.args.words.now) (named c.in-Some.command) (Ok job) c.in-Some.ensures c.in-Ok.ensures.ok; is_run = is_run };
         stops = subst (λ (t : Option FileMap). StopsAt t now files c.in-Err-WriteFault.name) c.in-Ok.ensures.files says.0;
-        rose = Rose-in_part (g.S.Store.faults c.args.store.now) (g.S.Store.faults c.prepare.new.store) (g.S.Store.faults c.write_out.new.store) (g.S.Store.faults c.write_out.new.store)
+        rose = Rose-in_part (g.S.Store.faults c.args.store.now) (g.S.Store.faults c.prepare.new.store) (g.S.Store.faults c.write_out-written.new.store) (g.S.Store.faults c.write_out-written.new.store)
             c.in-Ok.ensures.count c.in-Err-WriteFault.ensures.count (omega arith) says.1;
       };
     }
 
-pub returns : goal.returns
-returns g c =
+pub returns-in-Err-NoMemory : goal.returns-in-Err-NoMemory
+returns-in-Err-NoMemory g c =
     let told = g.S.Store.holds c.args.store.now in
-    let now = g.S.Store.holds c.write_out.new.store in
+    let now = g.S.Store.holds c.write_out-written.new.store in
     let call : Call = record {
       words = bytes_of_words c.args.words.now;
       told_before = told;
       told_after = now;
       faults_before = g.S.Store.faults c.args.store.now;
-      faults_after = g.S.Store.faults c.write_out.new.store;
+      faults_after = g.S.Store.faults c.write_out-written.new.store;
       journal = c.refused-in-Err-NoMemory.result.journal;
     } in
     let job : Job = c.in-Ok.job in
-    let journal : List Entry = c.in-Ok-run.ran.journal in
+    let journal : List Entry = c.in-Ok-ran.ran.journal in
     let files : List Output = outputs job.policy journal in
-    let is_run : IsRunOf job journal = run-of job c.as_slice.result.now c.in-Ok-run.ran c.as_slice.ensures c.in-Ok-run.ensures.run c.in-Ok-run.ensures.seen c.in-Ok-run.ensures.channels c.in-Ok-run.ensures.powers in
+    let is_run : IsRunOf job journal = run-of job c.as_slice.result.now c.in-Ok-ran.ran c.as_slice.ensures c.in-Ok-ran.ensures.run c.in-Ok-ran.ensures.seen c.in-Ok-ran.ensures.channels c.in-Ok-ran.ensures.powers in
     let keeps = rw c.in-Err-NoMemory.field-0-is at c.in-Err-NoMemory.ensures.err in
     let first : KeepsFirst told now files = subst (λ (t : Option FileMap). KeepsFirst t now files) c.in-Ok.ensures.files keeps in
     let ran : RunsJob call job journal = record { verdict = verdict-prepared told (bytes_of_words c.args.words.now) (named c.in-Some.command) (Ok job) c.in-Some.ensures c.in-Ok.ensures.ok; is_run = is_run } in

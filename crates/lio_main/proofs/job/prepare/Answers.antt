@@ -1,4 +1,4 @@
-use Rattle.std.proofs.Common.{◌≡◌, ◌∙◌, subst, sym, ap, List, ℕ, Option, None, Ok}
+use Rattle.std.proofs.Common.{◌≡◌, subst, List, ℕ, Option, None, Ok}
 use Rattle.std.proofs.lemmas.Result.{err_from_is_err_and}
 use Rattle.lio_outside.specs.FileMap.{FileMap}
 use Rattle.lio_front.specs.Causes.{AreInputs, IsLoaded, LoadSays}
