@@ -5,7 +5,9 @@ ghost use Rattle.std.specs.Prelude.{◌≡◌, ◌+◌, ◌-◌, IfOk, List};
 ghost use Rattle.lio_lines.specs.declared.line.Line.{Line};
 ghost use Rattle.lio_lines.specs.declared.line.Simple.TheVariants as line;
 ghost use Rattle.lio_calculus.specs.Plan as plan;
-ghost use Rattle.lio_turns.specs.Turns.{GivesTurns, Is, MakesChild, PlansBy};
+ghost use Rattle.lio_values.specs.declared.act.Act.TheVariants as act;
+ghost use Rattle.lio_values.specs.declared.act.Op.TheVariants as op;
+ghost use Rattle.lio_turns.specs.Turns.{GivesTurns, GuardsChild, Is, MakesChild, PlansBy};
 ghost use Rattle.lio_turns.specs.StateOf.{program_of, state_of};
 
 use crate::nodes::making;
@@ -47,8 +49,8 @@ pub fn plan_fork<'s>(
     let Some(number) = script.procedure_number(procedure.bytes()) else {
         return task.bad_type(alloc);
     };
-    match operands::values(alloc, environment, arguments)? {
-        Some(values) => forking(
+    match operands::values(alloc, environment, arguments) {
+        Ok(Some(values)) => forking(
             alloc,
             task,
             name,
@@ -58,7 +60,8 @@ pub fn plan_fork<'s>(
             number as u32,
             values,
         ),
-        None => task.bad_type(alloc),
+        Ok(None) => task.bad_type(alloc),
+        Err(error) => Err(error),
     }
 }
 
@@ -75,9 +78,28 @@ fn forking<'s>(
 ) -> Attempt<'s>
     ensures { IfOk result (λ planned. Is task.now planned (λ (lines : List Line). plan.forking (state_of lines task.now) name.now label.now turns cells (plan.birth_of number values label.now label.now turns (task.now.first + 1) cells))) }
 {
-    let birth = birth(alloc, task, label, turns, cells, number, values)?;
-    let held = label.copy(alloc)?;
-    let onward = Onward::Fork(name, held, cells, turns);
+    let birth = birth(alloc, task, label, turns, cells, number, values);
+    match both(birth, label.copy(alloc)) {
+        Ok((birth, held)) => {
+            let onward = Onward::Fork(name, held, cells, turns);
+            guarded_fork(alloc, task, label, birth, cells, turns, onward)
+        }
+        Err(error) => Err(error),
+    }
+}
+
+/// A child whose result can be waited for, where the guard lets it go and there are enough numbers and turns for it.
+fn guarded_fork<'s>(
+    alloc: Global,
+    task: &Standing<'_>,
+    label: &Label,
+    birth: Held<Birth>,
+    cells: u32,
+    turns: u32,
+    onward: Onward<'s>,
+) -> Attempt<'s>
+    ensures { IfOk result (GuardsChild task.now op.Fork label.now (act.Fork birth) cells turns onward.entry) }
+{
     match task.verdict(alloc, Op::Fork, label) {
         Ok(Verdict::Go(current)) => {
             drop(current);
@@ -96,7 +118,7 @@ fn forking<'s>(
 }
 
 /// `spawn T C P A ..`
-pub fn plan_spawn(
+pub fn plan_spawn<'s>(
     alloc: Global,
     task: &Standing<'_>,
     script: &Script,
@@ -105,7 +127,7 @@ pub fn plan_spawn(
     cells: &Operand,
     procedure: &Text,
     arguments: &Operands,
-) -> Attempt<'static>
+) -> Attempt<'s>
     ensures { IfOk result (PlansBy (program_of script.now longest) task.now (line.Spawn turns.now cells.now procedure.now arguments.now)) }
 {
     let environment = task.environment();
@@ -118,32 +140,31 @@ pub fn plan_spawn(
     let Some(number) = script.procedure_number(procedure.bytes()) else {
         return task.bad_type(alloc);
     };
-    match operands::values(alloc, environment, arguments)? {
-        Some(values) => spawning(alloc, task, turns, cells, number as u32, values),
-        None => task.bad_type(alloc),
+    match operands::values(alloc, environment, arguments) {
+        Ok(Some(values)) => spawning(alloc, task, turns, cells, number as u32, values),
+        Ok(None) => task.bad_type(alloc),
+        Err(error) => Err(error),
     }
 }
 
 /// A child that nobody waits for.
-fn spawning(
+fn spawning<'s>(
     alloc: Global,
     task: &Standing<'_>,
     turns: u32,
     cells: u32,
     number: u32,
     values: Values,
-) -> Attempt<'static>
+) -> Attempt<'s>
     ensures { IfOk result (λ planned. Is task.now planned (λ (lines : List Line). plan.spawning (state_of lines task.now) turns cells (plan.birth_of number values task.now.clearance.now task.now.clearance.now turns (task.now.first + 1) cells))) }
 {
-    let birth = birth(alloc, task, task.clearance, turns, cells, number, values)?;
-    child(
-        alloc,
-        task,
-        Act::Spawn(birth),
-        cells,
-        turns,
-        Onward::Spawn(cells, turns),
-    )
+    match birth(alloc, task, task.clearance, turns, cells, number, values) {
+        Ok(birth) => {
+            let onward = Onward::Spawn(cells, turns);
+            child(alloc, task, Act::Spawn(birth), cells, turns, onward)
+        }
+        Err(error) => Err(error),
+    }
 }
 
 /// The birth of a child whose result and clearance have this label.
@@ -158,17 +179,24 @@ fn birth(
 ) -> Result<Held<Birth>, NoMemory>
     ensures { IfOk result (λ birth. birth ≡ plan.birth_of number values label.now label.now turns (task.now.first + 1) cells) }
 {
-    let (result, clearance) = both(label.copy(alloc), label.copy(alloc))?;
-    let birth = Birth {
-        proc_at: number,
-        args: values,
-        result,
-        clearance,
-        turns,
-        first: task.first + 1,
-        cells,
-    };
-    Held::new(alloc, birth)
+    match both(label.copy(alloc), label.copy(alloc)) {
+        Ok((result, clearance)) => {
+            let birth = Birth {
+                proc_at: number,
+                args: values,
+                result,
+                clearance,
+                turns,
+                first: task.first + 1,
+                cells,
+            };
+            Held::new(alloc, birth)
+        }
+        Err(error) => {
+            drop(values);
+            Err(error)
+        }
+    }
 }
 
 /// An act that makes a child, where there are enough numbers and turns for it.

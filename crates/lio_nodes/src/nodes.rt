@@ -3,7 +3,10 @@
 
 ghost use Rattle.std.specs.Prelude.{◌≡◌, IfOk, None};
 ghost use Rattle.lio_lines.specs.declared.line.Simple.TheVariants as line;
+ghost use Rattle.lio_values.specs.declared.act.Act.TheVariants as act;
+ghost use Rattle.lio_values.specs.declared.act.Reply.TheVariants as reply;
 ghost use Rattle.lio_turns.specs.declared.turn.Turn.TheVariants as turn;
+ghost use Rattle.lio_turns.specs.declared.turn.Onward.TheVariants as onward;
 ghost use Rattle.lio_turns.specs.declared.turn.Target.TheVariants as target;
 ghost use Rattle.lio_turns.specs.Turns.{GuardsNode, Plans, Raises, MakesNode, MakesReference, MakesVariable, Sends, Writes};
 
@@ -30,9 +33,10 @@ pub fn plan_newref<'s>(
     let Some(label) = operands::label(environment, label) else {
         return task.bad_type(alloc);
     };
-    match operands::value(alloc, environment, value)? {
-        Some(value) => new_reference(alloc, task, name, label, value),
-        None => task.bad_type(alloc),
+    match operands::value(alloc, environment, value) {
+        Ok(Some(value)) => new_reference(alloc, task, name, label, value),
+        Ok(None) => task.bad_type(alloc),
+        Err(error) => Err(error),
     }
 }
 
@@ -46,17 +50,15 @@ fn new_reference<'s>(
 ) -> Attempt<'s>
     ensures { IfOk result (MakesReference task.now name.now label.now value) }
 {
-    let value = Held::new(alloc, value)?;
-    let (asked, held) = both(label.copy(alloc), label.copy(alloc))?;
-    let act = Act::NewRef(asked, value);
-    guarded_node(
-        alloc,
-        task,
-        Op::NewRef,
-        label,
-        act,
-        Onward::HoldReference(name, held),
-    )
+    let labels = both(label.copy(alloc), label.copy(alloc));
+    match both(Held::new(alloc, value), labels) {
+        Ok((value, (asked, held))) => {
+            let act = Act::NewRef(asked, value);
+            let onward = Onward::HoldReference(name, held);
+            guarded_node(alloc, task, Op::NewRef, label, act, onward)
+        }
+        Err(error) => Err(error),
+    }
 }
 
 /// The turn of an act that makes a node, at the first number.
@@ -135,9 +137,10 @@ pub fn plan_fullvar<'s>(
     let Some(label) = operands::label(environment, label) else {
         return task.bad_type(alloc);
     };
-    match operands::value(alloc, environment, value)? {
-        Some(value) => new_variable(alloc, task, name, label, Some(value)),
-        None => task.bad_type(alloc),
+    match operands::value(alloc, environment, value) {
+        Ok(Some(value)) => new_variable(alloc, task, name, label, Some(value)),
+        Ok(None) => task.bad_type(alloc),
+        Err(error) => Err(error),
     }
 }
 
@@ -151,40 +154,51 @@ fn new_variable<'s>(
 ) -> Attempt<'s>
     ensures { IfOk result (MakesVariable task.now name.now label.now value) }
 {
-    let value = Held::new(alloc, value)?;
-    let (asked, held) = both(label.copy(alloc), label.copy(alloc))?;
-    let act = Act::NewVar(asked, value);
-    guarded_node(
-        alloc,
-        task,
-        Op::NewVar,
-        label,
-        act,
-        Onward::HoldVariable(name, held),
-    )
+    let labels = both(label.copy(alloc), label.copy(alloc));
+    match both(Held::new(alloc, value), labels) {
+        Ok((value, (asked, held))) => {
+            let act = Act::NewVar(asked, value);
+            let onward = Onward::HoldVariable(name, held);
+            guarded_node(alloc, task, Op::NewVar, label, act, onward)
+        }
+        Err(error) => Err(error),
+    }
 }
 
 /// The raise of a statement that has an access, on a node with this handle.
-fn raising(alloc: Global, task: &Standing<'_>, op: Op, handle: &Handle) -> Attempt<'static>
+fn raising<'s>(alloc: Global, task: &Standing<'_>, op: Op, handle: &Handle) -> Attempt<'s>
     ensures { IfOk result (Raises task.now op handle.now) }
 {
-    match task.verdict(alloc, op, &handle.label)? {
-        Verdict::Go(current) => {
-            let asked = handle.label.copy(alloc)?;
+    match task.verdict(alloc, op, &handle.label) {
+        Ok(Verdict::Go(current)) => raised(alloc, op, &handle.label, current),
+        Ok(Verdict::No(kind)) => task.refused_raise(alloc, op, &handle.label, kind),
+        Err(error) => Err(error),
+    }
+}
+
+/// The turn that raises the label to this one, before the access.
+fn raised<'s>(alloc: Global, op: Op, label: &Label, current: Label) -> Attempt<'s>
+    ensures { IfOk result (λ made. made ≡ turn.Own (act.Raise op label.now) reply.Done (onward.RaiseTo current)) }
+{
+    match label.copy(alloc) {
+        Ok(asked) => {
             let onward = Onward::RaiseTo(current);
             Ok(Turn::Own(Act::Raise(op, asked), Reply::Done, onward))
         }
-        Verdict::No(kind) => task.refused_raise(alloc, op, &handle.label, kind),
+        Err(error) => {
+            drop(current);
+            Err(error)
+        }
     }
 }
 
 /// `read X R`
-pub fn plan_read(
+pub fn plan_read<'s>(
     alloc: Global,
     task: &Standing<'_>,
     name: &Text,
     reference: &Operand,
-) -> Attempt<'static>
+) -> Attempt<'s>
     ensures { IfOk result (Plans task.now (line.Read name.now reference.now)) }
 {
     match operands::reference(task.environment(), reference) {
@@ -194,40 +208,45 @@ pub fn plan_read(
 }
 
 /// `write R A`
-pub fn plan_write(
+pub fn plan_write<'s>(
     alloc: Global,
     task: &Standing<'_>,
     reference: &Operand,
     value: &Operand,
-) -> Attempt<'static>
+) -> Attempt<'s>
     ensures { IfOk result (Plans task.now (line.Write reference.now value.now)) }
 {
     let environment = task.environment();
     let Some(handle) = operands::reference(environment, reference) else {
         return task.bad_type(alloc);
     };
-    match operands::value(alloc, environment, value)? {
-        Some(value) => writing(alloc, task, handle, value),
-        None => task.bad_type(alloc),
+    match operands::value(alloc, environment, value) {
+        Ok(Some(value)) => writing(alloc, task, handle, value),
+        Ok(None) => task.bad_type(alloc),
+        Err(error) => Err(error),
     }
 }
 
 /// The write of a value to a reference.
-fn writing(alloc: Global, task: &Standing<'_>, handle: &Handle, value: Value) -> Attempt<'static>
+fn writing<'s>(alloc: Global, task: &Standing<'_>, handle: &Handle, value: Value) -> Attempt<'s>
     ensures { IfOk result (Writes task.now handle.now value) }
 {
-    let (value, met) = both(Held::new(alloc, value), handle.copy(alloc))?;
-    let turn = Turn::Visit(Act::Write(value), Target::Reference(met), Onward::Advance);
-    task.guarded(alloc, Op::Write, &handle.label, turn)
+    match both(Held::new(alloc, value), handle.copy(alloc)) {
+        Ok((value, met)) => {
+            let turn = Turn::Visit(Act::Write(value), Target::Reference(met), Onward::Advance);
+            task.guarded(alloc, Op::Write, &handle.label, turn)
+        }
+        Err(error) => Err(error),
+    }
 }
 
 /// `take X V`
-pub fn plan_take(
+pub fn plan_take<'s>(
     alloc: Global,
     task: &Standing<'_>,
     name: &Text,
     variable: &Operand,
-) -> Attempt<'static>
+) -> Attempt<'s>
     ensures { IfOk result (Plans task.now (line.Take name.now variable.now)) }
 {
     match operands::variable(task.environment(), variable) {
@@ -237,12 +256,12 @@ pub fn plan_take(
 }
 
 /// `put V A`
-pub fn plan_put(
+pub fn plan_put<'s>(
     alloc: Global,
     task: &Standing<'_>,
     variable: &Operand,
     value: &Operand,
-) -> Attempt<'static>
+) -> Attempt<'s>
     ensures { IfOk result (Plans task.now (line.Put variable.now value.now)) }
 {
     let environment = task.environment();
@@ -271,12 +290,12 @@ pub fn plan_wait<'s>(
 }
 
 /// `send C A`
-pub fn plan_send(
+pub fn plan_send<'s>(
     alloc: Global,
     task: &Standing<'_>,
     channel: &Operand,
     text: &Operand,
-) -> Attempt<'static>
+) -> Attempt<'s>
     ensures { IfOk result (Plans task.now (line.Send channel.now text.now)) }
 {
     let environment = task.environment();
@@ -290,10 +309,14 @@ pub fn plan_send(
 }
 
 /// The message of a text to a channel.
-fn sending(alloc: Global, task: &Standing<'_>, handle: &Handle, text: &Text) -> Attempt<'static>
+fn sending<'s>(alloc: Global, task: &Standing<'_>, handle: &Handle, text: &Text) -> Attempt<'s>
     ensures { IfOk result (Sends task.now handle.now text.now) }
 {
-    let (text, met) = both(text.copy(alloc), handle.copy(alloc))?;
-    let turn = Turn::Visit(Act::Send(text), Target::Channel(met), Onward::Advance);
-    task.guarded(alloc, Op::Send, &handle.label, turn)
+    match both(text.copy(alloc), handle.copy(alloc)) {
+        Ok((text, met)) => {
+            let turn = Turn::Visit(Act::Send(text), Target::Channel(met), Onward::Advance);
+            task.guarded(alloc, Op::Send, &handle.label, turn)
+        }
+        Err(error) => Err(error),
+    }
 }

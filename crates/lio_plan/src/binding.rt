@@ -45,9 +45,10 @@ pub(crate) fn plan_let<'s>(
 ) -> Attempt<'s>
     ensures { IfOk result (Plans task.now (line.Let name.now value.now)) }
 {
-    match operands::value(alloc, task.environment(), value)? {
-        Some(value) => Ok(stepping(Onward::Bind(name, value))),
-        None => task.bad_type(alloc),
+    match operands::value(alloc, task.environment(), value) {
+        Ok(Some(value)) => Ok(stepping(Onward::Bind(name, value))),
+        Ok(None) => task.bad_type(alloc),
+        Err(error) => Err(error),
     }
 }
 
@@ -145,19 +146,20 @@ pub(crate) fn plan_call<'s>(
 ) -> Attempt<'s>
     ensures { IfOk result (PlansBy (program_of script.now longest) task.now (line.Call name.now procedure.now arguments.now)) }
 {
-    let Some(values) = operands::values(alloc, task.environment(), arguments)? else {
-        return task.bad_type(alloc);
-    };
-    match Procedure::find(script, procedure) {
-        Some(procedure) => {
-            let planned = calling(alloc, task, script, name, &values, procedure);
-            drop(values);
-            planned
-        }
-        None => {
-            drop(values);
-            task.bad_type(alloc)
-        }
+    match operands::values(alloc, task.environment(), arguments) {
+        Ok(Some(values)) => match Procedure::find(script, procedure) {
+            Some(procedure) => {
+                let planned = calling(alloc, task, script, name, &values, procedure);
+                drop(values);
+                planned
+            }
+            None => {
+                drop(values);
+                task.bad_type(alloc)
+            }
+        },
+        Ok(None) => task.bad_type(alloc),
+        Err(error) => Err(error),
     }
 }
 
@@ -176,8 +178,10 @@ fn calling<'s>(
     if is_deep(task) {
         task.refused(alloc, Act::Step, FaultKind::Depth)
     } else {
-        let environment = procedure.environment(alloc, values)?;
-        Ok(stepping(Onward::Call(name, environment, procedure.body)))
+        match procedure.environment(alloc, values) {
+            Ok(environment) => Ok(stepping(Onward::Call(name, environment, procedure.body))),
+            Err(error) => Err(error),
+        }
     }
 }
 
@@ -189,17 +193,18 @@ fn is_deep(task: &Standing<'_>) -> bool
 }
 
 /// `return A`
-pub(crate) fn plan_return(alloc: Global, task: &Standing<'_>, value: &Operand) -> Attempt<'static>
+pub(crate) fn plan_return<'s>(alloc: Global, task: &Standing<'_>, value: &Operand) -> Attempt<'s>
     ensures { IfOk result (Plans task.now (line.Return value.now)) }
 {
-    match operands::value(alloc, task.environment(), value)? {
-        Some(value) => returning(alloc, task, value),
-        None => task.bad_type(alloc),
+    match operands::value(alloc, task.environment(), value) {
+        Ok(Some(value)) => returning(alloc, task, value),
+        Ok(None) => task.bad_type(alloc),
+        Err(error) => Err(error),
     }
 }
 
 /// The return of a value to the caller, or the end of the task with it where no call is open.
-fn returning(alloc: Global, task: &Standing<'_>, value: Value) -> Attempt<'static>
+fn returning<'s>(alloc: Global, task: &Standing<'_>, value: Value) -> Attempt<'s>
     ensures { IfOk result (λ planned. Is task.now planned (λ (lines : List Line). plan.returning (state_of lines task.now) value)) }
 {
     if is_main(task) {
@@ -217,7 +222,7 @@ fn is_main(task: &Standing<'_>) -> bool
 }
 
 /// The end of the task with a value, if it is bare.
-fn ending_with(alloc: Global, task: &Standing<'_>, value: Value) -> Attempt<'static>
+fn ending_with<'s>(alloc: Global, task: &Standing<'_>, value: Value) -> Attempt<'s>
     ensures { IfOk result (λ planned. Is task.now planned (λ (lines : List Line). plan.ending_with (state_of lines task.now) (bare_of value))) }
 {
     match value {
@@ -231,21 +236,21 @@ fn ending_with(alloc: Global, task: &Standing<'_>, value: Value) -> Attempt<'sta
 }
 
 /// `stop`
-pub(crate) fn plan_stop(alloc: Global, task: &Standing<'_>) -> Attempt<'static>
+pub(crate) fn plan_stop<'s>(alloc: Global, task: &Standing<'_>) -> Attempt<'s>
     ensures { IfOk result (Plans task.now line.Stop) }
 {
     ending(alloc, Content::Kept(Plain::Unit))
 }
 
 /// `throw A`
-pub(crate) fn plan_throw(alloc: Global, task: &Standing<'_>, value: &Operand) -> Attempt<'static>
+pub(crate) fn plan_throw<'s>(alloc: Global, task: &Standing<'_>, value: &Operand) -> Attempt<'s>
     ensures { IfOk result (Plans task.now (line.Throw value.now)) }
 {
     match operands::bare(task.environment(), value) {
-        Some(plain) => {
-            let kind = FaultKind::User(plain.copy(alloc)?);
-            task.refused(alloc, Act::Step, kind)
-        }
+        Some(plain) => match plain.copy(alloc) {
+            Ok(plain) => task.refused(alloc, Act::Step, FaultKind::User(plain)),
+            Err(error) => Err(error),
+        },
         None => task.bad_type(alloc),
     }
 }
@@ -259,9 +264,11 @@ fn stepping<'s>(onward: Onward<'s>) -> Turn<'s>
 }
 
 /// The turn in which a task ends with a content.
-fn ending(alloc: Global, content: Content) -> Attempt<'static>
+fn ending<'s>(alloc: Global, content: Content) -> Attempt<'s>
     ensures { IfOk result (λ planned. planned ≡ turn.Own (act.Ended content) reply.Done onward.End) }
 {
-    let content = Held::new(alloc, content)?;
-    Ok(Turn::Own(Act::Ended(content), Reply::Done, Onward::End))
+    match Held::new(alloc, content) {
+        Ok(content) => Ok(Turn::Own(Act::Ended(content), Reply::Done, Onward::End)),
+        Err(error) => Err(error),
+    }
 }

@@ -51,11 +51,13 @@ pub fn plan_next<'s>(
 }
 
 /// The end of a task that has no turn left.
-fn without_turns(alloc: Global, task: &Standing<'_>) -> Result<Planned<'static>, NoMemory>
+fn without_turns<'s>(alloc: Global, task: &Standing<'_>) -> Result<Planned<'s>, NoMemory>
     ensures { IfOk result (λ result_plan. result_plan ≡ planned.Ends (content.Faulted (fault_of task.now kind.NoTurns))) }
 {
-    let fault = task.fault(alloc, FaultKind::NoTurns)?;
-    Ok(Planned::Ends(Content::Faulted(fault)))
+    match task.fault(alloc, FaultKind::NoTurns) {
+        Ok(fault) => Ok(Planned::Ends(Content::Faulted(fault))),
+        Err(error) => Err(error),
+    }
 }
 
 /// What the next turn does, of a task with turns left.
@@ -75,10 +77,14 @@ fn plan_front<'s>(
         Front::Back => Ok(Planned::Control(Control::Leave)),
         Front::Mark => Ok(Planned::Control(Control::Pass)),
         Front::Fail(fault) => failing(alloc, fault),
-        Front::Access(simple) => Ok(Planned::Turn(task.plan_access(alloc, simple)?)),
-        Front::Simple(simple) => Ok(Planned::Turn(plan_simple(
-            alloc, task, script, longest, simple,
-        )?)),
+        Front::Access(simple) => match task.plan_access(alloc, simple) {
+            Ok(turn) => Ok(Planned::Turn(turn)),
+            Err(error) => Err(error),
+        },
+        Front::Simple(simple) => match plan_simple(alloc, task, script, longest, simple) {
+            Ok(turn) => Ok(Planned::Turn(turn)),
+            Err(error) => Err(error),
+        },
         Front::Choice {
             condition,
             block,
@@ -91,13 +97,13 @@ fn plan_front<'s>(
 
 /// `if A`
 #[tactic(auto, using(crate::proofs::LeadsLemmas::at_own))]
-fn plan_choice(
+fn plan_choice<'s>(
     alloc: Global,
     task: &Standing<'_>,
     condition: &Operand,
     block: usize,
     other: Option<usize>,
-) -> Result<Planned<'static>, NoMemory>
+) -> Result<Planned<'s>, NoMemory>
     ensures plan { IfOk result (λ planned. (program : Program) (lines : List Line) (items : List Item) → plan_of lines items planned ≡ plan.plan_statement program (state_of lines task.now) (choice_at lines condition.now block other)) }
     ensures leads { IfOk result (λ planned. (lines : List Line) (items : List Item) → AtStatement items → LeadsOn lines items planned) }
 {
@@ -115,12 +121,12 @@ fn plan_choice(
 
 /// `while A`
 #[tactic(auto, using(crate::proofs::LeadsLemmas::begins_at, crate::proofs::LeadsLemmas::begins_own, crate::proofs::LeadsLemmas::loop_begins))]
-fn plan_loop(
+fn plan_loop<'s>(
     alloc: Global,
     task: &Standing<'_>,
     condition: &Operand,
     block: usize,
-) -> Result<Planned<'static>, NoMemory>
+) -> Result<Planned<'s>, NoMemory>
     ensures plan { IfOk result (λ planned. (program : Program) (lines : List Line) (items : List Item) → let loop = While condition.now (block_at lines block) in plan_of lines (Do loop ∷ items) planned ≡ plan.plan_statement program (state_of lines task.now) loop) }
     ensures leads { IfOk result (λ planned. (lines : List Line) (items : List Item) → Begins items (While condition.now (block_at lines block)) → LeadsOn lines items planned) }
 {
@@ -135,15 +141,18 @@ fn plan_loop(
 }
 
 /// The refusal where a condition isn't a flag.
-fn refused_control(alloc: Global, task: &Standing<'_>) -> Result<Planned<'static>, NoMemory>
+fn refused_control<'s>(alloc: Global, task: &Standing<'_>) -> Result<Planned<'s>, NoMemory>
     ensures plan { IfOk result (λ planned. (lines : List Line) (items : List Item) → plan_of lines items planned ≡ plan.bad_type (state_of lines task.now)) }
     ensures leads { IfOk result (λ planned. (lines : List Line) (items : List Item) → AtStatement items → LeadsOn lines items planned) }
 {
-    Ok(Planned::Turn(task.bad_type(alloc)?))
+    match task.bad_type(alloc) {
+        Ok(turn) => Ok(Planned::Turn(turn)),
+        Err(error) => Err(error),
+    }
 }
 
 /// The end of a task with a fault that nothing caught.
-fn failing(alloc: Global, fault: &Fault) -> Result<Planned<'static>, NoMemory>
+fn failing<'s>(alloc: Global, fault: &Fault) -> Result<Planned<'s>, NoMemory>
     ensures { IfOk result (λ result_plan. result_plan ≡ planned.Ends (content.Faulted fault.now)) }
 {
     let fault = Held::new(alloc, fault.copy(alloc)?)?;

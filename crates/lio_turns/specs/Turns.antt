@@ -178,3 +178,9 @@ Unlabels task name label content made =
 abbrev pub MakesChild : Standing → Act → ℕ → ℕ → Onward → Turn → Type 0
 MakesChild task act cells turns onward turn =
     (simple : Simple) → IsFor task simple turn (λ lines. plan.with_room (state_of lines task) act cells turns (plan.Visit act (plan.New task.first) (onward_of lines simple onward)))
+
+-- and where a guard lets it go
+abbrev pub GuardsChild : Standing → Op → Label → Act → ℕ → ℕ → Onward → Turn → Type 0
+GuardsChild task operation label act cells turns onward turn =
+    (simple : Simple) → IsFor task simple turn (λ lines. plan.with_verdict (state_of lines task) act (plan.verdict_on (state_of lines task) operation label)
+    (λ current. plan.with_room (state_of lines task) act cells turns (plan.Visit act (plan.New task.first) (onward_of lines simple onward))))

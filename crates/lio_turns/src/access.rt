@@ -5,6 +5,7 @@ ghost use Rattle.lio_turns.specs.declared.turn.Turn.TheVariants as turn;
 ghost use Rattle.lio_turns.specs.declared.turn.Target.TheVariants as target;
 ghost use Rattle.lio_turns.specs.declared.turn.Onward.TheVariants as onward;
 
+use crate::guarded::both;
 use crate::standing::Standing;
 use crate::turn::{Attempt, Onward, Target, Turn};
 use lio_lines::{Operand, Simple};
@@ -61,17 +62,17 @@ impl Standing<'_> {
 
     /// The access of `put V A`
     #[tactic(auto, unfolding(lio_calculus::specs::Plan::plan_access))]
-    fn access_put(&self, alloc: Global, variable: &Operand, value: &Operand) -> Attempt<'static>
+    fn access_put<'s>(&self, alloc: Global, variable: &Operand, value: &Operand) -> Attempt<'s>
         ensures { IfOk result (PlansAccess self.now (line.Put variable.now value.now)) }
     {
         let environment = self.environment();
         let Some(handle) = operands::variable(environment, variable) else {
             return self.bad_type(alloc);
         };
-        let handle = handle.copy(alloc)?;
-        match operands::value(alloc, environment, value)? {
-            Some(value) => putting(alloc, handle, value),
-            None => self.bad_type(alloc),
+        match operands::value(alloc, environment, value) {
+            Ok(Some(value)) => putting(alloc, handle, value),
+            Ok(None) => self.bad_type(alloc),
+            Err(error) => Err(error),
         }
     }
 
@@ -89,9 +90,15 @@ impl Standing<'_> {
 }
 
 /// A value is put into a variable.
-fn putting(alloc: Global, handle: Handle, value: Value) -> Attempt<'static>
-    ensures { IfOk result (λ planned. planned ≡ turn.Visit (act.Put value) (target.Variable handle) onward.Advance) }
+fn putting<'s>(alloc: Global, handle: &Handle, value: Value) -> Attempt<'s>
+    ensures { IfOk result (λ planned. planned ≡ turn.Visit (act.Put value) (target.Variable handle.now) onward.Advance) }
 {
-    let value = Held::new(alloc, value)?;
-    Ok(Turn::Visit(Act::Put(value), Target::Variable(handle), Onward::Advance))
+    match both(Held::new(alloc, value), handle.copy(alloc)) {
+        Ok((value, handle)) => Ok(Turn::Visit(
+            Act::Put(value),
+            Target::Variable(handle),
+            Onward::Advance,
+        )),
+        Err(error) => Err(error),
+    }
 }

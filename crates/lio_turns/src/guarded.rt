@@ -34,7 +34,7 @@ impl Standing<'_> {
     }
 
     /// A refused act, which throws the fault that its reply shows.
-    pub fn refused(&self, alloc: Global, act: Act, kind: FaultKind) -> Attempt<'static>
+    pub fn refused<'s>(&self, alloc: Global, act: Act, kind: FaultKind) -> Attempt<'s>
         ensures { IfOk result (λ planned. planned ≡ refusal self.now act kind) }
     {
         match self.fault(alloc, kind) {
@@ -47,7 +47,7 @@ impl Standing<'_> {
     }
 
     /// The refusal where an operand isn't bound or isn't of the needed kind.
-    pub fn bad_type(&self, alloc: Global) -> Attempt<'static>
+    pub fn bad_type<'s>(&self, alloc: Global) -> Attempt<'s>
         ensures { IfOk result (λ planned. planned ≡ refusal self.now act.Step kind.BadType) }
     {
         self.refused(alloc, Act::Step, FaultKind::BadType)
@@ -79,7 +79,7 @@ impl Standing<'_> {
 }
 
 /// An act that is refused with a fault, which its reply shows.
-fn throwing(alloc: Global, act: Act, fault: Held<Fault>) -> Attempt<'static>
+fn throwing<'s>(alloc: Global, act: Act, fault: Held<Fault>) -> Attempt<'s>
     ensures { IfOk result (λ planned. planned ≡ turn.Own act (reply.Refused fault) (onward.Throw fault)) }
 {
     match fault.copy(alloc) {

@@ -60,8 +60,10 @@ impl Standing<'_> {
     ) -> Attempt<'s>
         ensures { IfOk result (Seals self.now name.now label.now plain.now) }
     {
-        let turn = sealed(alloc, name, label, plain)?;
-        self.guarded(alloc, Op::Seal, label, turn)
+        match sealed(alloc, name, label, plain) {
+            Ok(turn) => self.guarded(alloc, Op::Seal, label, turn),
+            Err(error) => Err(error),
+        }
     }
 
     /// `unlabel X A`
@@ -84,20 +86,21 @@ impl Standing<'_> {
     ) -> Attempt<'s>
         ensures { IfOk result (Unlabels self.now name.now label.now content.now) }
     {
-        match self.verdict(alloc, Op::Unlabel, label)? {
-            Verdict::Go(current) => unlabelled(alloc, name, label, content, current),
-            Verdict::No(kind) => self.refused_raise(alloc, Op::Unlabel, label, kind),
+        match self.verdict(alloc, Op::Unlabel, label) {
+            Ok(Verdict::Go(current)) => unlabelled(alloc, name, label, content, current),
+            Ok(Verdict::No(kind)) => self.refused_raise(alloc, Op::Unlabel, label, kind),
+            Err(error) => Err(error),
         }
     }
 
     /// A refused raise, for an operation on a thing with this label.
-    pub fn refused_raise(
+    pub fn refused_raise<'s>(
         &self,
         alloc: Global,
         op: Op,
         label: &Label,
         kind: FaultKind,
-    ) -> Attempt<'static>
+    ) -> Attempt<'s>
         ensures { IfOk result (λ planned. planned ≡ refusal self.now (act.Raise op label.now) kind) }
     {
         match label.copy(alloc) {
@@ -110,7 +113,7 @@ impl Standing<'_> {
     }
 
     /// `taint L`
-    pub fn plan_taint(&self, alloc: Global, label: &Operand) -> Attempt<'static>
+    pub fn plan_taint<'s>(&self, alloc: Global, label: &Operand) -> Attempt<'s>
         ensures { IfOk result (Plans self.now (line.Taint label.now)) }
     {
         match operands::label(self.environment(), label) {
@@ -120,24 +123,18 @@ impl Standing<'_> {
     }
 
     /// The raise to a label.
-    fn tainting(&self, alloc: Global, label: &Label) -> Attempt<'static>
+    fn tainting<'s>(&self, alloc: Global, label: &Label) -> Attempt<'s>
         ensures { IfOk result (Taints self.now label.now) }
     {
-        match self.verdict(alloc, Op::Taint, label)? {
-            Verdict::Go(current) => {
-                let asked = label.copy(alloc)?;
-                Ok(Turn::Own(
-                    Act::Raise(Op::Taint, asked),
-                    Reply::Done,
-                    Onward::Raise(current),
-                ))
-            }
-            Verdict::No(kind) => self.refused_raise(alloc, Op::Taint, label, kind),
+        match self.verdict(alloc, Op::Taint, label) {
+            Ok(Verdict::Go(current)) => tainted(alloc, label, current),
+            Ok(Verdict::No(kind)) => self.refused_raise(alloc, Op::Taint, label, kind),
+            Err(error) => Err(error),
         }
     }
 
     /// `lower L`
-    pub fn plan_lower(&self, alloc: Global, label: &Operand) -> Attempt<'static>
+    pub fn plan_lower<'s>(&self, alloc: Global, label: &Operand) -> Attempt<'s>
         ensures { IfOk result (Plans self.now (line.Lower label.now)) }
     {
         match operands::label(self.environment(), label) {
@@ -147,12 +144,13 @@ impl Standing<'_> {
     }
 
     /// The clearance is lowered to a label.
-    fn lowering(&self, alloc: Global, label: &Label) -> Attempt<'static>
+    fn lowering<'s>(&self, alloc: Global, label: &Label) -> Attempt<'s>
         ensures { IfOk result (Lowers self.now label.now) }
     {
-        let (asked, clearance) = both(label.copy(alloc), label.copy(alloc))?;
-        let turn = Turn::Own(Act::Lower(asked), Reply::Done, Onward::Lower(clearance));
-        self.guarded(alloc, Op::Lower, label, turn)
+        match lowered(alloc, label) {
+            Ok(turn) => self.guarded(alloc, Op::Lower, label, turn),
+            Err(error) => Err(error),
+        }
     }
 
     /// `relabel X A L P`
@@ -191,24 +189,25 @@ impl Standing<'_> {
     ) -> Attempt<'s>
         ensures { IfOk result (λ planned. Is self.now planned (λ (lines : List Line). plan.releasing (state_of lines self.now) name.now (record { label = source.now; content = content.now }) target.now power.now)) }
     {
-        match guard_relabel(alloc, self.label, self.clearance, source, target, power)? {
-            Verdict::Go(current) => {
+        match guard_relabel(alloc, self.label, self.clearance, source, target, power) {
+            Ok(Verdict::Go(current)) => {
                 drop(current);
                 released(alloc, name, source, content, target, power)
             }
-            Verdict::No(kind) => self.refused_release(alloc, source, target, power, kind),
+            Ok(Verdict::No(kind)) => self.refused_release(alloc, source, target, power, kind),
+            Err(error) => Err(error),
         }
     }
 
     /// A refused release, which shows no content.
-    fn refused_release(
+    fn refused_release<'s>(
         &self,
         alloc: Global,
         source: &Label,
         target: &Label,
         power: &Priv,
         kind: FaultKind,
-    ) -> Attempt<'static>
+    ) -> Attempt<'s>
         ensures { IfOk result (λ planned. planned ≡ refusal self.now (act.Release source.now target.now power.now content.Hidden) kind) }
     {
         match hidden_release(alloc, source, target, power) {
@@ -225,13 +224,44 @@ impl Standing<'_> {
 fn sealed<'s>(alloc: Global, name: &'s Text, label: &Label, plain: &Plain) -> Attempt<'s>
     ensures { IfOk result (λ made. made ≡ turn.Own (act.Seal label.now) reply.Done (onward.Seal name.entry label.now plain.now)) }
 {
-    let (plain, asked) = both(Held::new(alloc, plain.copy(alloc)?), label.copy(alloc))?;
-    let label = label.copy(alloc)?;
-    Ok(Turn::Own(
-        Act::Seal(asked),
-        Reply::Done,
-        Onward::Seal(name, label, plain),
-    ))
+    match both(held_plain(alloc, plain), two_labels(alloc, label)) {
+        Ok((plain, (asked, label))) => Ok(Turn::Own(
+            Act::Seal(asked),
+            Reply::Done,
+            Onward::Seal(name, label, plain),
+        )),
+        Err(error) => Err(error),
+    }
+}
+
+/// The turn that raises the label to this one, by a taint.
+fn tainted<'s>(alloc: Global, label: &Label, current: Label) -> Attempt<'s>
+    ensures { IfOk result (λ made. made ≡ turn.Own (act.Raise op.Taint label.now) reply.Done (onward.Raise current)) }
+{
+    match label.copy(alloc) {
+        Ok(asked) => Ok(Turn::Own(
+            Act::Raise(Op::Taint, asked),
+            Reply::Done,
+            Onward::Raise(current),
+        )),
+        Err(error) => {
+            drop(current);
+            Err(error)
+        }
+    }
+}
+
+/// The turn that lowers the clearance to a label.
+fn lowered<'s>(alloc: Global, label: &Label) -> Attempt<'s>
+    ensures { IfOk result (λ made. made ≡ turn.Own (act.Lower label.now) reply.Done (onward.Lower label.now)) }
+{
+    match two_labels(alloc, label) {
+        Ok((asked, clearance)) => {
+            let onward = Onward::Lower(clearance);
+            Ok(Turn::Own(Act::Lower(asked), Reply::Done, onward))
+        }
+        Err(error) => Err(error),
+    }
 }
 
 /// The turn that opens a sealed value, at this current label.
@@ -244,10 +274,31 @@ fn unlabelled<'s>(
 ) -> Attempt<'s>
     ensures { IfOk result (λ made. made ≡ turn.Own (act.Raise op.Unlabel label.now) reply.Done (onward.Unlabel name.entry current label.now content.now)) }
 {
-    let (source, content) = both(held_label(alloc, label), held_content(alloc, content))?;
-    let asked = label.copy(alloc)?;
-    let onward = Onward::Unlabel(name, current, source, content);
-    Ok(Turn::Own(Act::Raise(Op::Unlabel, asked), Reply::Done, onward))
+    let sealed = both(held_label(alloc, label), held_content(alloc, content));
+    match both(label.copy(alloc), sealed) {
+        Ok((asked, (source, content))) => {
+            let onward = Onward::Unlabel(name, current, source, content);
+            Ok(Turn::Own(Act::Raise(Op::Unlabel, asked), Reply::Done, onward))
+        }
+        Err(error) => {
+            drop(current);
+            Err(error)
+        }
+    }
+}
+
+/// Two equal labels.
+fn two_labels(alloc: Global, label: &Label) -> Result<(Label, Label), NoMemory>
+    ensures { IfOk result (λ labels. (labels.0 ≡ label.now) × (labels.1 ≡ label.now)) }
+{
+    both(label.copy(alloc), label.copy(alloc))
+}
+
+/// A plain value on the heap.
+fn held_plain(alloc: Global, plain: &Plain) -> Result<Held<Plain>, NoMemory>
+    ensures { IfOk result (λ held. held ≡ plain.now) }
+{
+    Held::new(alloc, plain.copy(alloc)?)
 }
 
 /// A label on the heap.
@@ -275,10 +326,16 @@ fn released<'s>(
 ) -> Attempt<'s>
     ensures { IfOk result (λ made. made ≡ turn.Own (act.Release source.now target.now power.now content.now) reply.Done (onward.Release name.entry target.now)) }
 {
-    let content = held_content(alloc, content)?;
-    let label = target.copy(alloc)?;
-    let act = releasing(alloc, source, target, power, content)?;
-    Ok(Turn::Own(act, Reply::Done, Onward::Release(name, label)))
+    match both(held_content(alloc, content), target.copy(alloc)) {
+        Ok((content, label)) => match releasing(alloc, source, target, power, content) {
+            Ok(act) => Ok(Turn::Own(act, Reply::Done, Onward::Release(name, label))),
+            Err(error) => {
+                drop(label);
+                Err(error)
+            }
+        },
+        Err(error) => Err(error),
+    }
 }
 
 /// The release of no content.
@@ -304,7 +361,12 @@ fn releasing(
 ) -> Result<Act, NoMemory>
     ensures { IfOk result (λ made. made ≡ act.Release source.now target.now power.now content) }
 {
-    let by = power.copy(alloc)?;
-    let (from, to) = both(held_label(alloc, source), held_label(alloc, target))?;
-    Ok(Act::Release(from, to, by, content))
+    let labels = both(held_label(alloc, source), held_label(alloc, target));
+    match both(power.copy(alloc), labels) {
+        Ok((by, (from, to))) => Ok(Act::Release(from, to, by, content)),
+        Err(error) => {
+            drop(content);
+            Err(error)
+        }
+    }
 }
