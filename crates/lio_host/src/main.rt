@@ -1,12 +1,17 @@
 //! Runs a script under a policy over labelled inputs, and writes what it sends to its channels.
 #![tactic(auto)]
 
-ghost use Rattle.std.specs.Prelude.{◌≡◌};
+ghost use Rattle.std.specs.Prelude.{◌≡◌, List};
 ghost use Rattle.std.specs.Process.{exit_status};
+ghost use Rattle.lio_values.specs.declared.entry.Entry.{Entry};
 ghost use Rattle.lio_status.specs.ExitStatus.{exit_status as status_number};
+ghost use Rattle.lio_main.specs.Answers.{EndsWith};
+ghost use Rattle.lio_main.specs.Command.{bytes_of_words};
 
 #[cfg(test)]
 mod cases;
+#[cfg(test)]
+mod limits;
 #[cfg(test)]
 mod rows;
 #[cfg(test)]
@@ -14,8 +19,8 @@ mod tests;
 #[cfg(test)]
 mod worked;
 
-use lio_main::host_main;
-use lio_outside::RealStore;
+use lio_main::{Outcome, host_main};
+use lio_outside::{RealStore, Store};
 use lio_status::{HostStatus, print_refusal, refusal_detail};
 use std::process::ExitCode;
 use std::{env, io};
@@ -33,14 +38,29 @@ fn exit_code(status: &HostStatus) -> ExitCode
     ExitCode::from(status.number())
 }
 
+/// Runs the script that the words name, says on standard error what was refused, if anything was, and gives the exit status of the answer.
+fn respond<S: Store>(rt: &HostRuntime, words: &[String], store: &mut S) -> ExitCode
+    ensures { EndsWith (λ (journal : List Entry). record {
+      words = bytes_of_words words.now;
+      told_before = S.holds store.old;
+      told_after = S.holds store.new;
+      faults_before = S.faults store.old;
+      faults_after = S.faults store.new;
+      journal = journal;
+    }) (exit_status result) }
+{
+    let alloc = rt.alloc();
+    let Outcome { status, journal } = host_main(alloc, words, store);
+    drop(journal);
+    let detail = refusal_detail(alloc, rt, store, &status, words);
+    // A refusal that can't be printed still has its exit status.
+    let _ = print_refusal(rt, alloc, &status, words, &detail);
+    exit_code(&status)
+}
+
 fn main(rt: HostRuntime) -> ExitCode {
     // Words that can't be had as text are wrong words.
     let words = words(&rt).unwrap_or(Vec::new(rt.alloc()));
     let mut store = RealStore::new(&rt);
-    let outcome = host_main(rt.alloc(), words.as_slice(), &mut store);
-    let words = words.as_slice();
-    let detail = refusal_detail(rt.alloc(), &rt, &mut store, &outcome.status, words);
-    // A refusal that can't be printed still has its exit status.
-    let _ = print_refusal(&rt, rt.alloc(), &outcome.status, words, &detail);
-    exit_code(&outcome.status)
+    respond(&rt, words.as_slice(), &mut store)
 }

@@ -1,6 +1,7 @@
 //! The worked runs of the host: each case of `rows.rt` holds.
 
 use crate::cases::first_failing;
+use crate::limits::{FULL_POLICY, written_out};
 use crate::rows::{CLASHES, FAULTS, REFUSED_POLICIES, REFUSED_SCRIPTS, RUNS, WRONG_WORDS};
 use crate::worked::WORKED_RUNS;
 use std::process::Abort;
@@ -47,4 +48,10 @@ fn words_are_two_names(rt: HostRuntime) -> Result<(), Fail> {
 #[test]
 fn tasks_run_over_labelled_inputs(rt: HostRuntime) -> Result<(), Fail> {
     assert_all_hold(&rt, WORKED_RUNS)
+}
+
+#[test]
+fn policies_run_at_their_limits(rt: HostRuntime) -> Result<(), Fail> {
+    let rows = written_out(rt.alloc(), FULL_POLICY)?;
+    assert_all_hold(&rt, rows.as_str())
 }

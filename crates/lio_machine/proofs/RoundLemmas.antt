@@ -1,5 +1,5 @@
 -- How a machine goes through a round.
-use Rattle.std.proofs.Common.{◌≡◌, ◌∙◌, refl, sym, ap, subst, ℕ, ◌+◌, ◌<◌, false, true≢false, List, [], ◌∷◌, ◌++◌, length, length-append, append_assoc, append-nil, get_or, take, Option, Some, None, is_some, arith}
+use Rattle.std.proofs.Common.{◌≡◌, ◌∙◌, refl, sym, ap, subst, ℕ, zero, suc, ◌+◌, ◌<◌, false, true≢false, List, [], ◌∷◌, ◌++◌, length, length-append, append_assoc, append-nil, drop, get_or, take, take-append-drop, Option, Some, None, is_some, arith}
 use Rattle.std.proofs.Math.ListN.{get_or-append}
 use Rattle.std.proofs.lemmas.List.{take_more}
 use Rattle.std.specs.Option.{option_map}
@@ -13,8 +13,8 @@ use Rattle.lio_schedule.proofs.TurnLemmas.{step-ticket, with_ticket}
 use Rattle.lio_schedule.proofs.RoundLemmas.{round-append, round-moves, round-nobody, round-skips}
 use Rattle.lio_schedule.proofs.EndLemmas.{Ends, rounds_go_on}
 use Rattle.lio_schedule.proofs.OrderLaws.{rounds-end_from}
-use Rattle.lio_machine.specs.MachineState.{MachineState, HasTaken, HasRun, HasWalked}
-use Rattle.lio_machine.proofs.RunLemmas.{has_run-append, has_run-nothing, has_run-one}
+use Rattle.lio_machine.specs.MachineState.{MachineState, HasBegun, HasTaken, HasRun, HasWalked}
+use Rattle.lio_machine.proofs.RunLemmas.{StandsBefore, first-before, has_begun, has_run-append, has_run-nothing, has_run-one}
 
 -- a round that asks nobody
 pub walked-nobody : (m : MachineState) → HasWalked m m []
@@ -70,6 +70,15 @@ walked-stays old s walked k so_far still =
     no-step None e = refl
     no-step (Some turn) e = absurd (true≢false e)
 
+-- a round over the first tasks of an order moves a first part of those whom the whole round moves
+pub walked-begins : (old s : MachineState) (order : List ℕ) (i : ℕ) → HasWalked old s (take i order) → HasBegun old s (round stepped order old.configuration).moved
+walked-begins old s order i so_far =
+    let first : Round Configuration = round stepped (take i order) old.configuration in
+    let later : Round Configuration = round stepped (drop i order) first.after in
+    let whole : round stepped order old.configuration ≡ joined first later =
+    ap (λ (ks : List ℕ). round stepped ks old.configuration) (sym (take-append-drop i order)) ∙ round-append stepped (take i order) (drop i order) old.configuration in
+    has_begun old s first.moved (round stepped order old.configuration).moved (record { rest = later.moved; is = ap (λ (r : Round Configuration). r.moved) whole }) so_far.has_run
+
 -- rounds so far: those of the first machine are these and then those of this machine
 pub record RoundsSoFar (old new : MachineState) : Type 0 where
   pub moved : List ℕ
@@ -98,6 +107,25 @@ rounds-more old s new before last some =
     by : (moved later : List ℕ) → 0 < length moved → followed moved later ≡ moved ++ later
     by [] later h = absurd (omega (arith, h))
     by (k ∷ moved) later h = refl
+
+-- a round that was begun begins the rounds that are left
+begun-before : (n : ℕ) (moved later : List ℕ) → StandsBefore (take n moved) (followed moved later)
+begun-before zero [] later = record { rest = []; is = refl }
+begun-before (suc n) [] later = record { rest = []; is = refl }
+begun-before n (k ∷ moved) later =
+    let first = first-before n (k ∷ moved) in
+    record { rest = first.rest ++ later; is = ap (λ (ks : List ℕ). ks ++ later) first.is ∙ append_assoc (take n (k ∷ moved)) first.rest later }
+
+-- rounds of which the last was begun
+pub rounds-begun : (old s new : MachineState) → RoundsSoFar old s → HasBegun s new (round stepped s.order s.configuration).moved → HasBegun old new (rounds_from old.order old.configuration)
+rounds-begun old s new before begun =
+    let done : Round Configuration = round stepped s.order s.configuration in
+    let part : List ℕ = take begun.0 done.moved in
+    let stands = begun-before begun.0 done.moved (rounds_from (order_after s.order done) done.after) in
+    let goes : rounds_from s.order s.configuration ≡ part ++ stands.rest = rounds_go_on s.order s.configuration ∙ stands.is in
+    has_begun old new (before.moved ++ part) (rounds_from old.order old.configuration)
+    (record { rest = stands.rest; is = before.rounds ∙ ap (λ (ks : List ℕ). before.moved ++ ks) goes ∙ sym (append_assoc before.moved part stands.rest) })
+    (has_run-append old s new before.moved part before.has_run begun.1)
 
 no_items : (ks : List ℕ) → length ks ≡ 0 → ks ≡ []
 no_items [] e = refl

@@ -1,10 +1,13 @@
 -- How runs are put together.
-use Rattle.std.proofs.Common.{◌≡◌, ◌∙◌, refl, sym, ap, subst, ℕ, suc, ◌+◌, List, [], ◌∷◌, ◌++◌, length, length-append, append_assoc, append-nil, Option, Some, None, option_and_then, arith}
+use Rattle.std.proofs.Common.{◌≡◌, ◌∙◌, refl, sym, ap, subst, ℕ, suc, ◌+◌, List, [], ◌∷◌, ◌++◌, length, length-append, append_assoc, append-nil, drop, flat_map, take, take-append-drop, Option, Some, None, option_and_then, arith}
+use Rattle.std.proofs.Math.Seq.{take-append_seam}
+use Rattle.std.proofs.lemmas.Grind.{flat_map-append}
 use Rattle.std.specs.Option.{option_map}
 use Rattle.lio_values.specs.declared.entry.Entry.{Entry}
 use Rattle.lio_calculus.specs.Step.{Configuration, Turn, step}
 use Rattle.lio_calculus.specs.Run.{Ran, ran_after, run}
-use Rattle.lio_machine.specs.MachineState.{MachineState, HasTaken, HasRun}
+use Rattle.lio_schedule.specs.Round.{born_in}
+use Rattle.lio_machine.specs.MachineState.{MachineState, HasBegun, HasTaken, HasRun}
 
 -- the first step of a run, and the run after it
 pub record First (ticket : ℕ) (c : Configuration) (k : ℕ) (ks : List ℕ) (ran : Ran) : Type 0 where
@@ -66,12 +69,14 @@ has_run-append a b c ks js one two =
       added = one.added ++ two.added;
       is_run = run-append (length a.entries) a.configuration ks js (record { entries = one.added; last = b.configuration }) (record { entries = two.added; last = c.configuration }) one.is_run goes;
       entries = two.entries ∙ ap (λ (es : List Entry). es ++ two.added) one.entries ∙ append_assoc a.entries one.added two.added;
+      order = two.order ∙ ap (λ (ns : List ℕ). ns ++ flat_map born_in two.added) one.order ∙ append_assoc a.order (flat_map born_in one.added) (flat_map born_in two.added)
+          ∙ ap (λ (ns : List ℕ). a.order ++ ns) (sym (flat_map-append born_in one.added two.added));
       script = two.script ∙ one.script;
     }
 
 -- a machine that has run nothing
 pub has_run-nothing : (m : MachineState) → HasRun m m []
-has_run-nothing m = record { added = []; is_run = run-nothing (length m.entries) m.configuration; entries = sym (append-nil m.entries); script = refl }
+has_run-nothing m = record { added = []; is_run = run-nothing (length m.entries) m.configuration; entries = sym (append-nil m.entries); order = sym (append-nil m.order); script = refl }
 
 -- one turn
 pub has_run-one : (a b : MachineState) (k : ℕ) (entry : Entry) → HasTaken a b k entry → HasRun a b (k ∷ [])
@@ -79,5 +84,19 @@ has_run-one a b k entry taken = record {
   added = entry ∷ [];
   is_run = run-step (length a.entries) a.configuration k [] (record { entry = entry; next = b.configuration }) (record { entries = []; last = b.configuration }) taken.is_step (run-nothing (length a.entries + 1) b.configuration);
   entries = taken.entries;
+  order = taken.order ∙ ap (λ (ns : List ℕ). a.order ++ ns) (sym (append-nil (born_in entry)));
   script = taken.script;
 }
+
+-- some of what is to run stands before the rest
+pub record StandsBefore (part all : List ℕ) : Type 0 where
+  pub rest : List ℕ
+  pub is : all ≡ part ++ rest
+
+-- a machine that has run what stands before the rest has begun
+pub has_begun : (a b : MachineState) (part all : List ℕ) → StandsBefore part all → HasRun a b part → HasBegun a b all
+has_begun a b part all before has = (length part, subst (HasRun a b) (sym (ap (take (length part)) before.is ∙ take-append_seam part before.rest)) has)
+
+-- the first of what is to run stand before the rest
+pub first-before : (n : ℕ) (ks : List ℕ) → StandsBefore (take n ks) ks
+first-before n ks = record { rest = drop n ks; is = sym (take-append-drop n ks) }

@@ -1,5 +1,5 @@
 -- A machine, as contracts see it, and what its turns do to it.
-use Rattle.std.specs.Prelude.{◌≡◌, ℕ, List, [], ◌∷◌, ◌++◌, false, length, Some}
+use Rattle.std.specs.Prelude.{◌≡◌, ℕ, List, [], ◌∷◌, ◌++◌, false, flat_map, length, take, Some}
 use Rattle.lio_values.specs.declared.entry.Entry.{Entry}
 use Rattle.lio_syntax.specs.Statements.{Procedure}
 use Rattle.lio_calculus.specs.Step.{Configuration, can, step}
@@ -23,12 +23,17 @@ pub record HasTaken (old new : MachineState) (k : ℕ) (entry : Entry) : Type 0 
   pub order : new.order ≡ old.order ++ born_in entry
   pub script : new.script ≡ old.script
 
--- a machine has taken the turns of these tasks in order
+-- a machine has taken the turns of these tasks in order; who was born comes last in the order, as it was made
 pub record HasRun (old new : MachineState) (ks : List ℕ) : Type 0 where
   pub added : List Entry
   pub is_run : run (length old.entries) old.configuration ks ≡ Some (record { entries = added; last = new.configuration })
   pub entries : new.entries ≡ old.entries ++ added
+  pub order : new.order ≡ old.order ++ flat_map born_in added
   pub script : new.script ≡ old.script
+
+-- a machine has taken the turns of the first of these tasks in order, of none or all of them included
+abbrev pub HasBegun : MachineState → MachineState → List ℕ → Type 0
+HasBegun old new ks = (n : ℕ) × HasRun old new (take n ks)
 
 -- a machine has gone through a round over these tasks
 pub record HasWalked (old new : MachineState) (walked : List ℕ) : Type 0 where

@@ -55,14 +55,14 @@ impl Model for Machine {
 }
 
 impl Machine {
-    ghost use Rattle.std.specs.Prelude.{◌≡◌, ◌<◌, ◌^◌, ℕ, List, [], ◌∷◌, length, slice_index, false, IfOk, IfErr, OnOk, OnErr, Err};
+    ghost use Rattle.std.specs.Prelude.{◌≡◌, ◌<◌, ◌^◌, [], length, slice_index, IfOk, IfErr, OnOk, OnErr};
     ghost use Rattle.lio_config.specs.Configuration.{configuration_of};
     ghost use Rattle.lio_calculus.specs.Step.{can};
     ghost use Rattle.lio_wellformed.specs.WellFormed.{IsWellFormed};
     ghost use Rattle.lio_schedule.specs.Round.{round};
     ghost use Rattle.lio_schedule.specs.Laws.{IsOrderOf};
     ghost use Rattle.lio_schedule.specs.Rounds.{IsComplete, rounds_from, stepped, tasks};
-    ghost use Rattle.lio_machine.specs.MachineState.{HasTaken, HasRun, HasWalked, Stays};
+    ghost use Rattle.lio_machine.specs.MachineState.{HasBegun, HasRun, HasTaken, HasWalked, Stays};
     ghost use Rattle.lio_machine.specs.MachineParts.{machine_of};
 
     /// A machine that has taken no turn, of a well-formed configuration.
@@ -172,12 +172,12 @@ impl Machine {
         let _ = self.entries.try_reserve(turns);
     }
 
-    /// Lets each task of the order, as it stands, take a turn if it can, and answers how many did. After want of memory the turns already taken stay.
+    /// Lets each task of the order, as it stands, take a turn if it can, and answers how many did. After want of memory a first part of the round's turns was taken.
     pub fn round(&mut self, alloc: Global) -> Result<u32, NoMemory>
         ensures moved { IfOk result (λ n. n ≡ length (round stepped (machine_of self.old).order (machine_of self.old).configuration).moved) }
         ensures ok { OnOk result (HasWalked (machine_of self.old) (machine_of self.new) (machine_of self.old).order) }
         ensures lists { IsOrderOf (machine_of self.old).configuration (machine_of self.old).order }
-        ensures err { OnErr result ((ks : List ℕ) × HasRun (machine_of self.old) (machine_of self.new) ks) }
+        ensures err { OnErr result (HasBegun (machine_of self.old) (machine_of self.new) (round stepped (machine_of self.old).order (machine_of self.old).configuration).moved) }
     {
         let count = self.order().len();
         let mut moved = 0;
@@ -196,17 +196,17 @@ impl Machine {
     fn run_rounds(&mut self, alloc: Global) -> Result<(), NoMemory>
         ensures ok { OnOk result (HasRun (machine_of self.old) (machine_of self.new) (rounds_from (machine_of self.old).order (machine_of self.old).configuration)) }
         ensures complete { OnOk result (IsComplete (machine_of self.new).configuration) }
-        ensures err { OnErr result ((ks : List ℕ) × HasRun (machine_of self.old) (machine_of self.new) ks) }
+        ensures err { OnErr result (HasBegun (machine_of self.old) (machine_of self.new) (rounds_from (machine_of self.old).order (machine_of self.old).configuration)) }
     {
         while self.round(alloc)? > 0 {}
         Ok(())
     }
 
-    /// Rounds until one moves nothing. After want of memory the turns already taken stay.
+    /// Rounds until one moves nothing. After want of memory a first part of the rounds' turns was taken.
     pub fn run(&mut self, alloc: Global) -> Result<(), NoMemory>
         ensures ok { OnOk result (HasRun (machine_of self.old) (machine_of self.new) (rounds_from (machine_of self.old).order (machine_of self.old).configuration)) }
         ensures complete { OnOk result (IsComplete (machine_of self.new).configuration) }
-        ensures err { OnErr result ((ks : List ℕ) × HasRun (machine_of self.old) (machine_of self.new) ks) }
+        ensures err { OnErr result (HasBegun (machine_of self.old) (machine_of self.new) (rounds_from (machine_of self.old).order (machine_of self.old).configuration)) }
     {
         self.make_room();
         self.run_rounds(alloc)

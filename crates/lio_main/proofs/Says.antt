@@ -1,22 +1,26 @@
 -- How the answers of the steps make the answer of the call.
-use Rattle.std.proofs.Common.{◌≡◌, sym, ap, subst, refl, ℕ, List, Option, Some, None, Result, Ok, Err, inl, inr}
-use Rattle.std.specs.Prelude.{IfSome, ◌↔◌}
+use Rattle.std.proofs.Common.{◌≡◌, ◌≤◌, sym, ap, subst, arith, refl, ℕ, List, Option, Some, None, Result, Ok, Err, inl, inr}
+use Rattle.std.specs.Prelude.{IfSome, ◌↔◌, ◌⊎◌}
 use Rattle.lio_outside.specs.FileMap.{FileMap}
+use Rattle.lio_outside.specs.Count.{Rose}
+use Rattle.lio_outside.proofs.CountLemmas.{Rose-in_part, IsMissing-in_part}
+use Rattle.lio_values.specs.declared.entry.Entry.{Entry}
 use Rattle.lio_labels.specs.declared.label.Label.{Label}
 use Rattle.lio_start.specs.Start.{start_of}
 use Rattle.lio_config.specs.Configuration.{configuration_of}
 use Rattle.lio_powers.specs.Given.{powers_of}
 use Rattle.lio_powers.specs.Laws.{ReleasesByPowers}
 use Rattle.lio_run.specs.declared.by_rounds.Ran.{Ran}
-use Rattle.lio_run.specs.Runs.{IsSeen, RunsByRounds, SeesChannels, ran_of}
+use Rattle.lio_calculus.specs.Laws.{RunSeenAs}
+use Rattle.lio_run.specs.Runs.{IsByRounds, IsCompleteRun, SeesChannels, ran_of}
 use Rattle.lio_main.specs.declared.job.Job.{Job}
 use Rattle.lio_status.specs.declared.status.HostStatus.{HostStatus}
 use Rattle.lio_status.specs.declared.status.HostStatus.TheVariants.{Done, BadWords, Missing, ReadFault, BadPolicy, BadScript, BadStart, WriteFault, NoMemory, Clash}
 use Rattle.lio_main.specs.Command.{Command, command_of}
 use Rattle.lio_main.specs.Preparing.{IsPrepared, PrepareSays}
-use Rattle.lio_main.specs.Headline.{IsRunOf}
+use Rattle.lio_main.specs.Headline.{IsRunOf, first_of}
 use Rattle.lio_main.specs.Verdict.{Fetched, found, prepared, verdict}
-use Rattle.lio_main.specs.Answers.{Call, IsVerdict, NothingDone, Refuses, Says, Follows, answer_of}
+use Rattle.lio_main.specs.Answers.{Call, IsVerdict, NothingDone, Refuses, RunsJob, Says, SaysNoMemory, WritesFirst, Follows, answer_of}
 
 -- the verdict is what the command is found to be
 pub verdict-prepared : (told : Option FileMap) (words : List (List ℕ)) (command : Command) (is : Result Job HostStatus) → command_of words ≡ Some command → IsPrepared told command is → IsVerdict told words is
@@ -107,14 +111,67 @@ bad_words call status says = (words-bad call status says, only-bad_words call st
 pub says-same : (call : Call) (status got : HostStatus) → got ≡ status → Says call status → Says call got
 says-same call status got is says = subst (λ (s : HostStatus). Says call s) (sym is) says
 
--- what a run gives is a run of what the call is to do
-pub run-of : (job : Job) (texts : List (List ℕ)) (ran : Ran) → texts ≡ job.inputs → RunsByRounds (start_of job.policy job.script texts) (ran_of job.script ran)
-    → ((observer : Label) → IsSeen observer (start_of job.policy job.script texts) (ran_of job.script ran)) → ((observer : Label) → SeesChannels observer job.policy ran.journal)
-    → ReleasesByPowers (powers_of job.policy) (ran_of job.script ran) → IsRunOf job ran.journal
-run-of job texts ran same is seen channels powers = record {
-  last = configuration_of job.script ran.config;
-  is_run = subst (λ (xs : List (List ℕ)). RunsByRounds (start_of job.policy job.script xs) (ran_of job.script ran)) same is;
-  seen = λ observer. subst (λ (xs : List (List ℕ)). IsSeen observer (start_of job.policy job.script xs) (ran_of job.script ran)) same (seen observer);
-  channels = channels;
-  powers = powers;
+-- a journal is a run of what the call is to do, and by rounds
+pub record HasRan (job : Job) (journal : List Entry) : Type 0 where
+  pub is_run : IsRunOf job journal
+  pub by_rounds : IsByRounds (first_of job) (record { entries = journal; last = is_run.last })
+
+-- what is run of the texts of inputs is what is run of the call's inputs
+pub run-of : (job : Job) (texts : List (List ℕ)) (ran : Ran) → texts ≡ job.inputs → IsCompleteRun (start_of job.policy job.script texts) (ran_of job.script ran)
+    → ((observer : Label) → RunSeenAs observer (start_of job.policy job.script texts) (ran_of job.script ran)) → IsByRounds (start_of job.policy job.script texts) (ran_of job.script ran)
+    → ((observer : Label) → SeesChannels observer job.policy ran.journal) → ReleasesByPowers (powers_of job.policy) (ran_of job.script ran) → HasRan job ran.journal
+run-of job texts ran same is seen rounds channels powers = record {
+  is_run = record {
+    last = configuration_of job.script ran.config;
+    is_run = subst (λ (xs : List (List ℕ)). IsCompleteRun (start_of job.policy job.script xs) (ran_of job.script ran)) same is;
+    seen = λ observer. subst (λ (xs : List (List ℕ)). RunSeenAs observer (start_of job.policy job.script xs) (ran_of job.script ran)) same (seen observer);
+    channels = channels;
+    powers = powers;
+  };
+  by_rounds = subst (λ (xs : List (List ℕ)). IsByRounds (start_of job.policy job.script xs) (ran_of job.script ran)) same rounds;
 }
+
+-- what an answer says of a call stays so where more faults are counted
+abbrev later : Call → ℕ → Call
+later call faults = record call { faults_after = faults }
+
+nothing-later : (call : Call) (faults : ℕ) → NothingDone call → NothingDone (later call faults)
+nothing-later call faults nothing = record { files = nothing.files; journal = nothing.journal }
+
+refuses-later : (call : Call) (faults : ℕ) (status : HostStatus) → Refuses call status → Refuses (later call faults) status
+refuses-later call faults status refuses = record { verdict = refuses.verdict; nothing = nothing-later call faults refuses.nothing }
+
+runs-later : (call : Call) (faults : ℕ) (job : Job) (journal : List Entry) → RunsJob call job journal → RunsJob (later call faults) job journal
+runs-later call faults job journal runs = record { verdict = runs.verdict; is_run = runs.is_run; by_rounds = runs.by_rounds }
+
+rose-later : (call : Call) (faults : ℕ) → call.faults_before ≤ call.faults_after → call.faults_after ≤ faults → Rose call.faults_before call.faults_after → Rose call.faults_before faults
+rose-later call faults first second rose = Rose-in_part call.faults_before call.faults_before call.faults_after faults (omega arith) first second rose
+
+no_memory-later : (call : Call) (faults : ℕ) → SaysNoMemory call → SaysNoMemory (later call faults)
+no_memory-later call faults says = record { command = says.command; words = says.words; files = by says.files; journal = says.journal }
+  where
+    by : (call.told_after ≡ call.told_before) ⊎ WritesFirst call → (call.told_after ≡ call.told_before) ⊎ WritesFirst (later call faults)
+    by (inl same) = inl same
+    by (inr writes) = inr (record { job = writes.job; journal = writes.journal; ran = runs-later call faults writes.job writes.journal writes.ran; files = writes.files })
+
+says-later : (call : Call) (status : HostStatus) (faults : ℕ) → call.faults_before ≤ call.faults_after → call.faults_after ≤ faults → Says call status → Says (later call faults) status
+says-later call Done faults first second says = record { job = says.job; ran = runs-later call faults says.job call.journal says.ran; files = says.files; channels = says.channels }
+says-later call BadWords faults first second says = record { words = says.words; refused = refuses-later call faults BadWords says.refused }
+says-later call (Missing name) faults first second says = record {
+  refused = refuses-later call faults (Missing name) says.refused;
+  missing = IsMissing-in_part call.told_before name call.faults_before call.faults_before call.faults_after faults (omega arith) first second says.missing;
+}
+says-later call (ReadFault name) faults first second says =
+    record { command = says.command; words = says.words; reads = says.reads; rose = rose-later call faults first second says.rose; nothing = nothing-later call faults says.nothing }
+says-later call (BadPolicy rule entry) faults first second says = refuses-later call faults (BadPolicy rule entry) says
+says-later call (BadScript line rule) faults first second says = refuses-later call faults (BadScript line rule) says
+says-later call (BadStart place cause) faults first second says = refuses-later call faults (BadStart place cause) says
+says-later call (WriteFault name) faults first second says =
+    record { job = says.job; ran = runs-later call faults says.job call.journal says.ran; stops = says.stops; rose = rose-later call faults first second says.rose }
+says-later call NoMemory faults first second says = no_memory-later call faults says
+says-later call (Clash name) faults first second says = refuses-later call faults (Clash name) says
+
+-- and where the files stay as they are
+pub says-at_last : (call : Call) (status : HostStatus) (told : Option FileMap) (faults : ℕ) → told ≡ call.told_after → call.faults_before ≤ call.faults_after → call.faults_after ≤ faults → Says call status
+    → Says (record call { told_after = told; faults_after = faults }) status
+says-at_last call status told faults same first second says = subst (λ (t : Option FileMap). Says (record call { told_after = t; faults_after = faults }) status) (sym same) (says-later call status faults first second says)

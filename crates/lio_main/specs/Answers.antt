@@ -9,10 +9,12 @@ use Rattle.lio_front.specs.Outputs.{kept, outputs, KeepsFirst, StopsAt}
 use Rattle.lio_main.specs.declared.job.Job.{Job}
 use Rattle.lio_status.specs.declared.status.HostStatus.{HostStatus}
 use Rattle.lio_status.specs.declared.status.HostStatus.TheVariants.{Done, BadWords, Missing, ReadFault, BadPolicy, BadScript, BadStart, WriteFault, NoMemory, Clash}
+use Rattle.lio_status.specs.ExitStatus.{exit_status}
 use Rattle.lio_main.specs.Command.{Command, command_of}
 use Rattle.lio_main.specs.Preparing.{ReadsFile}
 use Rattle.lio_main.specs.Verdict.{Fetched, found, verdict}
-use Rattle.lio_main.specs.Headline.{IsRunOf}
+use Rattle.lio_run.specs.Runs.{IsByRounds}
+use Rattle.lio_main.specs.Headline.{IsRunOf, first_of}
 
 -- a call of the host: its words, what the store told of its files and how many faults it had counted, before and after
 -- the call, and the journal of the answer
@@ -40,10 +42,11 @@ pub record Refuses (call : Call) (status : HostStatus) : Type 0 where
   pub verdict : IsVerdict call.told_before call.words (Err status)
   pub nothing : NothingDone call
 
--- the journal is a complete run, by rounds, of what the verdict says, and each observer sees of it what the erased calculus gives
+-- the journal is a complete run of what the verdict says, of which each observer sees what the erased calculus gives; and it is by rounds
 pub record RunsJob (call : Call) (job : Job) (journal : List Entry) : Type 0 where
   pub verdict : IsVerdict call.told_before call.words (Ok job)
   pub is_run : IsRunOf job journal
+  pub by_rounds : IsByRounds (first_of job) (record { entries = journal; last = is_run.last })
 
 -- BadWords: the words name no policy and script
 pub record SaysBadWords (call : Call) : Type 0 where
@@ -120,3 +123,10 @@ IsFault call other = ⊥
 -- a call over these files is answered by its verdict, unless memory is wanting, or a file can't be read or written
 pub record Follows (call : Call) (status : HostStatus) (files : FileMap) : Type 0 where
   pub answer : (status ≡ answer_of (verdict (found files) call.words)) ⊎ ((status ≡ NoMemory) ⊎ IsFault call status)
+
+-- a call ends the program with an exit status: that of an answer that says of the call, with some journal, what it is to say
+pub record EndsWith (call : List Entry → Call) (exit : ℕ) : Type 0 where
+  pub status : HostStatus
+  pub journal : List Entry
+  pub says : Says (call journal) status
+  pub exit_is : exit ≡ exit_status status

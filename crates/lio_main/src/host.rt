@@ -1,6 +1,6 @@
 //! The top call: words, policy, script, inputs, run, files.
 
-ghost use Rattle.std.specs.Prelude.{◌≡◌, ◌↔◌, [], None, IfSome};
+ghost use Rattle.std.specs.Prelude.{◌≡◌, ◌↔◌, ◌≤◌, [], None, IfSome};
 ghost use Rattle.lio_main.specs.Command.{command_of, bytes_of_words};
 ghost use Rattle.lio_main.specs.Answers.{Says, Follows};
 
@@ -35,6 +35,7 @@ fn refused(alloc: Global, status: HostStatus) -> Outcome
 
 /// What `host_main` answers.
 fn answer<S: Store>(alloc: Global, words: &[String], store: &mut S) -> Outcome
+    ensures count { S.faults store.old ≤ S.faults store.new }
     ensures says { Says (record {
       words = bytes_of_words words.now;
       told_before = S.holds store.old;
@@ -86,6 +87,7 @@ fn answer<S: Store>(alloc: Global, words: &[String], store: &mut S) -> Outcome
 
 /// Runs the script that the words name under the policy that they name, and writes the channels' files.
 pub fn host_main<S: Store>(alloc: Global, words: &[String], store: &mut S) -> Outcome
+    ensures count { S.faults store.old ≤ S.faults store.new }
     ensures says { Says (record {
       words = bytes_of_words words.now;
       told_before = S.holds store.old;

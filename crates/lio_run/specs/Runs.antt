@@ -1,5 +1,5 @@
--- Complete runs by rounds, and what observers see of them.
-use Rattle.std.specs.Prelude.{◌≡◌, ℕ, List, IsTrue, Some, slice_get}
+-- Complete runs, and runs by rounds.
+use Rattle.std.specs.Prelude.{◌≡◌, ℕ, List, IsTrue, Some, map, slice_get}
 use Rattle.lio_labels.specs.declared.label.Label.{Label}
 use Rattle.lio_labels.specs.Flow.{flows}
 use Rattle.lio_values.specs.declared.entry.Entry.{Entry}
@@ -10,7 +10,6 @@ use Rattle.lio_syntax.specs.Statements.{Procedure}
 use Rattle.lio_calculus.specs.Step.{Configuration}
 use Rattle.lio_calculus.specs.Run as calculus
 use Rattle.lio_calculus.specs.Run.{run, view}
-use Rattle.lio_calculus.specs.Laws.{RunSeenAs}
 use Rattle.lio_schedule.specs.Rounds.{IsComplete, rounds}
 use Rattle.lio_schedule.specs.LowLaws.{RoundsSeenAs}
 use Rattle.lio_wellformed.specs.WellFormed.{IsWellFormed}
@@ -21,18 +20,29 @@ use Rattle.lio_run.specs.declared.by_rounds.Ran.{Ran}
 abbrev pub ran_of : List Procedure → Ran → calculus.Ran
 ran_of script ran = record { entries = ran.journal; last = configuration_of script ran.config }
 
--- a complete run by rounds: the turns of the rounds, after which no task can take one; the first and the last configuration are well-formed, with all parts
-pub record RunsByRounds (c : Configuration) (ran : calculus.Ran) : Type 0 where
-  pub is_run : run 0 c (rounds c) ≡ Some ran
+-- the tasks that took the turns of a journal, in order
+abbrev pub actors : List Entry → List ℕ
+actors entries = map (λ entry. entry.actor) entries
+
+-- A complete run: the turns of those who took them, with tickets from 0, after which no task can take one; the first and the last configuration are well-formed, with all parts.
+pub record IsCompleteRun (c : Configuration) (ran : calculus.Ran) : Type 0 where
+  pub is_run : run 0 c (actors ran.entries) ≡ Some ran
   pub complete : IsComplete ran.last
   pub first : IsWellFormed c
   pub last : IsWellFormed ran.last
 
--- An observer sees of a run what the erased calculus gives from what it sees of the first configuration and from what is released to it: the entries of its view, in the order of
--- the erased calculus's own rounds, and what it sees of the last configuration (the noninterference of the concurrent calculus of LIO, ICFP 2012).
-pub record IsSeen (observer : Label) (c : Configuration) (ran : calculus.Ran) : Type 0 where
-  pub run : RunSeenAs observer c ran
-  pub rounds : RoundsSeenAs observer c ran
+-- A run by rounds: the rounds say who took the turns, in their order; and what an observer sees of it comes in the order of the erased calculus's own rounds (the noninterference of the concurrent
+-- calculus of LIO, ICFP 2012, under a round-robin scheduler).
+pub record IsByRounds (c : Configuration) (ran : calculus.Ran) : Type 0 where
+  pub order : actors ran.entries ≡ rounds c
+  pub seen : (observer : Label) → RoundsSeenAs observer c ran
+
+-- the run of the rounds of a configuration, to its end
+pub record RunsRounds (c : Configuration) (ran : calculus.Ran) : Type 0 where
+  pub is_run : run 0 c (rounds c) ≡ Some ran
+  pub complete : IsComplete ran.last
+  pub first : IsWellFormed c
+  pub last : IsWellFormed ran.last
 
 -- An observer sees all that is sent to each channel of the policy whose label flows to the observer's: the bytes that a channel receives by a journal are those that it receives by the view.
 abbrev pub SeesChannels : Label → PolicyParts → List Entry → Type 0

@@ -5,9 +5,10 @@ ghost use Rattle.lio_events.specs.Printable.{IsPrintable};
 ghost use Rattle.lio_syntax.specs.Verdict.{IsOver};
 ghost use Rattle.lio_start.specs.Fits.{fits};
 ghost use Rattle.lio_start.specs.Start.{start_of};
+ghost use Rattle.lio_calculus.specs.Laws.{RunSeenAs};
 ghost use Rattle.lio_powers.specs.Given.{powers_of};
 ghost use Rattle.lio_powers.specs.Laws.{ReleasesByPowers};
-ghost use Rattle.lio_run.specs.Runs.{IsSeen, RunsByRounds, SeesChannels, ran_of};
+ghost use Rattle.lio_run.specs.Runs.{IsByRounds, IsCompleteRun, RunsRounds, SeesChannels, ran_of};
 
 use lio_clauses::NoMemory;
 use lio_config::Config;
@@ -36,7 +37,7 @@ fn run_to_the_end(
 ) -> Result<Ran, NoMemory>
     requires fits { fits policy.now.tasks script ≡ None }
     requires inputs { length texts.now ≡ length policy.now.inputs }
-    ensures { IfOk result (λ ran. RunsByRounds (start_of policy.now script texts.now) (ran_of script ran)) }
+    ensures { IfOk result (λ ran. RunsRounds (start_of policy.now script texts.now) (ran_of script ran)) }
 {
     let config = start(alloc, policy, &script, texts)?;
     let mut machine = Machine::new(alloc, config, script)?;
@@ -50,8 +51,9 @@ pub fn run(alloc: Global, policy: &Policy, script: Script, texts: &[Text]) -> Re
     requires fits { fits policy.now.tasks script ≡ None }
     requires over { IsOver policy.now.names script }
     requires inputs { length texts.now ≡ length policy.now.inputs }
-    ensures run { IfOk result (λ ran. RunsByRounds (start_of policy.now script texts.now) (ran_of script ran)) }
-    ensures seen { IfOk result (λ ran. (observer : Label) → IsSeen observer (start_of policy.now script texts.now) (ran_of script ran)) }
+    ensures run { IfOk result (λ ran. IsCompleteRun (start_of policy.now script texts.now) (ran_of script ran)) }
+    ensures seen { IfOk result (λ ran. (observer : Label) → RunSeenAs observer (start_of policy.now script texts.now) (ran_of script ran)) }
+    ensures rounds { IfOk result (λ ran. IsByRounds (start_of policy.now script texts.now) (ran_of script ran)) }
     ensures channels { IfOk result (λ ran. (observer : Label) → SeesChannels observer policy.now ran.journal) }
     ensures powers { IfOk result (λ ran. ReleasesByPowers (powers_of policy.now) (ran_of script ran)) }
     ensures printable { IfOk result (λ ran. All (IsPrintable policy.now.names) ran.journal) }

@@ -1,5 +1,7 @@
 //! What the files say of a refusal, beside the numbers in the answer.
 
+ghost use Rattle.std.specs.Prelude.{◌≡◌, ◌≤◌};
+
 use crate::status::HostStatus;
 use lio_clauses::NoMemory;
 use lio_draft::{EntryAt, PolicyFault, entry_at};
@@ -256,14 +258,17 @@ pub fn detail_of(
     }
 }
 
-/// The text of the file that a word names, where it is a plain file, which can be read once more; else no bytes.
+/// The text of the file that a word names, where it is a plain file, which can be read once more; else no bytes. The files stay as they are.
 fn text_again<S: Store>(
     alloc: Global,
     files: &impl Files,
     store: &mut S,
     word: Option<&String>,
     limit: u32,
-) -> Vec<u8> {
+) -> Vec<u8>
+    ensures files { S.holds store.new ≡ S.holds store.old }
+    ensures count { S.faults store.old ≤ S.faults store.new }
+{
     let Some(name) = word else {
         return Vec::new(alloc);
     };
@@ -275,15 +280,18 @@ fn text_again<S: Store>(
     }
 }
 
-/// What the files that the words name say of a refusal. They are read once more; where they can't be, nothing beyond the answer is
-/// known.
+/// What the files that the words name say of a refusal. They are read once more, and stay as they are; where they can't be, nothing
+/// beyond the answer is known.
 pub fn refusal_detail<S: Store>(
     alloc: Global,
     files: &impl Files,
     store: &mut S,
     status: &HostStatus,
     words: &[String],
-) -> Detail {
+) -> Detail
+    ensures files { S.holds store.new ≡ S.holds store.old }
+    ensures count { S.faults store.old ≤ S.faults store.new }
+{
     match status {
         HostStatus::BadPolicy(_, _) | HostStatus::BadScript(_, _) | HostStatus::BadStart(_, _) => {}
         _ => return Detail::Nothing,

@@ -7,10 +7,9 @@ use Rattle.lio_front.proofs.LawLemmas.{outputs_hold_each_channel}
 use Rattle.lio_main.specs.declared.job.Job.{Job}
 use Rattle.lio_status.specs.declared.status.HostStatus.TheVariants.{BadWords, NoMemory}
 use Rattle.lio_main.specs.Command.{bytes_of_words}
-use Rattle.lio_main.specs.Headline.{IsRunOf}
 use Rattle.lio_main.specs.Answers.{Call, RunsJob}
 use Rattle.lio_main.specs.Preparing.{named}
-use Rattle.lio_main.proofs.Says.{run-of, says-bad_words, verdict-prepared, says-prepare, says-same}
+use Rattle.lio_main.proofs.Says.{HasRan, run-of, says-bad_words, verdict-prepared, says-prepare, says-same}
 use Rattle.lio_main.proofs.host.answer.Goals as goal
 
 pub returns-in_default : goal.returns-in_default
@@ -22,7 +21,7 @@ returns-in_default g c =
       faults_before = g.S.Store.faults c.args.store.now;
       faults_after = g.S.Store.faults c.args.store.now;
       journal = c.refused.result.journal;
-    } in record { says = says-same call BadWords c.refused.result.status c.refused.ensures.status (says-bad_words call c.in_default.ensures (record { files = refl; journal = c.refused.ensures.journal })) }
+    } in record { count = omega arith; says = says-same call BadWords c.refused.result.status c.refused.ensures.status (says-bad_words call c.in_default.ensures (record { files = refl; journal = c.refused.ensures.journal })) }
 
 pub returns-in-Err : goal.returns-in-Err
 returns-in-Err g c =
@@ -34,6 +33,7 @@ returns-in-Err g c =
       faults_after = g.S.Store.faults c.prepare.new.store;
       journal = c.refused-in-Err.result.journal;
     } in record {
+      count = c.in-Err.ensures.count;
       says = says-same call c.in-Err.status c.refused-in-Err.result.status c.refused-in-Err.ensures.status
           (says-prepare call (named c.in-Some.command) c.in-Err.status c.in-Some.ensures (record { files = c.in-Err.ensures.files; journal = c.refused-in-Err.ensures.journal }) c.in-Err.ensures.err);
     }
@@ -45,12 +45,13 @@ returns-in-Ok-written g c =
     let job : Job = c.in-Ok.job in
     let journal : List Entry = c.in-Ok-ran.ran.journal in
     let files : List Output = outputs job.policy journal in
-    let is_run : IsRunOf job journal = run-of job c.as_slice.result.now c.in-Ok-ran.ran c.as_slice.ensures c.in-Ok-ran.ensures.run c.in-Ok-ran.ensures.seen c.in-Ok-ran.ensures.channels c.in-Ok-ran.ensures.powers in
+    let has_ran : HasRan job journal = run-of job c.as_slice.result.now c.in-Ok-ran.ran c.as_slice.ensures c.in-Ok-ran.ensures.run c.in-Ok-ran.ensures.seen c.in-Ok-ran.ensures.rounds c.in-Ok-ran.ensures.channels c.in-Ok-ran.ensures.powers in
     let kept_is : now ≡ kept told files = c.in-Ok-written.ensures.ok ∙ ap (λ (t : Option FileMap). kept t files) c.in-Ok.ensures.files in
     record {
+      count = omega (arith, c.in-Ok.ensures.count, c.in-Ok-written.ensures.count);
       says = record {
         job = job;
-        ran = record { verdict = verdict-prepared told (bytes_of_words c.args.words.now) (named c.in-Some.command) (Ok job) c.in-Some.ensures c.in-Ok.ensures.ok; is_run = is_run };
+        ran = record { verdict = verdict-prepared told (bytes_of_words c.args.words.now) (named c.in-Some.command) (Ok job) c.in-Some.ensures c.in-Ok.ensures.ok; is_run = has_ran.is_run; by_rounds = has_ran.by_rounds };
         files = kept_is;
         channels = λ before after told_is now_is.
             outputs_hold_each_channel job.policy journal before after c.policy_keeps_rules.ensures (sym (ap (λ (t : Option FileMap). kept t files) told_is) ∙ sym kept_is ∙ now_is);
@@ -64,12 +65,13 @@ returns-in-Err-WriteFault g c =
     let job : Job = c.in-Ok.job in
     let journal : List Entry = c.in-Ok-ran.ran.journal in
     let files : List Output = outputs job.policy journal in
-    let is_run : IsRunOf job journal = run-of job c.as_slice.result.now c.in-Ok-ran.ran c.as_slice.ensures c.in-Ok-ran.ensures.run c.in-Ok-ran.ensures.seen c.in-Ok-ran.ensures.channels c.in-Ok-ran.ensures.powers in
+    let has_ran : HasRan job journal = run-of job c.as_slice.result.now c.in-Ok-ran.ran c.as_slice.ensures c.in-Ok-ran.ensures.run c.in-Ok-ran.ensures.seen c.in-Ok-ran.ensures.rounds c.in-Ok-ran.ensures.channels c.in-Ok-ran.ensures.powers in
     let says = rw c.in-Err-WriteFault.field-0-is at c.in-Err-WriteFault.ensures.err in
     record {
+      count = omega (arith, c.in-Ok.ensures.count, c.in-Err-WriteFault.ensures.count);
       says = record {
         job = job;
-        ran = record { verdict = verdict-prepared told (bytes_of_words c.args.words.now) (named c.in-Some.command) (Ok job) c.in-Some.ensures c.in-Ok.ensures.ok; is_run = is_run };
+        ran = record { verdict = verdict-prepared told (bytes_of_words c.args.words.now) (named c.in-Some.command) (Ok job) c.in-Some.ensures c.in-Ok.ensures.ok; is_run = has_ran.is_run; by_rounds = has_ran.by_rounds };
         stops = subst (λ (t : Option FileMap). StopsAt t now files c.in-Err-WriteFault.name) c.in-Ok.ensures.files says.0;
         rose = Rose-in_part (g.S.Store.faults c.args.store.now) (g.S.Store.faults c.prepare.new.store) (g.S.Store.faults c.write_out-written.new.store) (g.S.Store.faults c.write_out-written.new.store)
             c.in-Ok.ensures.count c.in-Err-WriteFault.ensures.count (omega arith) says.1;
@@ -91,11 +93,12 @@ returns-in-Err-NoMemory g c =
     let job : Job = c.in-Ok.job in
     let journal : List Entry = c.in-Ok-ran.ran.journal in
     let files : List Output = outputs job.policy journal in
-    let is_run : IsRunOf job journal = run-of job c.as_slice.result.now c.in-Ok-ran.ran c.as_slice.ensures c.in-Ok-ran.ensures.run c.in-Ok-ran.ensures.seen c.in-Ok-ran.ensures.channels c.in-Ok-ran.ensures.powers in
+    let has_ran : HasRan job journal = run-of job c.as_slice.result.now c.in-Ok-ran.ran c.as_slice.ensures c.in-Ok-ran.ensures.run c.in-Ok-ran.ensures.seen c.in-Ok-ran.ensures.rounds c.in-Ok-ran.ensures.channels c.in-Ok-ran.ensures.powers in
     let keeps = rw c.in-Err-NoMemory.field-0-is at c.in-Err-NoMemory.ensures.err in
     let first : KeepsFirst told now files = subst (λ (t : Option FileMap). KeepsFirst t now files) c.in-Ok.ensures.files keeps in
-    let ran : RunsJob call job journal = record { verdict = verdict-prepared told (bytes_of_words c.args.words.now) (named c.in-Some.command) (Ok job) c.in-Some.ensures c.in-Ok.ensures.ok; is_run = is_run } in
+    let ran : RunsJob call job journal = record { verdict = verdict-prepared told (bytes_of_words c.args.words.now) (named c.in-Some.command) (Ok job) c.in-Some.ensures c.in-Ok.ensures.ok; is_run = has_ran.is_run; by_rounds = has_ran.by_rounds } in
     record {
+      count = omega (arith, c.in-Ok.ensures.count, c.in-Err-NoMemory.ensures.count);
       says = says-same call NoMemory c.refused-in-Err-NoMemory.result.status c.refused-in-Err-NoMemory.ensures.status
           (record { command = named c.in-Some.command; words = c.in-Some.ensures; files = inr (record { job = job; journal = journal; ran = ran; files = first }); journal = c.refused-in-Err-NoMemory.ensures.journal });
     }

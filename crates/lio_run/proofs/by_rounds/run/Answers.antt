@@ -2,8 +2,14 @@ use Rattle.std.proofs.Common.{sym, subst}
 use Rattle.lio_syntax.specs.Kept as kept
 use Rattle.lio_start.proofs.LawLemmas.{literals_are_said}
 use Rattle.lio_start.specs.Start.{start_of}
-use Rattle.lio_run.proofs.RunLemmas.{run-channels, run-powers, run-printable, run-seen}
+use Rattle.lio_run.proofs.RunLemmas.{run-channels, run-complete, run-powers, run-printable, run-rounds, run-seen}
 use Rattle.lio_run.proofs.by_rounds.run.Goals as goal
+
+pub returns-clause-run : goal.returns-clause-run
+returns-clause-run c = run-complete c.args.script (start_of c.args.policy.now c.args.script c.args.texts.now) c.run_to_the_end.result c.run_to_the_end.ensures
+
+pub returns-clause-rounds : goal.returns-clause-rounds
+returns-clause-rounds c = run-rounds c.args.script (start_of c.args.policy.now c.args.script c.args.texts.now) c.run_to_the_end.result c.run_to_the_end.ensures
 
 pub returns-clause-seen : goal.returns-clause-seen
 returns-clause-seen c = run-seen c.args.script (start_of c.args.policy.now c.args.script c.args.texts.now) c.run_to_the_end.result c.run_to_the_end.ensures

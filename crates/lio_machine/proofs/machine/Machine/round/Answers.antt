@@ -4,9 +4,9 @@ use Rattle.lio_schedule.specs.Round.{Round, round}
 use Rattle.lio_schedule.specs.Rounds.{stepped}
 use Rattle.lio_schedule.proofs.RoundLemmas.{round-nobody}
 use Rattle.lio_machine.specs.declared.machine.TurnFault.TheVariants.{Still}
-use Rattle.lio_machine.specs.MachineState.{MachineState, HasWalked, Stays}
+use Rattle.lio_machine.specs.MachineState.{MachineState, HasBegun, HasWalked, Stays}
 use Rattle.lio_machine.specs.MachineParts.{machine_of}
-use Rattle.lio_machine.proofs.RoundLemmas.{take-further, walked-nobody, walked-goes, walked-stays}
+use Rattle.lio_machine.proofs.RoundLemmas.{take-further, walked-begins, walked-nobody, walked-goes, walked-stays}
 use Rattle.lio_machine.proofs.machine.Machine.round.Goals as goal
 use Rattle.lio_machine.proofs.machine.Machine.round.Goals.{in-Ok, in-Err-Still}
 
@@ -35,3 +35,8 @@ loop-i-preserved c =
           let same : new ≡ s = w.in-Err-Still.ensures.err in
           rw (w.moved-is, further) (record { so_far = subst (λ (m : MachineState). HasWalked old m (before ++ c.task_at-k.result ∷ [])) (sym same) skips.0; moved = inv.moved ∙ sym skips.1; few = omega (arith, inv.few); all = inv.all })
     ]
+
+pub returns-in-Err-NoMemory-clause-err : goal.returns-in-Err-NoMemory-clause-err
+returns-in-Err-NoMemory-clause-err c =
+    let old : MachineState = machine_of c.args.self.now in let s : MachineState = machine_of c.loop-i.self in
+    subst (λ (m : MachineState). HasBegun old m (round stepped old.order old.configuration).moved) (sym c.in-Err-NoMemory.ensures.err) (walked-begins old s old.order c.loop-i.i c.loop-i.invariant.so_far)

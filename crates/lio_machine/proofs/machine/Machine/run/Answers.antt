@@ -1,7 +1,7 @@
-use Rattle.std.proofs.Common.{ℕ, List, sym, subst}
+use Rattle.std.proofs.Common.{subst}
 use Rattle.std.specs.Result.{OnErr, OnOk}
 use Rattle.lio_schedule.specs.Rounds.{rounds_from}
-use Rattle.lio_machine.specs.MachineState.{HasRun, MachineState}
+use Rattle.lio_machine.specs.MachineState.{HasBegun, HasRun, MachineState}
 use Rattle.lio_machine.specs.MachineParts.{machine_of}
 use Rattle.lio_machine.proofs.machine.Machine.run.Goals as goal
 
@@ -11,4 +11,4 @@ returns-clause-ok c =
 
 pub returns-clause-err : goal.returns-clause-err
 returns-clause-err c =
-    subst (λ (m : MachineState). OnErr c.run_rounds.result ((ks : List ℕ) × HasRun m (machine_of c.run_rounds.new.self) ks)) c.make_room.ensures c.run_rounds.ensures.err
+    subst (λ (m : MachineState). OnErr c.run_rounds.result (HasBegun m (machine_of c.run_rounds.new.self) (rounds_from m.order m.configuration))) c.make_room.ensures c.run_rounds.ensures.err

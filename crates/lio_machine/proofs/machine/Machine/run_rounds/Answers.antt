@@ -1,12 +1,11 @@
-use Rattle.std.proofs.Common.{◌<◌, arith, length, ◌++◌, Result, Ok, Err}
+use Rattle.std.proofs.Common.{◌<◌, arith, length, Result, Ok, Err}
 use Rattle.std.specs.Result.{OnErr}
 use Rattle.lio_schedule.specs.Round.{round}
 use Rattle.lio_schedule.specs.Rounds.{stepped}
 use Rattle.lio_schedule.proofs.EndLemmas.{run_is_bounded}
 use Rattle.lio_machine.specs.MachineState.{MachineState}
 use Rattle.lio_machine.specs.MachineParts.{machine_of}
-use Rattle.lio_machine.proofs.RunLemmas.{has_run-append}
-use Rattle.lio_machine.proofs.RoundLemmas.{rounds-none, rounds-more, rounds-last, rounds-complete}
+use Rattle.lio_machine.proofs.RoundLemmas.{rounds-begun, rounds-none, rounds-more, rounds-last, rounds-complete}
 use Rattle.lio_machine.proofs.machine.Machine.run_rounds.Goals as goal
 
 -- what holds anyhow holds after an error
@@ -19,9 +18,7 @@ loop-init c = rounds-none (machine_of c.args.self.now)
 
 pub returns-in_err-round-clause-err : goal.returns-in_err-round-clause-err
 returns-in_err-round-clause-err c =
-    let stops = c.in_err-round.ensures.err in
-    let so_far = c.loop.invariant in
-    on_err c.from_residual.result _ (so_far.moved ++ stops.0, has_run-append (machine_of c.args.self.now) (machine_of c.loop.self) (machine_of c.round.new.self) so_far.moved stops.0 so_far.has_run stops.1)
+    on_err c.from_residual.result _ (rounds-begun (machine_of c.args.self.now) (machine_of c.loop.self) (machine_of c.round.new.self) c.loop.invariant c.in_err-round.ensures.err)
 
 pub loop-smaller : goal.loop-smaller
 loop-smaller c =

@@ -1,0 +1,23 @@
+use Rattle.std.proofs.Common.{List}
+use Rattle.lio_values.specs.declared.entry.Entry.{Entry}
+use Rattle.lio_main.specs.Answers.{Call}
+use Rattle.lio_main.specs.Command.{bytes_of_words}
+use Rattle.lio_main.proofs.Says.{says-at_last}
+use Rattle.lio_host.proofs.respond.Goals as goal
+
+pub returns : goal.returns
+returns g c =
+    let journal : List Entry = c.host_main-status.result.journal in
+    let call : Call = record {
+      words = bytes_of_words c.args.words.now;
+      told_before = g.S.Store.holds c.args.store.now;
+      told_after = g.S.Store.holds c.host_main-status.new.store;
+      faults_before = g.S.Store.faults c.args.store.now;
+      faults_after = g.S.Store.faults c.host_main-status.new.store;
+      journal = journal;
+    } in record {
+      status = c.host_main-status.result.status;
+      journal = journal;
+      says = says-at_last call c.host_main-status.result.status (g.S.Store.holds c.refusal_detail-detail.new.store) (g.S.Store.faults c.refusal_detail-detail.new.store) c.refusal_detail-detail.ensures.files c.host_main-status.ensures.count c.refusal_detail-detail.ensures.count c.host_main-status.ensures.says;
+      exit_is = c.exit_code.ensures;
+    }
