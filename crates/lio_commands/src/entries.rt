@@ -12,14 +12,14 @@ use lio_values::Entry;
 use std::alloc::Global;
 
 /// What a command on entries answers, if the word is that of one.
-pub fn answer(alloc: Global, names: &Names, word: &[u8], fields: &[Vec<u8>]) -> Answered {
+pub fn answer(alloc: Global, names: &Names, word: &str, fields: &[Vec<u8>]) -> Answered {
     let mut words = Words::new(fields);
     match word {
-        b"entry" => Some(finished(shown(&mut words, alloc, names), &words)),
-        b"erased" => Some(finished(erased(&mut words, alloc, names), &words)),
-        b"equal_entries" => Some(finished(equal(&mut words, alloc, names), &words)),
-        b"journal" => Some(finished(history(&mut words, alloc, names), &words)),
-        b"bytes" => Some(finished(bytes(&mut words, alloc, names), &words)),
+        "entry" => Some(finished(shown(&mut words, alloc, names), &words)),
+        "erased" => Some(finished(erased(&mut words, alloc, names), &words)),
+        "equal_entries" => Some(finished(equal(&mut words, alloc, names), &words)),
+        "journal" => Some(finished(history(&mut words, alloc, names), &words)),
+        "bytes" => Some(finished(bytes(&mut words, alloc, names), &words)),
         _ => None,
     }
 }

@@ -9,20 +9,21 @@ use lio_clauses::{FormFault, Formula, Names, TextFault};
 use lio_fields::{read_formulas, read_set};
 use std::alloc::Global;
 use std::fmt::Write;
+use std::str;
 
 /// What a command on formulas answers, if the word and the number of fields are those of one.
-pub fn answer(alloc: Global, names: &Names, word: &[u8], fields: &[Vec<u8>]) -> Answered {
+pub fn answer(alloc: Global, names: &Names, word: &str, fields: &[Vec<u8>]) -> Answered {
     match (word, fields) {
-        (b"formula", [text]) => Some(formula(alloc, names, text)),
-        (b"and", [one, other]) => Some(and(alloc, names, one, other)),
-        (b"or", [one, other]) => Some(or(alloc, names, one, other)),
-        (b"implies", [one, other]) => Some(implies(alloc, names, one, other)),
-        (b"satisfied", [text, who]) => Some(satisfied(alloc, names, text, who)),
-        (b"equal", [one, other]) => Some(equal(alloc, names, one, other)),
-        (b"copy", [text]) => Some(copy(alloc, names, text)),
-        (b"constant", [name]) => Some(constant(alloc, names, name)),
-        (b"principal", [name]) => Some(principal(alloc, names, name)),
-        (b"clauses", clauses) => Some(of_clauses(alloc, names, clauses)),
+        ("formula", [text]) => Some(formula(alloc, names, text)),
+        ("and", [one, other]) => Some(and(alloc, names, one, other)),
+        ("or", [one, other]) => Some(or(alloc, names, one, other)),
+        ("implies", [one, other]) => Some(implies(alloc, names, one, other)),
+        ("satisfied", [text, who]) => Some(satisfied(alloc, names, text, who)),
+        ("equal", [one, other]) => Some(equal(alloc, names, one, other)),
+        ("copy", [text]) => Some(copy(alloc, names, text)),
+        ("constant", [name]) => Some(constant(alloc, names, name)),
+        ("principal", [name]) => Some(principal(alloc, names, name)),
+        ("clauses", clauses) => Some(of_clauses(alloc, names, clauses)),
         _ => None,
     }
 }
@@ -103,9 +104,9 @@ fn copy(alloc: Global, names: &Names, text: &[u8]) -> Result<Answer, Refusal> {
 
 /// `constant NAME`: the formula `truth` or `falsity`.
 fn constant(alloc: Global, names: &Names, name: &[u8]) -> Result<Answer, Refusal> {
-    let formula = match name {
-        b"truth" => Formula::truth(alloc),
-        b"falsity" => Formula::falsity(alloc)?,
+    let formula = match str::from_utf8(name).unwrap_or("") {
+        "truth" => Formula::truth(alloc),
+        "falsity" => Formula::falsity(alloc)?,
         _ => return Err(Refusal::NoCommand),
     };
     shown(alloc, names, &formula)

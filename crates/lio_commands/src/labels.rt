@@ -11,20 +11,21 @@ use lio_fields::read_labels;
 use lio_labels::laws::{join_is_named, meet_is_named};
 use lio_labels::{Label, Priv};
 use std::alloc::Global;
+use std::str;
 
 /// What a command on labels answers, if the word and the number of fields are those of one.
-pub fn answer(alloc: Global, names: &Names, word: &[u8], fields: &[Vec<u8>]) -> Answered {
+pub fn answer(alloc: Global, names: &Names, word: &str, fields: &[Vec<u8>]) -> Answered {
     match (word, fields) {
-        (b"label", [text]) => Some(label(alloc, names, text)),
-        (b"flows", [from, to]) => Some(flows(alloc, names, from, to)),
-        (b"with", [power, from, to]) => Some(flows_with(alloc, names, power, from, to)),
-        (b"join", [one, other]) => Some(join(alloc, names, one, other)),
-        (b"meet", [one, other]) => Some(meet(alloc, names, one, other)),
-        (b"equal_labels", [one, other]) => Some(equal(alloc, names, one, other)),
-        (b"copy_label", [text]) => Some(copy(alloc, names, text)),
-        (b"constant_label", [name]) => Some(constant(alloc, names, name)),
-        (b"copy_privilege", [power]) => Some(copy_privilege(alloc, names, power)),
-        (b"equal_privileges", [one, other]) => Some(equal_privileges(alloc, names, one, other)),
+        ("label", [text]) => Some(label(alloc, names, text)),
+        ("flows", [from, to]) => Some(flows(alloc, names, from, to)),
+        ("with", [power, from, to]) => Some(flows_with(alloc, names, power, from, to)),
+        ("join", [one, other]) => Some(join(alloc, names, one, other)),
+        ("meet", [one, other]) => Some(meet(alloc, names, one, other)),
+        ("equal_labels", [one, other]) => Some(equal(alloc, names, one, other)),
+        ("copy_label", [text]) => Some(copy(alloc, names, text)),
+        ("constant_label", [name]) => Some(constant(alloc, names, name)),
+        ("copy_privilege", [power]) => Some(copy_privilege(alloc, names, power)),
+        ("equal_privileges", [one, other]) => Some(equal_privileges(alloc, names, one, other)),
         _ => None,
     }
 }
@@ -116,10 +117,10 @@ fn copy(alloc: Global, names: &Names, text: &[u8]) -> Result<Answer, Refusal> {
 
 /// `constant_label NAME`: the label `least`, `greatest` or `public`.
 fn constant(alloc: Global, names: &Names, name: &[u8]) -> Result<Answer, Refusal> {
-    let label = match name {
-        b"least" => Label::least(alloc)?,
-        b"greatest" => Label::greatest(alloc)?,
-        b"public" => Label::public(alloc)?,
+    let label = match str::from_utf8(name).unwrap_or("") {
+        "least" => Label::least(alloc)?,
+        "greatest" => Label::greatest(alloc)?,
+        "public" => Label::public(alloc)?,
         _ => return Err(Refusal::NoCommand),
     };
     shown(alloc, names, &label)

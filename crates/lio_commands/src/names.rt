@@ -7,9 +7,9 @@ use lio_clauses::Names;
 use std::alloc::Global;
 
 /// What a command on the list answers that changes nothing, if the word and the number of fields are those of one.
-pub fn answer(alloc: Global, names: &Names, word: &[u8], fields: &[Vec<u8>]) -> Answered {
+pub fn answer(alloc: Global, names: &Names, word: &str, fields: &[Vec<u8>]) -> Answered {
     match (word, fields) {
-        (b"find", [name]) => Some(find(alloc, names, name)),
+        ("find", [name]) => Some(find(alloc, names, name)),
         _ => None,
     }
 }

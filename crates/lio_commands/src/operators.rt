@@ -14,11 +14,11 @@ use lio_words::{One, Two};
 use std::alloc::Global;
 
 /// What a command on operators answers, if the word is that of one.
-pub fn answer(alloc: Global, names: &Names, word: &[u8], fields: &[Vec<u8>]) -> Answered {
+pub fn answer(alloc: Global, names: &Names, word: &str, fields: &[Vec<u8>]) -> Answered {
     let mut words = Words::new(fields);
     match word {
-        b"operate1" => Some(finished(one(&mut words, alloc, names), &words)),
-        b"operate2" => Some(finished(two(&mut words, alloc, names), &words)),
+        "operate1" => Some(finished(one(&mut words, alloc, names), &words)),
+        "operate2" => Some(finished(two(&mut words, alloc, names), &words)),
         _ => None,
     }
 }

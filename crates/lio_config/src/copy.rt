@@ -22,11 +22,13 @@ fn copy_task(alloc: Global, task: &Option<Task>) -> Result<Option<Task>, NoMemor
 impl Holder {
     ghost use Rattle.std.specs.Prelude.{◌≡◌, IfOk, List};
     ghost use Rattle.lio_syntax.specs.Statements.{Procedure};
+    ghost use Rattle.lio_cells.specs.Node.{node_of};
     ghost use Rattle.lio_config.specs.Configuration.{cell_of};
 
     /// A holder of an equal node, which keeps nothing ready, and of an equal task.
     pub fn copy(&self, alloc: Global) -> Result<Holder, NoMemory>
-        ensures { IfOk result (λ holder. (script : List Procedure) → cell_of script holder ≡ cell_of script self.now) }
+        ensures cell { IfOk result (λ holder. (script : List Procedure) → cell_of script holder ≡ cell_of script self.now) }
+        ensures node { IfOk result (λ holder. holder.node ≡ node_of self.now.node.state) }
     {
         let node = self.node.copy(alloc)?;
         match copy_task(alloc, &self.task) {

@@ -1,6 +1,6 @@
 //! The turn of a task, over the holders that it is lent: the actor's, and that of the node that its act meets.
 //!
-//! What may fail comes first: the reply, the copies of the entry, the room in the node that serves, a child's task, and last how the
+//! What may fail comes first: a copy of the task's label, a child's task, the reply, the room in the node that serves, and last how the
 //! actor goes on. From then on no memory is taken, so a refusal leaves all as it was.
 use crate::config::{Holder, StepFault};
 use lio_clauses::NoMemory;

@@ -64,7 +64,7 @@ impl Model for Low {
 }
 
 impl Low {
-    ghost use Rattle.std.specs.Prelude.{◌≡◌, List, true, false, IsSome, IsTrue, IfOk, IfErr, OnOk, OnErr};
+    ghost use Rattle.std.specs.Prelude.{◌≡◌, List, true, false, IsSome, IsTrue, IfOk, IfErr, OnErr};
     ghost use Rattle.lio_values.specs.declared.value.Content.{Content};
     ghost use Rattle.lio_calculus.specs.Step.{blank, met_after, waits};
     ghost use Rattle.lio_calculus.specs.Afforded.{makes};

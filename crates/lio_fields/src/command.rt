@@ -3,11 +3,12 @@
 use crate::escaping::unescape;
 use crate::fault::FieldFault;
 use std::alloc::Global;
+use std::str;
 
 /// A command: its word, and the bytes that its fields stand for.
 #[derive(Drop)]
 pub struct Command<'a> {
-    pub word: &'a [u8],
+    pub word: &'a str,
     pub fields: Vec<Vec<u8>>,
 }
 
@@ -25,7 +26,7 @@ pub fn read_command(alloc: Global, line: &[u8]) -> Result<Command<'_>, FieldFaul
     let blank = line.iter().position(|byte| *byte == b' ');
     match blank {
         Some(place) if place < line.len() => Ok(Command {
-            word: &line[..place],
+            word: str::from_utf8(&line[..place]).map_err(|_| FieldFault::Invalid)?,
             fields: read_fields(alloc, &line[place + 1..])?,
         }),
         _ => Err(FieldFault::Invalid),

@@ -19,13 +19,13 @@ use std::alloc::Global;
 fn op(words: &mut Words) -> Result<Op, FieldFault>
     ensures { IfOk result IsRaising }
 {
-    match words.next()? {
-        b"unlabel" => Ok(Op::Unlabel),
-        b"taint" => Ok(Op::Taint),
-        b"read" => Ok(Op::Read),
-        b"wait" => Ok(Op::Wait),
-        b"take" => Ok(Op::Take),
-        b"put" => Ok(Op::Put),
+    match words.text()? {
+        "unlabel" => Ok(Op::Unlabel),
+        "taint" => Ok(Op::Taint),
+        "read" => Ok(Op::Read),
+        "wait" => Ok(Op::Wait),
+        "take" => Ok(Op::Take),
+        "put" => Ok(Op::Put),
         _ => Err(FieldFault::Invalid),
     }
 }
@@ -106,9 +106,9 @@ fn variable(
 ) -> Result<Held<Option<Value>>, FieldFault>
     ensures { IfOk result (IsOptionNamed names.now) }
 {
-    match words.next()? {
-        b"empty" => Ok(Held::new(alloc, None)?),
-        b"full" => Ok(Held::new(alloc, Some(read_value(words, alloc, names)?))?),
+    match words.text()? {
+        "empty" => Ok(Held::new(alloc, None)?),
+        "full" => Ok(Held::new(alloc, Some(read_value(words, alloc, names)?))?),
         _ => Err(FieldFault::Invalid),
     }
 }
@@ -144,35 +144,35 @@ fn release(words: &mut Words, alloc: Global, names: &Names) -> Result<Act, Field
 }
 
 /// An act that makes a node.
-fn making(word: &[u8], words: &mut Words, alloc: Global, names: &Names) -> Result<Act, FieldFault>
+fn making(word: &str, words: &mut Words, alloc: Global, names: &Names) -> Result<Act, FieldFault>
     ensures { IfOk result (CanPrint names.now) }
 {
     match word {
-        b"newref" => {
+        "newref" => {
             let label = read_label(words, alloc, names)?;
             Ok(Act::NewRef(label, held_value(words, alloc, names)?))
         }
-        b"newvar" => {
+        "newvar" => {
             let label = read_label(words, alloc, names)?;
             Ok(Act::NewVar(label, variable(words, alloc, names)?))
         }
-        b"fork" => Ok(Act::Fork(birth(words, alloc, names)?)),
-        b"spawn" => Ok(Act::Spawn(birth(words, alloc, names)?)),
+        "fork" => Ok(Act::Fork(birth(words, alloc, names)?)),
+        "spawn" => Ok(Act::Spawn(birth(words, alloc, names)?)),
         _ => Err(FieldFault::Invalid),
     }
 }
 
 /// An act on a node that is there.
-fn visit(word: &[u8], words: &mut Words, alloc: Global, names: &Names) -> Result<Act, FieldFault>
+fn visit(word: &str, words: &mut Words, alloc: Global, names: &Names) -> Result<Act, FieldFault>
     ensures { IfOk result (CanPrint names.now) }
 {
     match word {
-        b"read" => Ok(Act::Read),
-        b"write" => Ok(Act::Write(held_value(words, alloc, names)?)),
-        b"take" => Ok(Act::Take),
-        b"put" => Ok(Act::Put(held_value(words, alloc, names)?)),
-        b"wait" => Ok(Act::Wait),
-        b"send" => Ok(Act::Send(Text::of(alloc, words.next()?)?)),
+        "read" => Ok(Act::Read),
+        "write" => Ok(Act::Write(held_value(words, alloc, names)?)),
+        "take" => Ok(Act::Take),
+        "put" => Ok(Act::Put(held_value(words, alloc, names)?)),
+        "wait" => Ok(Act::Wait),
+        "send" => Ok(Act::Send(Text::of(alloc, words.next()?)?)),
         _ => making(word, words, alloc, names),
     }
 }
@@ -181,13 +181,13 @@ fn visit(word: &[u8], words: &mut Words, alloc: Global, names: &Names) -> Result
 fn act(words: &mut Words, alloc: Global, names: &Names) -> Result<Act, FieldFault>
     ensures { IfOk result (CanPrint names.now) }
 {
-    match words.next()? {
-        b"step" => Ok(Act::Step),
-        b"seal" => Ok(Act::Seal(read_label(words, alloc, names)?)),
-        b"raise" => Ok(Act::Raise(op(words)?, read_label(words, alloc, names)?)),
-        b"lower" => Ok(Act::Lower(read_label(words, alloc, names)?)),
-        b"release" => release(words, alloc, names),
-        b"ended" => Ok(Act::Ended(held_content(words, alloc, names)?)),
+    match words.text()? {
+        "step" => Ok(Act::Step),
+        "seal" => Ok(Act::Seal(read_label(words, alloc, names)?)),
+        "raise" => Ok(Act::Raise(op(words)?, read_label(words, alloc, names)?)),
+        "lower" => Ok(Act::Lower(read_label(words, alloc, names)?)),
+        "release" => release(words, alloc, names),
+        "ended" => Ok(Act::Ended(held_content(words, alloc, names)?)),
         word => visit(word, words, alloc, names),
     }
 }
@@ -196,11 +196,11 @@ fn act(words: &mut Words, alloc: Global, names: &Names) -> Result<Act, FieldFaul
 fn reply(words: &mut Words, alloc: Global, names: &Names) -> Result<Reply, FieldFault>
     ensures { IfOk result (IsReplyNamed names.now) }
 {
-    match words.next()? {
-        b"done" => Ok(Reply::Done),
-        b"got" => Ok(Reply::Got(held_value(words, alloc, names)?)),
-        b"told" => Ok(Reply::Told(held_content(words, alloc, names)?)),
-        b"refused" => Ok(Reply::Refused(Held::new(alloc, fault(words, alloc, names)?)?)),
+    match words.text()? {
+        "done" => Ok(Reply::Done),
+        "got" => Ok(Reply::Got(held_value(words, alloc, names)?)),
+        "told" => Ok(Reply::Told(held_content(words, alloc, names)?)),
+        "refused" => Ok(Reply::Refused(Held::new(alloc, fault(words, alloc, names)?)?)),
         _ => Err(FieldFault::Invalid),
     }
 }

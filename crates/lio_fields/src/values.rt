@@ -35,23 +35,37 @@ fn handle(words: &mut Words, alloc: Global, names: &Names) -> Result<Handle, Fie
     Ok(Handle { number, label })
 }
 
+/// A plain value that is a handle.
+fn plain_handle(
+    word: &str,
+    words: &mut Words,
+    alloc: Global,
+    names: &Names,
+) -> Result<Plain, FieldFault>
+    ensures { IfOk result (IsPlainNamed names.now) }
+{
+    match word {
+        "ref" => Ok(Plain::RefOf(handle(words, alloc, names)?)),
+        "var" => Ok(Plain::VarOf(handle(words, alloc, names)?)),
+        "result" => Ok(Plain::ResultOf(handle(words, alloc, names)?)),
+        "chan" => Ok(Plain::ChanOf(handle(words, alloc, names)?)),
+        _ => Err(FieldFault::Invalid),
+    }
+}
+
 /// A plain value.
 fn plain(words: &mut Words, alloc: Global, names: &Names) -> Result<Plain, FieldFault>
     ensures { IfOk result (IsPlainNamed names.now) }
 {
-    match words.next()? {
-        b"unit" => Ok(Plain::Unit),
-        b"true" => Ok(Plain::Flag(true)),
-        b"false" => Ok(Plain::Flag(false)),
-        b"whole" => Ok(Plain::Whole(words.whole()?)),
-        b"text" => Ok(Plain::Bytes(Text::of(alloc, words.next()?)?)),
-        b"label" => Ok(Plain::Lab(read_label(words, alloc, names)?)),
-        b"power" => Ok(Plain::Power(power(words, alloc, names)?)),
-        b"ref" => Ok(Plain::RefOf(handle(words, alloc, names)?)),
-        b"var" => Ok(Plain::VarOf(handle(words, alloc, names)?)),
-        b"result" => Ok(Plain::ResultOf(handle(words, alloc, names)?)),
-        b"chan" => Ok(Plain::ChanOf(handle(words, alloc, names)?)),
-        _ => Err(FieldFault::Invalid),
+    match words.text()? {
+        "unit" => Ok(Plain::Unit),
+        "true" => Ok(Plain::Flag(true)),
+        "false" => Ok(Plain::Flag(false)),
+        "whole" => Ok(Plain::Whole(words.whole()?)),
+        "text" => Ok(Plain::Bytes(Text::of(alloc, words.next()?)?)),
+        "label" => Ok(Plain::Lab(read_label(words, alloc, names)?)),
+        "power" => Ok(Plain::Power(power(words, alloc, names)?)),
+        word => plain_handle(word, words, alloc, names),
     }
 }
 
@@ -65,24 +79,73 @@ pub(crate) fn two_labels(
     ensures second { IfOk result (λ labels. AreNamed names.now labels.1) }
 {
     let first = read_label(words, alloc, names)?;
-    let second = read_label(words, alloc, names)?;
-    Ok((first, second))
+    match read_label(words, alloc, names) {
+        Ok(second) => Ok((first, second)),
+        Err(fault) => {
+            drop(first);
+            Err(fault)
+        }
+    }
 }
 
 /// The kind of a fault without labels.
-fn short_kind(word: &[u8], words: &mut Words) -> Result<FaultKind, FieldFault>
+fn short_kind(word: &str, words: &mut Words) -> Result<FaultKind, FieldFault>
     ensures { IfOk result (λ kind. (names : List (List ℕ)) → IsKindNamed names kind) }
 {
     match word {
-        b"bad_type" => Ok(FaultKind::BadType),
-        b"overflow" => Ok(FaultKind::Overflow),
-        b"div_zero" => Ok(FaultKind::DivZero),
-        b"too_long" => Ok(FaultKind::TooLong),
-        b"no_turns" => Ok(FaultKind::NoTurns),
-        b"no_cells" => Ok(FaultKind::NoCells(words.long()?, words.long()?)),
-        b"child_turns" => Ok(FaultKind::ChildTurns(words.long()?, words.long()?)),
-        b"depth" => Ok(FaultKind::Depth),
+        "bad_type" => Ok(FaultKind::BadType),
+        "overflow" => Ok(FaultKind::Overflow),
+        "div_zero" => Ok(FaultKind::DivZero),
+        "too_long" => Ok(FaultKind::TooLong),
+        "no_turns" => Ok(FaultKind::NoTurns),
+        "no_cells" => Ok(FaultKind::NoCells(words.long()?, words.long()?)),
+        "child_turns" => Ok(FaultKind::ChildTurns(words.long()?, words.long()?)),
+        "depth" => Ok(FaultKind::Depth),
         _ => Err(FieldFault::Invalid),
+    }
+}
+
+/// The kind of a fault that tells two labels, or none.
+fn labels_kind(
+    word: &str,
+    words: &mut Words,
+    alloc: Global,
+    names: &Names,
+) -> Result<FaultKind, FieldFault>
+    ensures { IfOk result (IsKindNamed names.now) }
+{
+    match word {
+        "flow_current" => {
+            let (current, target) = two_labels(words, alloc, names)?;
+            Ok(FaultKind::FlowCurrent(current, target))
+        }
+        "flow_clearance" => {
+            let (target, clearance) = two_labels(words, alloc, names)?;
+            Ok(FaultKind::FlowClearance(target, clearance))
+        }
+        "flow_raise" => {
+            let (raised, clearance) = two_labels(words, alloc, names)?;
+            Ok(FaultKind::FlowRaise(raised, clearance))
+        }
+        "label_wide" => {
+            let (left, right) = two_labels(words, alloc, names)?;
+            Ok(FaultKind::LabelWide(left, right))
+        }
+        _ => short_kind(word, words),
+    }
+}
+
+/// The kind of the fault of a privilege that doesn't reach so far.
+fn privilege_kind(words: &mut Words, alloc: Global, names: &Names) -> Result<FaultKind, FieldFault>
+    ensures { IfOk result (IsKindNamed names.now) }
+{
+    let power = power(words, alloc, names)?;
+    match two_labels(words, alloc, names) {
+        Ok((source, target)) => Ok(FaultKind::FlowPrivilege(power, source, target)),
+        Err(fault) => {
+            drop(power);
+            Err(fault)
+        }
     }
 }
 
@@ -90,30 +153,10 @@ fn short_kind(word: &[u8], words: &mut Words) -> Result<FaultKind, FieldFault>
 fn kind(words: &mut Words, alloc: Global, names: &Names) -> Result<FaultKind, FieldFault>
     ensures { IfOk result (IsKindNamed names.now) }
 {
-    match words.next()? {
-        b"flow_current" => {
-            let (current, target) = two_labels(words, alloc, names)?;
-            Ok(FaultKind::FlowCurrent(current, target))
-        }
-        b"flow_clearance" => {
-            let (target, clearance) = two_labels(words, alloc, names)?;
-            Ok(FaultKind::FlowClearance(target, clearance))
-        }
-        b"flow_raise" => {
-            let (raised, clearance) = two_labels(words, alloc, names)?;
-            Ok(FaultKind::FlowRaise(raised, clearance))
-        }
-        b"flow_privilege" => {
-            let power = power(words, alloc, names)?;
-            let (source, target) = two_labels(words, alloc, names)?;
-            Ok(FaultKind::FlowPrivilege(power, source, target))
-        }
-        b"label_wide" => {
-            let (left, right) = two_labels(words, alloc, names)?;
-            Ok(FaultKind::LabelWide(left, right))
-        }
-        b"user" => Ok(FaultKind::User(plain(words, alloc, names)?)),
-        word => short_kind(word, words),
+    match words.text()? {
+        "flow_privilege" => privilege_kind(words, alloc, names),
+        "user" => Ok(FaultKind::User(plain(words, alloc, names)?)),
+        word => labels_kind(word, words, alloc, names),
     }
 }
 
@@ -139,10 +182,10 @@ pub(crate) fn content(
 ) -> Result<Content, FieldFault>
     ensures { IfOk result (IsContentNamed names.now) }
 {
-    match words.next()? {
-        b"kept" => Ok(Content::Kept(plain(words, alloc, names)?)),
-        b"faulted" => Ok(Content::Faulted(Held::new(alloc, fault(words, alloc, names)?)?)),
-        b"hidden" => Ok(Content::Hidden),
+    match words.text()? {
+        "kept" => Ok(Content::Kept(plain(words, alloc, names)?)),
+        "faulted" => Ok(Content::Faulted(Held::new(alloc, fault(words, alloc, names)?)?)),
+        "hidden" => Ok(Content::Hidden),
         _ => Err(FieldFault::Invalid),
     }
 }
@@ -151,9 +194,9 @@ pub(crate) fn content(
 pub fn read_value(words: &mut Words, alloc: Global, names: &Names) -> Result<Value, FieldFault>
     ensures { IfOk result (IsValueNamed names.now) }
 {
-    match words.next()? {
-        b"bare" => Ok(Value::Bare(plain(words, alloc, names)?)),
-        b"sealed" => {
+    match words.text()? {
+        "bare" => Ok(Value::Bare(plain(words, alloc, names)?)),
+        "sealed" => {
             let label = read_label(words, alloc, names)?;
             let content = Held::new(alloc, content(words, alloc, names)?)?;
             Ok(Value::Sealed(label, content))
@@ -169,7 +212,8 @@ pub(crate) fn values(words: &mut Words, alloc: Global, names: &Names) -> Result<
     let count = words.number()?;
     let mut values = List::new(alloc);
     for _ in 0..count {
-        values.push(read_value(words, alloc, names)?)?;
+        let value = read_value(words, alloc, names)?;
+        values.push(value)?;
     }
     Ok(values)
 }

@@ -32,7 +32,7 @@ impl<'a> Words<'a> {
     }
 
     /// The next field, as text.
-    fn text(&mut self) -> Result<&'a str, FieldFault> {
+    pub fn text(&mut self) -> Result<&'a str, FieldFault> {
         str::from_utf8(self.next()?).map_err(|_| FieldFault::Invalid)
     }
 

@@ -42,15 +42,17 @@ impl Case {
     }
 }
 
-/// Appends a line, with its line end unless it ends with `~`.
+/// Appends a line, with its line end: none where it ends with `~`, and a carriage return before it where it ends with `^`.
 fn append_line(text: &mut String, line: &str) -> Result<(), AllocError> {
-    match line.strip_suffix("~") {
-        Some(line) => text.push_str(line),
-        None => {
-            text.push_str(line)?;
-            text.push_str("\n")
-        }
+    if let Some(line) = line.strip_suffix("~") {
+        return text.push_str(line);
     }
+    let (line, end) = match line.strip_suffix("^") {
+        Some(line) => (line, "\r\n"),
+        None => (line, "\n"),
+    };
+    text.push_str(line)?;
+    text.push_str(end)
 }
 
 /// Appends to the text of the last part, if there is one.

@@ -1,7 +1,8 @@
 //! The worked runs of the host, as text.
 //!
 //! A case begins with a line `case` and its name. Each of its lines is a word, what it is about, and the lines of its text, each
-//! with `|` before it; a text ends with a line end, unless its last line ends with `~`.
+//! with `|` before it; a line of a text ends with a line end, but with none where it ends with `~`, and with a carriage return before it
+//! where it ends with `^`.
 //!
 //! | line | says |
 //! |---|---|
@@ -287,6 +288,32 @@ status BadScript(2, 4)
 says
 |lio_host: BadScript(2, 4): s.lio:2: a procedure is given as many arguments as its first `proc` line has parameters; `go` has 1 parameters and is given 2
 |  2 | fork r <alice %% True> 1 0 go c 7~
+absent out.txt
+case a call with too few arguments, where lines end with carriage returns
+script
+|proc main c^
+|call x go^
+|end^
+|proc go x^
+|end^
+status BadScript(2, 4)
+says
+|lio_host: BadScript(2, 4): s.lio:2: a procedure is given as many arguments as its first `proc` line has parameters; `go` has 1 parameters and is given 0
+|  2 | call x go~
+absent out.txt
+case a try that ends without catch, where lines end with carriage returns
+script
+|proc main c^
+|if true^
+|else^
+|try^
+|end^
+|end^
+|end^
+status BadScript(5, 2)
+says
+|lio_host: BadScript(5, 2): s.lio:5: each procedure and each block ends with `end`, and no line stands where it can't; the innermost that is open here is the `try` of line 4
+|  5 | end~
 absent out.txt
 case two procedures with one name
 script

@@ -1,12 +1,15 @@
 -- The values that operands stand for, one after the other.
 use Rattle.std.proofs.Common.{◌≡◌, ◌∙◌, refl, sym, ap, ℕ, suc, ◌+◌, ◌<◌, ◌≤◌, List, [], ◌∷◌, ◌++◌, length, drop, get_or, Option, Some, None, option_and_then, append_assoc, append-nil, add-one}
 use Rattle.std.proofs.Math.Seq.{drop-cons}
-use Rattle.std.specs.Option.{option_map}
+use Rattle.std.specs.Borrow.{Bor}
+use Rattle.std.specs.Option.{is_some, option_copied, option_map}
 use Rattle.std.proofs.lemmas.List.{drop_all}
+use Rattle.lio_values.specs.declared.value.Plain.{Plain}
 use Rattle.lio_values.specs.declared.value.Value.{Value}
+use Rattle.lio_values.specs.declared.value.Value.TheVariants.{Bare, Sealed}
 use Rattle.lio_lines.specs.declared.line.Operand.{Operand}
 use Rattle.lio_control.specs.Environment.{Environment}
-use Rattle.lio_calculus.specs.Operands.{bound, all_bound}
+use Rattle.lio_calculus.specs.Operands.{bound, all_bound, bare_of}
 
 -- the values so far, before those of the operands from a place on
 unfoldable pub Goes : Environment → List Operand → ℕ → List Value → Type 0
@@ -51,3 +54,15 @@ pub goes-all : (environment : Environment) (operands : List Operand) (i : ℕ) (
 unfolding Goes all_bound
 goes-all environment operands i values past goes =
     sym (goes ∙ ap (λ (os : List Operand). option_map (λ (rest : List Value). values ++ rest) (all_bound environment os)) (drop_all i operands past) ∙ ap Some (append-nil values))
+
+-- a view of the bare value that is there
+pub seen-view : {X : Type 0} (view : Plain → Option X) (plain : Plain) (o : Option Value) → Some plain ≡ option_and_then (λ value. option_and_then Some (bare_of value)) o
+    → view plain ≡ option_and_then (λ value. option_and_then view (bare_of value)) o
+seen-view view plain None e = cc
+seen-view view plain (Some (Bare p)) e = ap (λ (o : Option Plain). option_and_then view o) e
+seen-view view plain (Some (Sealed label content)) e = cc
+
+-- a value is there where a reference to it is
+pub copied-some : (o : Option (Bor Value)) → is_some o ≡ is_some (option_copied o)
+copied-some None = refl
+copied-some (Some value) = refl

@@ -1,7 +1,7 @@
 //! Children.
 #![tactic(auto, unfolding(lio_calculus::specs::Plan::plan_simple))]
 
-ghost use Rattle.std.specs.Prelude.{◌≡◌, ◌+◌, ◌-◌, IfOk, List};
+ghost use Rattle.std.specs.Prelude.{◌≡◌, ◌+◌, ◌-◌, ℕ, IfOk, List};
 ghost use Rattle.lio_lines.specs.declared.line.Line.{Line};
 ghost use Rattle.lio_lines.specs.declared.line.Simple.TheVariants as line;
 ghost use Rattle.lio_calculus.specs.Plan as plan;
@@ -26,7 +26,6 @@ pub fn plan_fork<'s>(
     alloc: Global,
     task: &Standing<'_>,
     script: &Script,
-    longest: u32,
     name: &'s Text,
     label: &Operand,
     turns: &Operand,
@@ -34,7 +33,7 @@ pub fn plan_fork<'s>(
     procedure: &Text,
     arguments: &Operands,
 ) -> Attempt<'s>
-    ensures { IfOk result (PlansBy (program_of script.now longest) task.now (line.Fork name.now label.now turns.now cells.now procedure.now arguments.now)) }
+    ensures { IfOk result (λ turn. (longest : ℕ) → PlansBy (program_of script.now longest) task.now (line.Fork name.now label.now turns.now cells.now procedure.now arguments.now) turn) }
 {
     let environment = task.environment();
     let Some(label) = operands::label(environment, label) else {
@@ -122,13 +121,12 @@ pub fn plan_spawn<'s>(
     alloc: Global,
     task: &Standing<'_>,
     script: &Script,
-    longest: u32,
     turns: &Operand,
     cells: &Operand,
     procedure: &Text,
     arguments: &Operands,
 ) -> Attempt<'s>
-    ensures { IfOk result (PlansBy (program_of script.now longest) task.now (line.Spawn turns.now cells.now procedure.now arguments.now)) }
+    ensures { IfOk result (λ turn. (longest : ℕ) → PlansBy (program_of script.now longest) task.now (line.Spawn turns.now cells.now procedure.now arguments.now) turn) }
 {
     let environment = task.environment();
     let Some(turns) = operands::count(environment, turns) else {

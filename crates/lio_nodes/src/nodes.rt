@@ -10,7 +10,6 @@ ghost use Rattle.lio_turns.specs.declared.turn.Onward.TheVariants as onward;
 ghost use Rattle.lio_turns.specs.declared.turn.Target.TheVariants as target;
 ghost use Rattle.lio_turns.specs.Turns.{GuardsNode, Plans, Raises, MakesNode, MakesReference, MakesVariable, Sends, Writes};
 
-use lio_clauses::NoMemory;
 use lio_guards::Verdict;
 use lio_labels::Label;
 use lio_lines::Operand;

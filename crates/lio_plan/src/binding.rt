@@ -2,7 +2,7 @@
 #![tactic(auto, unfolding(lio_calculus::specs::Plan::plan_simple))]
 
 ghost use Rattle.std.specs.Option.{option_copied};
-ghost use Rattle.std.specs.Prelude.{◌≡◌, ◌==◌, IfOk, List, Result, nat_le, slice_get};
+ghost use Rattle.std.specs.Prelude.{◌≡◌, ◌==◌, ℕ, IfOk, List, Result, nat_le, slice_get};
 ghost use Rattle.lio_lines.specs.declared.line.Line.{Line};
 ghost use Rattle.lio_lines.specs.declared.line.Simple.TheVariants as line;
 ghost use Rattle.lio_values.specs.declared.fault.FaultKind.{FaultKind};
@@ -139,12 +139,11 @@ pub(crate) fn plan_call<'s>(
     alloc: Global,
     task: &Standing<'_>,
     script: &Script,
-    longest: u32,
     name: &'s Text,
     procedure: &Text,
     arguments: &Operands,
 ) -> Attempt<'s>
-    ensures { IfOk result (PlansBy (program_of script.now longest) task.now (line.Call name.now procedure.now arguments.now)) }
+    ensures { IfOk result (λ turn. (longest : ℕ) → PlansBy (program_of script.now longest) task.now (line.Call name.now procedure.now arguments.now) turn) }
 {
     match operands::values(alloc, task.environment(), arguments) {
         Ok(Some(values)) => match Procedure::find(script, procedure) {

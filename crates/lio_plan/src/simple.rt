@@ -1,6 +1,6 @@
 //! The plan of a statement that opens no block.
 
-ghost use Rattle.std.specs.Prelude.{◌≡◌, IfOk};
+ghost use Rattle.std.specs.Prelude.{IfOk};
 ghost use Rattle.lio_turns.specs.Turns.{PlansBy};
 ghost use Rattle.lio_turns.specs.StateOf.{program_of};
 
@@ -36,7 +36,7 @@ pub(crate) fn plan_simple<'s>(
             plan_let_two(alloc, task, script, longest, name, left, *op, right)
         }
         Simple::Call(name, procedure, arguments) => {
-            plan_call(alloc, task, script, longest, name, procedure, arguments)
+            plan_call(alloc, task, script, name, procedure, arguments)
         }
         Simple::Return(value) => plan_return(alloc, task, value),
         Simple::Stop => plan_stop(alloc, task),
@@ -56,12 +56,10 @@ pub(crate) fn plan_simple<'s>(
         Simple::Take(name, variable) => plan_take(alloc, task, name, variable),
         Simple::Put(variable, value) => plan_put(alloc, task, variable, value),
         Simple::Fork(name, label, turns, cells, procedure, arguments) => plan_fork(
-            alloc, task, script, longest, name, label, turns, cells, procedure, arguments,
+            alloc, task, script, name, label, turns, cells, procedure, arguments,
         ),
         Simple::Spawn(turns, cells, procedure, arguments) => {
-            plan_spawn(
-                alloc, task, script, longest, turns, cells, procedure, arguments,
-            )
+            plan_spawn(alloc, task, script, turns, cells, procedure, arguments)
         }
         Simple::Wait(name, handle) => plan_wait(alloc, task, name, handle),
         Simple::Send(channel, text) => plan_send(alloc, task, channel, text),

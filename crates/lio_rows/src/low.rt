@@ -42,11 +42,11 @@ enum Asked {
 }
 
 /// What a command on the erased calculus answers, if the word and the number of fields are those of one.
-pub fn answer(alloc: Global, word: &[u8], fields: &[Vec<u8>]) -> Answered {
+pub fn answer(alloc: Global, word: &str, fields: &[Vec<u8>]) -> Answered {
     let asked = match word {
-        b"low" => Asked::Turns,
-        b"low_without" => Asked::TurnsUntold,
-        b"cells" => Asked::Cells,
+        "low" => Asked::Turns,
+        "low_without" => Asked::TurnsUntold,
+        "cells" => Asked::Cells,
         _ => return None,
     };
     match fields {

@@ -8,10 +8,10 @@ use lio_policy::{Policy, read_policy};
 use std::alloc::{AllocError, Global};
 
 /// What a command on policies answers, if the word and the number of fields are those of one.
-pub fn answer(alloc: Global, word: &[u8], fields: &[Vec<u8>]) -> Answered {
+pub fn answer(alloc: Global, word: &str, fields: &[Vec<u8>]) -> Answered {
     match (word, fields) {
-        (b"policy", [json]) => Some(policy(alloc, json.as_slice())),
-        (b"policy_entry", [number, json]) => Some(entry(alloc, number, json)),
+        ("policy", [json]) => Some(policy(alloc, json.as_slice())),
+        ("policy_entry", [number, json]) => Some(entry(alloc, number, json)),
         _ => None,
     }
 }

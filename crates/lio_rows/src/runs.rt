@@ -26,16 +26,16 @@ pub struct Source<'a> {
 }
 
 /// What a command on runs answers, if the word and the number of fields are those of one.
-pub fn answer(alloc: Global, names: &Names, word: &[u8], fields: &[Vec<u8>]) -> Answered {
+pub fn answer(alloc: Global, names: &Names, word: &str, fields: &[Vec<u8>]) -> Answered {
     match (word, fields) {
-        (b"eval", [expression]) => Some(eval(alloc, names, expression)),
-        (b"run", [json, script, inputs @ ..]) => {
+        ("eval", [expression]) => Some(eval(alloc, names, expression)),
+        ("run", [json, script, inputs @ ..]) => {
             Some(history(alloc, json, Source { script, inputs }))
         }
-        (b"view", [label, json, script, inputs @ ..]) => {
+        ("view", [label, json, script, inputs @ ..]) => {
             Some(seen(alloc, label, json, Source { script, inputs }))
         }
-        (b"releases", [label, json, script, inputs @ ..]) => {
+        ("releases", [label, json, script, inputs @ ..]) => {
             Some(told(alloc, label, json, Source { script, inputs }))
         }
         _ => None,

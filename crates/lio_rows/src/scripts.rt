@@ -8,10 +8,10 @@ use lio_syntax::{Script, print_script, read_script};
 use std::alloc::Global;
 
 /// What a command on scripts answers, if the word and the number of fields are those of one.
-pub fn answer(alloc: Global, names: &Names, word: &[u8], fields: &[Vec<u8>]) -> Answered {
+pub fn answer(alloc: Global, names: &Names, word: &str, fields: &[Vec<u8>]) -> Answered {
     match (word, fields) {
-        (b"script", [text]) => Some(script(alloc, names, text)),
-        (b"copy_script", [text]) => Some(copy(alloc, names, text)),
+        ("script", [text]) => Some(script(alloc, names, text)),
+        ("copy_script", [text]) => Some(copy(alloc, names, text)),
         _ => None,
     }
 }

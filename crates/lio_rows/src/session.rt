@@ -37,7 +37,7 @@ impl Session {
 }
 
 /// What a command answers that runs something, or reads what can be run, if the word and the number of fields are those of one.
-fn answer(alloc: Global, names: &Names, word: &[u8], fields: &[Vec<u8>]) -> Answered {
+fn answer(alloc: Global, names: &Names, word: &str, fields: &[Vec<u8>]) -> Answered {
     if let Some(answer) = scripts::answer(alloc, names, word, fields) {
         return Some(answer);
     }

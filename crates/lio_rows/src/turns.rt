@@ -12,9 +12,9 @@ use lio_run::{Ran, Scheduled, run_by_schedule};
 use std::alloc::{AllocError, Global};
 
 /// What a command on turns answers, if the word and the number of fields are those of one.
-pub fn answer(alloc: Global, word: &[u8], fields: &[Vec<u8>]) -> Answered {
+pub fn answer(alloc: Global, word: &str, fields: &[Vec<u8>]) -> Answered {
     match (word, fields) {
-        (b"turns", [actors, json, script, inputs @ ..]) => {
+        ("turns", [actors, json, script, inputs @ ..]) => {
             Some(turns(alloc, actors, json, Source { script, inputs }))
         }
         _ => None,

@@ -1,6 +1,5 @@
 //! Whether the tasks of a policy fit a script.
 ghost use Rattle.std.specs.Prelude.{◌≡◌, ◌<◌, ◌≤◌, length, slice_get};
-ghost use Rattle.lio_syntax.specs.Statements.{Procedure};
 ghost use Rattle.lio_start.specs.Fits as spec;
 ghost use Rattle.lio_start.specs.Fits.{fault_of, parameter_count};
 

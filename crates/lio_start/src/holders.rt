@@ -4,7 +4,7 @@ ghost use Rattle.lio_syntax.specs.Statements.{Procedure};
 ghost use Rattle.lio_calculus.specs.Step.{blank};
 ghost use Rattle.lio_config.specs.Configuration.{cell_of};
 ghost use Rattle.lio_start.specs.Start.{cells_in_all, channel_cell, job_cells};
-ghost use Rattle.lio_start.specs.Making.{Adds, CanBegin, CanBeginAll};
+ghost use Rattle.lio_start.specs.Making.{Adds, CanBeginAll};
 
 use crate::beginning::job;
 use lio_cells::{Node, State};

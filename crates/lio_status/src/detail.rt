@@ -10,7 +10,7 @@ use lio_lines::read_header;
 use lio_outside::Store;
 use lio_policy::{Policy, read_policy};
 use lio_values::Text;
-use lio_words::split_word;
+use lio_words::{split_word, without_return};
 use std::alloc::Global;
 use std::fs;
 use std::fs::Files;
@@ -87,7 +87,7 @@ pub struct TakesAt {
 fn line_at(script: &[u8], number: u32) -> &[u8] {
     for (before, line) in script.split(|byte| *byte == b'\n').enumerate() {
         if before as u64 + 1 == number as u64 {
-            return line;
+            return without_return(line);
         }
     }
     b""
@@ -125,7 +125,7 @@ fn open_before(alloc: Global, script: &[u8], number: u32) -> Result<Hint, NoMemo
     let mut open: Vec<OpenAt> = Vec::new(alloc);
     for (before, text) in script.split(|byte| *byte == b'\n').enumerate() {
         if before as u64 + 1 < number as u64 {
-            pass(alloc, &mut open, text, before)?;
+            pass(alloc, &mut open, without_return(text), before)?;
         }
     }
     Ok(match open.pop() {

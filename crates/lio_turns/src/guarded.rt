@@ -10,11 +10,11 @@ use crate::turn::{Attempt, Onward, Turn};
 use lio_clauses::NoMemory;
 use lio_guards::{Verdict, guard};
 use lio_labels::Label;
-use lio_values::{Act, Content, Fault, FaultKind, Held, Op, Reply};
+use lio_values::{Act, Fault, FaultKind, Held, Op, Reply};
 use std::alloc::Global;
 
 impl Standing<'_> {
-    ghost use Rattle.std.specs.Prelude.{◌≡◌, IfOk, List};
+    ghost use Rattle.std.specs.Prelude.{◌≡◌, IfOk};
     ghost use Rattle.lio_values.specs.declared.act.Act.TheVariants as act;
     ghost use Rattle.lio_values.specs.declared.fault.FaultKind.TheVariants as kind;
     ghost use Rattle.lio_guards.specs.Guard.{guarded};
