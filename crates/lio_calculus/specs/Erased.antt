@@ -36,6 +36,7 @@ hide_state observer (Var label value) = Var label (option_map (erase_value obser
 hide_state observer (Chan label received) = Chan label received
 hide_state observer (Job label result) = Job label result
 
+-- a cell, with its values hidden
 abbrev pub hide_cell : Label → Cell → Cell
 hide_cell observer cell = record { state = hide_state observer cell.state; task = option_map (hide_task observer) cell.task }
 
@@ -91,6 +92,7 @@ low_with observer ticket c k task move o =
       left = o.left;
     }
 
+-- the erased turn of a task
 abbrev pub low_turn : Label → ℕ → Configuration → ℕ → List Content → TaskState → Option LowTurn
 low_turn observer ticket c k contents task =
     option_and_then (λ move. option_map (low_with observer ticket c k task move) (opened observer move.act move.reply contents)) (move_of (cell_at c) (plan c.program task))

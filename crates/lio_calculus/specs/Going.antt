@@ -1,4 +1,4 @@
--- How a task goes on after a turn: the ways in which a plan says it, and what the task is then.
+-- How a task goes on after a turn: the ways in which a plan says it, and what the task is then (LIO, ICFP 2012).
 use Rattle.std.specs.Prelude.{ℕ, ◌+◌, ◌-◌, true, List, [], ◌∷◌}
 use Rattle.lio_labels.specs.declared.label.Label.{Label}
 use Rattle.lio_values.specs.declared.fault.Fault.{Fault}

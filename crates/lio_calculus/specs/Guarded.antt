@@ -9,9 +9,10 @@ use Rattle.lio_calculus.specs.Task.{TaskState}
 use Rattle.lio_calculus.specs.Going.{Onward, Advance, Bind, Seal, Enter, Repeat, Try, Call, Return, Leave, Raise, RaiseTo, Unlabel, Lower, Release, HoldReference, HoldVariable, Fork, Spawn, BindReply, Throw, End}
 use Rattle.lio_values.specs.declared.act.Reply.{Reply}
 use Rattle.lio_values.specs.declared.act.Reply.TheVariants.{Done, Got, Told, Refused}
-use Rattle.lio_calculus.specs.Plan.{Plan, Over, Own, Visit, Target, Node, New}
-use Rattle.lio_calculus.specs.Step.{Cell, Configuration, blank, cell_at, number_of, is_met, waits, met_after}
+use Rattle.lio_calculus.specs.Plan.{plan, Plan, Over, Own, Visit, Target, Node, New}
+use Rattle.lio_calculus.specs.Step.{Cell, Configuration, Turn, step, blank, cell_at, number_of, is_met, waits, met_after}
 use Rattle.lio_calculus.specs.Erased.{label_of_cell}
+use Rattle.lio_calculus.specs.Sound.{IsTaskOf, IsSound}
 
 -- the current label after a turn: raised by a raise, and else as it was
 abbrev pub label_after : Onward → Label → Label
@@ -37,7 +38,7 @@ label_after (BindReply name) current = current
 label_after (Throw fault) current = current
 label_after End current = current
 
--- the acts that change the node that they meet
+-- whether an act changes the node that it meets, if it meets one: all do but those that look at it alone
 abbrev pub changes : Act → Bool
 changes act.Read = false
 changes act.Wait = false
@@ -62,6 +63,7 @@ IsAllowed asked (Unlabel name label source content) = IsTrue (flows source label
 IsAllowed asked (Release name label) = IsReleaseOf asked label
 IsAllowed asked onward = Unit {0}
 
+-- an act of the task's own: its label never falls
 pub record IsOwnGuarded (task : TaskState) (asked : Act) (reply : Reply) (onward : Onward) : Type 0 where
   pub rises : IsTrue (flows task.label (label_after onward task.label))
   pub allowed : IsAllowed asked onward
@@ -87,7 +89,13 @@ pub record IsVisitGuarded (c : Configuration) (k : ℕ) (task : TaskState) (aske
   pub quiet : IsNoRelease asked
   pub allowed : IsAllowed asked onward
 
+-- a plan: what the guards and the soundness of the configuration give of it
 abbrev pub IsGuarded : Configuration → ℕ → TaskState → Plan → Type 0
 IsGuarded c k task Over = Unit {0}
 IsGuarded c k task (Own asked reply onward) = IsOwnGuarded task asked reply onward
 IsGuarded c k task (Visit asked target onward) = IsVisitGuarded c k task asked target onward
+
+-- each turn of a well-formed configuration is guarded: what it looks at is below the task's label, and what it changes is above
+abbrev pub TurnIsGuarded : Type 0
+TurnIsGuarded = (ticket : ℕ) (c : Configuration) (k : ℕ) (task : TaskState) (turn : Turn)
+    → IsSound c → IsTaskOf c k task → step ticket c k ≡ Some turn → IsGuarded c k task (plan c.program task)

@@ -55,6 +55,7 @@ abbrev pub text_of : Plain → Option (List ℕ)
 text_of (Bytes text) = Some text
 text_of plain = None
 
+-- a number of 32 bits
 abbrev pub count_from : ℤ → Option ℕ
 count_from (pos n) = if nat_lt n (2 ^ 32) then Some n else None
 count_from (negsuc n) = None

@@ -90,11 +90,11 @@ abbrev pub computed : TaskState → List ℕ → Result Value FaultKind → Plan
 computed task name (Ok value) = stepping (Bind name value)
 computed task name (Err kind) = refused task act.Step kind
 
--- a new reference or variable takes one number
+-- what takes so many numbers goes on where so many are left of the task's range, and is refused else
 abbrev pub with_cells : TaskState → Act → ℕ → Plan → Plan
 with_cells task act asked plan = if nat_le asked task.cells then plan else refused task act (NoCells asked task.cells)
 
--- a child's turns are those that are left after this one
+-- a child that is given so many turns is born where so many are left behind this one, and is refused else
 abbrev pub with_turns : TaskState → Act → ℕ → Plan → Plan
 with_turns task act asked plan = if nat_le asked (task.turns - 1) then plan else refused task act (ChildTurns asked (task.turns - 1))
 
@@ -135,11 +135,13 @@ birth_of place values label clearance turns first cells =
 abbrev pub with_room : TaskState → Act → ℕ → ℕ → Plan → Plan
 with_room task act cells turns plan = with_cells task act (cells + 1) (with_turns task act turns plan)
 
+-- a child with a result, of this label
 abbrev pub forking : TaskState → List ℕ → Label → ℕ → ℕ → Birth → Plan
 forking task name label turns cells birth =
     with_verdict task (act.Fork birth) (verdict_on task op.Fork label)
     (λ current. with_room task (act.Fork birth) cells turns (Visit (act.Fork birth) (New task.first) (Fork name label cells turns)))
 
+-- a child without a result
 abbrev pub spawning : TaskState → ℕ → ℕ → Birth → Plan
 spawning task turns cells birth =
     with_room task (act.Spawn birth) cells turns (Visit (act.Spawn birth) (New task.first) (Spawn cells turns))

@@ -1,4 +1,4 @@
--- Well-formed configurations: what the first configuration of a script has and each turn keeps, part by part.
+-- Well-formed configurations: what the first configuration of a script has and each turn keeps, part by part (LIO, ICFP 2012).
 use Rattle.std.specs.Prelude.{◌≡◌, ℕ, ◌+◌, ◌<◌, ◌≤◌, ◌^◌, Bool, true, ◌&&◌, IsTrue, List, [], ◌∷◌, length, All, Some, None, is_some}
 use Rattle.std.specs.List.{list_all}
 use Rattle.lio_labels.specs.declared.label.Label.{Label}
@@ -15,7 +15,7 @@ use Rattle.lio_values.specs.declared.value.Value.TheVariants.{Bare, Sealed}
 use Rattle.lio_lines.specs.declared.line.Simple.{Simple}
 use Rattle.lio_lines.specs.declared.line.Simple.TheVariants.{Read, Take, Put, Wait}
 use Rattle.lio_lines.specs.Literal.{is_said, simple_operands}
-use Rattle.lio_syntax.specs.Statements.{Statement, Statements, If, IfElse, While, Try, Nothing, Then, Procedure}
+use Rattle.lio_syntax.specs.Statements.{Statement, Statements, If, IfElse, While, Try, Nothing, Then}
 use Rattle.lio_syntax.specs.Statements as statement
 use Rattle.lio_cells.specs.declared.state.State.{State}
 use Rattle.lio_cells.specs.declared.state.State.TheVariants.{Absent, Ref, Var, Chan, Job}

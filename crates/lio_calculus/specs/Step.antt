@@ -91,11 +91,12 @@ move_of look Over = None
 move_of look (Own act reply onward) = Some (record { act = act; target = None; reply = reply; onward = onward })
 move_of look (Visit act target onward) = visit act target onward (met target (look (number_of target)).state)
 
--- the first environment and the items of a procedure
+-- the body of a procedure
 abbrev pub body_of : Option Procedure → Statements
 body_of None = Nothing
 body_of (Some procedure) = procedure.body
 
+-- the names of its parameters
 abbrev pub parameters_of : Option Procedure → List (List ℕ)
 parameters_of None = []
 parameters_of (Some procedure) = procedure.parameters
@@ -152,6 +153,7 @@ pub record Turn : Type 0 where
   pub entry : Entry
   pub next : Configuration
 
+-- what a journal keeps of a move
 abbrev pub entry_of : ℕ → ℕ → TaskState → Move → Entry
 entry_of ticket k task move = record { ticket = ticket; actor = k; target = option_map number_of move.target; at = task.label; act = move.act; reply = move.reply }
 

@@ -1,6 +1,7 @@
 //! The laws of the calculus. Each function does nothing: its contract is the law.
 ghost use Rattle.lio_calculus.specs.Afforded.{PlanAfforded};
 ghost use Rattle.lio_calculus.specs.Enabled.{LowTurnsWhereEnabled, SeenTaskIsEnabledBelow};
+ghost use Rattle.lio_calculus.specs.Guarded.{TurnIsGuarded};
 ghost use Rattle.lio_calculus.specs.Handles.{VisitMeetsHandle};
 ghost use Rattle.lio_calculus.specs.Hiding.{PlanHidden};
 ghost use Rattle.lio_calculus.specs.Laws.{RunIsErasedRun, SeenTurnIsErasedTurn, TurnKeepsSoundness, UnseenTurnChangesNothing, UnseenTurnReleasesNothing};
@@ -29,6 +30,11 @@ pub fn visit_meets_node()
 /// Each visit meets its node by the handle that the task names ahead.
 pub fn visit_meets_handle()
     ensures { VisitMeetsHandle }
+{}
+
+/// Each turn looks at what is below the task's label, and changes what is above.
+pub fn turn_is_guarded()
+    ensures { TurnIsGuarded }
 {}
 
 /// Each turn keeps a configuration well-formed.

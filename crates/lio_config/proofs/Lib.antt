@@ -6,3 +6,4 @@ pub mod LentLemmas
 pub mod TurnLemmas
 pub mod PreviewLemmas
 pub mod WellFormedLemmas
+pub mod PartLemmas

@@ -103,19 +103,19 @@ shows c k ticket task move is moves =
     ∙ ap (λ (m : Option Move). option_map (λ (turn : Turn). turn.entry) (option_map (λ (move : Move). let turn : Turn = record { entry = entry_of ticket k task move; next = after c k task move } in turn) m)) moves
 
 -- a plan by what it does
-own-plan : (p : Plan) (asked : Act) (reply : Reply) → next_by p ≡ next.Own asked reply → (onward : going.Onward) × (p ≡ Own asked reply onward)
+pub own-plan : (p : Plan) (asked : Act) (reply : Reply) → next_by p ≡ next.Own asked reply → (onward : going.Onward) × (p ≡ Own asked reply onward)
 own-plan Over asked reply e = absurd (cc)
 own-plan (Own act answer onward) asked reply e = (onward, cc)
 own-plan (Visit act target onward) asked reply e = absurd (cc)
 
 -- a plan meets the node with a number
-record Meets (p : Plan) (asked : Act) (n : ℕ) : Type 0 where
-  target : Target
-  onward : going.Onward
-  plan_is : p ≡ Visit asked target onward
-  number_is : number_of target ≡ n
+pub record Meets (p : Plan) (asked : Act) (n : ℕ) : Type 0 where
+  pub target : Target
+  pub onward : going.Onward
+  pub plan_is : p ≡ Visit asked target onward
+  pub number_is : number_of target ≡ n
 
-visit-plan : (p : Plan) (asked : Act) (n : ℕ) → next_by p ≡ next.Visit asked n → Meets p asked n
+pub visit-plan : (p : Plan) (asked : Act) (n : ℕ) → next_by p ≡ next.Visit asked n → Meets p asked n
 visit-plan Over asked n e = absurd (cc)
 visit-plan (Own act answer onward) asked n e = absurd (cc)
 visit-plan (Visit act target onward) asked n e = record { target = target; onward = onward; plan_is = cc; number_is = cc }

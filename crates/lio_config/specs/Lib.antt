@@ -2,3 +2,4 @@ pub mod Configuration
 pub mod Pair
 pub mod Turns
 pub mod Takes
+pub mod Laws

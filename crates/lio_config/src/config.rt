@@ -15,23 +15,28 @@ use thiserror::Error;
 /// A node and, where it is a job, its task.
 #[derive(Drop)]
 pub struct Holder {
+    /// What stands at the number.
     pub node: Node,
+    /// The task of a job.
     pub task: Option<Task>,
 }
 
-/// The nodes by number, and how long a text may become, in bytes.
+/// The nodes by number, and how long a text may become.
 #[derive(Drop)]
 pub struct Config {
+    /// What stands at each number, from 0.
     pub holders: Vec<Holder>,
+    /// The length of the longest text, in bytes.
     pub longest: u32,
 }
 
 /// Why a task took no turn.
-#[derive(Debug, PartialEq, Drop, Error)]
+#[derive(Debug, Clone, Copy, PartialEq, Eq, Error)]
 pub enum StepFault {
     /// The task with this number can't take a turn.
     #[error("task {0} can't take a turn")]
     Still(u32),
+    /// No memory is left; all is as before.
     #[error("out of memory")]
     NoMemory,
 }

@@ -3,6 +3,7 @@
 
 mod config;
 mod copy;
+pub mod laws;
 mod pair;
 mod preview;
 mod turn;

@@ -1,5 +1,5 @@
 //! Making each item of a list into another thing, as far as that can be done.
-ghost use Rattle.std.specs.Prelude.{◌≡◌, IfOk, ◌<◌, ◌^◌, ◌++◌, [], ◌∷◌};
+ghost use Rattle.std.specs.Prelude.{◌≡◌, IfOk};
 ghost use Rattle.lio_draft.specs.Converted.{converted};
 
 use lio_clauses::NoMemory;
@@ -26,8 +26,7 @@ pub fn each<X, Y: Drop, C: Conversion<X, Y>>(
     ensures { IfOk result (λ made. made ≡ converted (C.gives by.now) items.now) }
 {
     let mut made = List::new(alloc);
-    let mut place = 0;
-    for item in items {
+    for (place, item) in items.iter().enumerate() {
         match by.convert(alloc, item) {
             Ok(Some(one)) => {
                 if let Err(refused) = made.push(one) {
@@ -44,7 +43,6 @@ pub fn each<X, Y: Drop, C: Conversion<X, Y>>(
                 return Err(refused);
             }
         }
-        place += 1;
     }
     Ok(Ok(made))
 }

@@ -69,24 +69,12 @@ fn parts_of<'v>(value: &'v Value) -> Option<Parts<'v>>
     ) {
         return None;
     }
-    let Some(version) = whole_at(value, "version") else {
-        return None;
-    };
-    let Some(longest) = whole_at(value, "longest") else {
-        return None;
-    };
-    let Some(principals) = items_at(value, "principals") else {
-        return None;
-    };
-    let Some(channels) = items_at(value, "channels") else {
-        return None;
-    };
-    let Some(inputs) = items_at(value, "inputs") else {
-        return None;
-    };
-    let Some(tasks) = items_at(value, "tasks") else {
-        return None;
-    };
+    let version = whole_at(value, "version")?;
+    let longest = whole_at(value, "longest")?;
+    let principals = items_at(value, "principals")?;
+    let channels = items_at(value, "channels")?;
+    let inputs = items_at(value, "inputs")?;
+    let tasks = items_at(value, "tasks")?;
     Some(Parts {
         version,
         longest,

@@ -16,14 +16,17 @@ pub(crate) fn has_keys(value: &Value, keys: &[&str]) -> bool
     let Some(members) = value.as_object() else {
         return false;
     };
-    let mut place = 0;
+    let mut left = keys;
     for (name, _) in members {
-        if place == keys.len() || name.as_str() != keys[place] {
+        let [key, behind @ ..] = left else {
+            return false;
+        };
+        if name.as_str() != *key {
             return false;
         }
-        place += 1;
+        left = behind;
     }
-    place == keys.len()
+    left.is_empty()
 }
 
 /// The text that a value is.
@@ -69,14 +72,11 @@ pub(crate) fn whole_at(value: &Value, key: &str) -> Option<Option<u64>>
 }
 
 /// A number that has 32 bits.
+#[tactic(auto, unfolding(crate::specs::Shape::of_32_bits))]
 fn of_32_bits(number: u64) -> Option<u32>
     ensures { result ≡ spec.of_32_bits number }
 {
-    if number <= u32::MAX as u64 {
-        Some(number as u32)
-    } else {
-        None
-    }
+    u32::try_from(number).ok()
 }
 
 /// The whole number of 32 bits without sign at a key.

@@ -79,34 +79,19 @@ fn arg_draft(alloc: Global, value: &Value) -> Result<Option<ArgDraft>, NoMemory>
     ensures { IfOk result (λ draft. draft ≡ spec.arg_of (view value.now)) }
 {
     if has_keys(value, &["input"]) {
-        return match text_at(alloc, value, "input")? {
-            Some(text) => Ok(Some(ArgDraft::Input(text))),
-            None => Ok(None),
-        };
+        return Ok(text_at(alloc, value, "input")?.map(ArgDraft::Input));
     }
     if has_keys(value, &["channel"]) {
-        return match text_at(alloc, value, "channel")? {
-            Some(text) => Ok(Some(ArgDraft::Channel(text))),
-            None => Ok(None),
-        };
+        return Ok(text_at(alloc, value, "channel")?.map(ArgDraft::Channel));
     }
     if has_keys(value, &["label"]) {
-        return match text_at(alloc, value, "label")? {
-            Some(text) => Ok(Some(ArgDraft::Label(text))),
-            None => Ok(None),
-        };
+        return Ok(text_at(alloc, value, "label")?.map(ArgDraft::Label));
     }
     if has_keys(value, &["power"]) {
-        return match text_at(alloc, value, "power")? {
-            Some(text) => Ok(Some(ArgDraft::Power(text))),
-            None => Ok(None),
-        };
+        return Ok(text_at(alloc, value, "power")?.map(ArgDraft::Power));
     }
     if has_keys(value, &["text"]) {
-        return match text_at(alloc, value, "text")? {
-            Some(text) => Ok(Some(ArgDraft::Bytes(text))),
-            None => Ok(None),
-        };
+        return Ok(text_at(alloc, value, "text")?.map(ArgDraft::Bytes));
     }
     Ok(plain_arg(value))
 }

@@ -10,7 +10,7 @@ use Rattle.lio_turns.specs.StateOf.{program_of}
 use Rattle.lio_task.specs.declared.task.Task.{Task}
 use Rattle.lio_config.specs.declared.config.Holder.{Holder}
 use Rattle.lio_erasure.specs.Low.{IsErased, low_cell_of, low_configuration_of, low_task_in, seen_cell}
-use Rattle.lio_erasure.specs.LowParts.{LowParts, LowState, low_of}
+use Rattle.lio_erasure.specs.LowParts.{LowParts, ErasedState, low_of}
 use Rattle.lio_erasure.specs.Turn.{CanAdvance, Follows, IsShown, Moves, PlansOwn, VisitsNew, VisitsNode, placed, served}
 use Rattle.lio_erasure.proofs.TurnLemmas.{ActsIn, actor-there, can-advance, met-made, missed-made, new-made, own-made, went_to}
 
@@ -31,7 +31,7 @@ pub same-erased : (inside : LowParts) (went : List (Option Holder)) → with_hol
 same-erased inside went same = subst (IsErased inside.observer) (sym same)
 
 pub same-low_of : (inside now : LowParts) (went : List (Option Holder)) → inside ≡ now → with_holders inside went ≡ held inside → low_of (went_to inside went) ≡ low_of now
-same-low_of inside now went same stays = ap (λ (d : Configuration). let state : LowState = record { observer = inside.observer; configuration = d } in state) stays ∙ ap low_of same
+same-low_of inside now went same stays = ap (λ (d : Configuration). let state : ErasedState = record { observer = inside.observer; configuration = d } in state) stays ∙ ap low_of same
 
 -- the task of a turn can go on
 pub can-go : (inside now : LowParts) (k : ℕ) (number : Option ℕ) (asked : Act) (reply : Reply) (shown : Entry) → inside ≡ now → ActsIn now k asked reply → IsShown now k number asked reply shown

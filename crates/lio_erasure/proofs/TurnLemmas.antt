@@ -41,7 +41,7 @@ use Rattle.lio_task.specs.Next.{next_by, resumed_by}
 use Rattle.lio_task.specs.StateOf.{state_in}
 use Rattle.lio_erasure.specs.Acts.{lacks_content, with_content}
 use Rattle.lio_erasure.specs.Low.{IsErased, TasksAreJobs, holder_in, job_with, low_configuration_of, low_task_in, seen_cell, seen_task}
-use Rattle.lio_erasure.specs.LowParts.{LowParts, LowState, low_of}
+use Rattle.lio_erasure.specs.LowParts.{LowParts, ErasedState, low_of}
 use Rattle.lio_erasure.specs.Turn.{CanAdvance, Follows, IsShown, LacksRelease, Moves, PlansAct, PlansOwn, PlansVisit, TakesTurn, VisitsNew, VisitsNode, placed, served}
 use Rattle.lio_erasure.proofs.ActLemmas.{absent-unready, job-there, made-job, made-unwaiting, met-job, ready-erased}
 use Rattle.lio_erasure.proofs.AfterLemmas.{KeepsJobs, actor-stays, after-jobs, made-between, met-between, missed-between, own-after, put-changed, task-inside, visit-after}
@@ -369,7 +369,7 @@ new-bears parts k n asked shown v shows =
     subst (λ (e : Entry). CanBear parts.script e.at e.act) (sym (shows v.visits.task v.visits.is)) (bears-erased parts.script state.label parts.observer asked bears)
 
 -- what a turn takes of the released contents
-pub takes-turn : (old new : LowState) (k : ℕ) (before after : List Content) (asked : Act) (entry : Entry) (m : Moves old new k asked entry)
+pub takes-turn : (old new : ErasedState) (k : ℕ) (before after : List Content) (asked : Act) (entry : Entry) (m : Moves old new k asked entry)
     → opened old.observer m.move.act m.move.reply before ≡ Some (record { act = asked; left = after }) → TakesTurn old new k before after entry
 unfolding low
 takes-turn old new k before left asked entry m opens =
@@ -425,7 +425,7 @@ act-task parts k asked reply p = task-low parts.script parts.longest parts.holde
 same-task : {x y : TaskState} {t : Option TaskState} → t ≡ Some x → t ≡ Some y → x ≡ y
 same-task e f = cc
 
-pub act-move : (parts : LowParts) (new : LowState) (k : ℕ) (asked seen : Act) (reply : Reply) (entry : Entry) → PlansAct parts k asked reply → (m : Moves (low_of parts) new k seen entry) → (m.move.act ≡ asked) × (m.move.reply ≡ reply)
+pub act-move : (parts : LowParts) (new : ErasedState) (k : ℕ) (asked seen : Act) (reply : Reply) (entry : Entry) → PlansAct parts k asked reply → (m : Moves (low_of parts) new k seen entry) → (m.move.act ≡ asked) × (m.move.reply ≡ reply)
 act-move parts new k asked seen reply entry p m =
     let c : Configuration = low_configuration_of parts.script parts.longest parts.holders in
     let same : state_in parts.script p.task ≡ m.task = same-task (act-task parts k asked reply p) m.is in
@@ -503,7 +503,7 @@ waits-still parts k n asked v waiting =
     ∙ ap (λ (m : Option Move). is_some m) (visit-waits asked p.target p.onward (met p.target (cell_at c n).state) waiting unready)
 
 -- a visit's turn
-pub visit-turn : (parts : LowParts) (new : LowState) (k n : ℕ) (asked : Act) (entry : Entry) (contents : List Content) → PlansVisit parts k asked n → Moves (low_of parts) new k asked entry → TakesTurn (low_of parts) new k contents contents entry
+pub visit-turn : (parts : LowParts) (new : ErasedState) (k n : ℕ) (asked : Act) (entry : Entry) (contents : List Content) → PlansVisit parts k asked n → Moves (low_of parts) new k asked entry → TakesTurn (low_of parts) new k contents contents entry
 visit-turn parts new k n asked entry contents p m =
     let c : Configuration = low_configuration_of parts.script parts.longest parts.holders in
     let state : TaskState = state_in parts.script p.task in

@@ -24,10 +24,10 @@ low_code =
     (λ p. (p.script, (p.longest, (p.observer, p.holders)))) (λ t. record { script = t.0; longest = t.1.0; observer = t.1.1.0; holders = t.1.1.1 }) (λ p. refl)
 
 -- the erased calculus: the observer, and the configuration as the observer sees it
-pub record LowState : Type 0 where
+pub record ErasedState : Type 0 where
   pub observer : Label
   pub configuration : Configuration
 
 -- the erased calculus that the parts stand for
-abbrev pub low_of : LowParts → LowState
+abbrev pub low_of : LowParts → ErasedState
 low_of parts = record { observer = parts.observer; configuration = low_configuration_of parts.script parts.longest parts.holders }

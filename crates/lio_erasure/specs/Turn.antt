@@ -29,10 +29,10 @@ use Rattle.lio_erasure.specs.declared.low.LowFault.{LowFault}
 use Rattle.lio_erasure.specs.declared.low.LowFault.TheVariants.{Still, NoRelease, NoMemory}
 use Rattle.lio_erasure.specs.Acts.{hides, shown_act, with_content}
 use Rattle.lio_erasure.specs.Low.{job_with, low_configuration_of, low_task_in, seen_cell, seen_task}
-use Rattle.lio_erasure.specs.LowParts.{LowParts, LowState}
+use Rattle.lio_erasure.specs.LowParts.{LowParts, ErasedState}
 
 -- Task k has taken a turn of the erased calculus, which shows this entry and takes the released contents from the front of those that were there.
-pub record TakesTurn (old new : LowState) (k : ℕ) (before after : List Content) (entry : Entry) : Type 0 where
+pub record TakesTurn (old new : ErasedState) (k : ℕ) (before after : List Content) (entry : Entry) : Type 0 where
   pub turn : low old.observer 0 old.configuration k before ≡ Some (record { entry = entry; next = new.configuration; left = after })
   pub observer : new.observer ≡ old.observer
 
@@ -43,7 +43,7 @@ pub record LacksRelease (observer : Label) (c : Configuration) (k : ℕ) (conten
   pub no_turn : low observer 0 c k contents ≡ None
 
 -- why a task takes no turn: it can't, it lacks a release, or no memory is left
-abbrev pub Stays : LowState → ℕ → List Content → LowFault → Type 0
+abbrev pub Stays : ErasedState → ℕ → List Content → LowFault → Type 0
 Stays state k contents (Still n) = (n ≡ k) × (can state.configuration k ≡ false)
 Stays state k contents (NoRelease n) = (n ≡ k) × LacksRelease state.observer state.configuration k contents
 Stays state k contents NoMemory = Unit {0}
@@ -171,7 +171,7 @@ pub record VisitsNew (parts : LowParts) (k : ℕ) (asked : Act) (n : ℕ) : Type
   pub makes_node : makes asked ≡ true
 
 -- Task k has made its move, with this act in the place of its own: the observer sees this entry, and the configuration after it.
-pub record Moves (old new : LowState) (k : ℕ) (asked : Act) (entry : Entry) : Type 0 where
+pub record Moves (old new : ErasedState) (k : ℕ) (asked : Act) (entry : Entry) : Type 0 where
   pub task : TaskState
   pub is : IsTaskOf old.configuration k task
   pub move : Move

@@ -11,14 +11,14 @@ use lio_values::{Act, Content, Held, Reply};
 use std::alloc::Global;
 
 /// Whether nothing is there.
-pub fn is_absent(state: &State) -> bool
+pub(crate) fn is_absent(state: &State) -> bool
     ensures { result ≡ is_absent state.now }
 {
     matches!(state, State::Absent)
 }
 
 /// Whether a node has a label.
-pub fn has_label(state: &State, label: &Label) -> bool
+pub(crate) fn has_label(state: &State, label: &Label) -> bool
     ensures { result ≡ has_label state.now label.now }
 {
     match state {
@@ -31,21 +31,14 @@ pub fn has_label(state: &State, label: &Label) -> bool
 }
 
 /// Whether an act waits until its node is ready.
-pub fn waits(act: &Act) -> bool
+pub(crate) fn waits(act: &Act) -> bool
     ensures { result ≡ waits act.now }
 {
-    match act {
-        Act::Read => true,
-        Act::Take => true,
-        Act::Put(_) => true,
-        Act::Wait => true,
-        Act::Send(_) => false,
-        _ => false,
-    }
+    matches!(act, Act::Read | Act::Take | Act::Put(_) | Act::Wait)
 }
 
 /// Whether a release that is carried out brings a hidden content to a label below the observer's, so that the content has to be told.
-pub fn lacks_content(act: &Act, reply: &Reply, observer: &Label) -> bool
+pub(crate) fn lacks_content(act: &Act, reply: &Reply, observer: &Label) -> bool
     ensures { result ≡ lacks_content observer.now act.now reply.now }
 {
     match (act, reply) {
@@ -60,15 +53,11 @@ pub fn lacks_content(act: &Act, reply: &Reply, observer: &Label) -> bool
 fn is_hidden(content: &Content) -> bool
     ensures { result ≡ is_hidden content.now }
 {
-    match content {
-        Content::Hidden => true,
-        Content::Kept(_) => false,
-        Content::Faulted(_) => false,
-    }
+    matches!(content, Content::Hidden)
 }
 
 /// A release with another content; another act stays as it is.
-pub fn with_content(act: Act, content: Held<Content>) -> Act
+pub(crate) fn with_content(act: Act, content: Held<Content>) -> Act
     ensures { result ≡ with_content act content }
 {
     match act {
@@ -95,7 +84,7 @@ fn releases_above(act: &Act, observer: &Label) -> bool
 
 /// An act as an observer sees it who sees its values already: a content that is released to a label that doesn't flow to the observer's
 /// is hidden.
-pub fn shown_act(alloc: Global, act: Act, observer: &Label) -> Result<Act, NoMemory>
+pub(crate) fn shown_act(alloc: Global, act: Act, observer: &Label) -> Result<Act, NoMemory>
     ensures { IfOk result (λ shown. shown ≡ shown_act observer.now act) }
 {
     if !releases_above(&act, observer) {
@@ -111,7 +100,7 @@ pub fn shown_act(alloc: Global, act: Act, observer: &Label) -> Result<Act, NoMem
 }
 
 /// Whether an act seals a value under a label that doesn't flow to the observer's, so that the value has to be hidden.
-pub fn hides(act: &Act, observer: &Label) -> bool
+pub(crate) fn hides(act: &Act, observer: &Label) -> bool
     ensures { result ≡ hides observer.now act.now }
 {
     match act {

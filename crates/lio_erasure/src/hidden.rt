@@ -34,7 +34,7 @@ fn is_below(state: &State, observer: &Label) -> bool
 
 /// Whether an observer sees a cell: a job by its task's current label, and another node by its own.
 #[tactic(none)]
-pub fn is_seen(holder: &Holder, observer: &Label) -> bool
+pub(crate) fn is_seen(holder: &Holder, observer: &Label) -> bool
     ensures { (script : List Procedure) → result ≡ sees observer.now (cell_of script holder.now) }
 {
     match &holder.task {
@@ -88,7 +88,7 @@ fn hide_task(alloc: Global, task: &Option<Task>, observer: &Label) -> Result<Opt
 }
 
 /// A holder, with its values erased.
-pub fn hidden(alloc: Global, holder: &Holder, observer: &Label) -> Result<Holder, NoMemory>
+pub(crate) fn hidden(alloc: Global, holder: &Holder, observer: &Label) -> Result<Holder, NoMemory>
     ensures { IfOk result (λ hidden. (script : List Procedure) → cell_of script hidden ≡ hide_cell observer.now (cell_of script holder.now)) }
 {
     let state = hide_state(alloc, holder.node.state(), observer)?;
@@ -104,7 +104,7 @@ pub fn hidden(alloc: Global, holder: &Holder, observer: &Label) -> Result<Holder
 
 /// A holder, where an observer sees it.
 #[tactic(none)]
-pub fn seen(holder: Holder, observer: &Label) -> Option<Holder>
+pub(crate) fn seen(holder: Holder, observer: &Label) -> Option<Holder>
     ensures seen { (script : List Procedure) → low_cell_of script result ≡ seen_cell observer.now (cell_of script holder) }
     ensures kept { IsTrue (is_kept result) }
 {

@@ -18,7 +18,7 @@ use std::marker::Model;
 use thiserror::Error;
 
 /// Why a task took no turn.
-#[derive(Debug, PartialEq, Drop, Error)]
+#[derive(Debug, Clone, Copy, PartialEq, Eq, Error)]
 pub enum LowFault {
     /// The task with this number can't take a turn.
     #[error("task {0} can't take a turn")]
@@ -26,6 +26,7 @@ pub enum LowFault {
     /// The task with this number releases a content that wasn't told.
     #[error("no content is left that task {0} releases")]
     NoRelease(u32),
+    /// No memory is left; all is as before.
     #[error("out of memory")]
     NoMemory,
 }

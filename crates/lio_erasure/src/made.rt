@@ -35,7 +35,12 @@ fn made_node(alloc: Global, act: &Act) -> Result<Node, NoMemory>
 }
 
 /// The node that an act makes where nothing is, with the task that it gives birth to, at the actor's label.
-pub fn made(alloc: Global, act: &Act, at: &Label, script: &Script) -> Result<Holder, NoMemory>
+pub(crate) fn made(
+    alloc: Global,
+    act: &Act,
+    at: &Label,
+    script: &Script,
+) -> Result<Holder, NoMemory>
     requires makes { IsTrue (makes act.now) }
     requires bears { CanBear script.now at.now act.now }
     ensures { IfOk result (λ holder. (longest : ℕ) → cell_of script.now holder ≡ met_after (program_of script.now longest) at.now act.now blank) }

@@ -1,9 +1,12 @@
 //! Reads the worked runs of `rows.rt`, runs each over a store in memory, and compares.
 
+use crate::respond;
 use lio_main::{Outcome, host_main};
 use lio_outside::MemStore;
 use lio_status::{HostStatus, detail_of, refusal_text};
 use std::alloc::{AllocError, Global};
+use std::fs::Files;
+use std::process::ExitCode;
 use std::test::Fail;
 
 /// A part of a case: its word, what it is about, and its text.
@@ -204,8 +207,31 @@ fn does_as_said(
     Ok(as_said? && count == entries && case.parts.iter().all(|part| is_true_of(part, store)))
 }
 
+/// Whether the program ends with the exit status that a case says, over a store with its files.
+fn ends_as_said<R: AllocGlobal + Files + Eprint>(
+    rt: &R,
+    case: &Case,
+    words: &[String],
+    policy: &str,
+    script: &str,
+) -> Result<bool, Fail> {
+    let Some(number) = case.number("exit")? else {
+        return Ok(true);
+    };
+    let mut store = store(rt.alloc(), case, policy, script)?;
+    let exit = respond(rt, words, &mut store);
+    drop(store);
+    Ok(exit == ExitCode::from(number as u8))
+}
+
 /// Whether a case holds, under this policy and script.
-fn holds(alloc: Global, case: &Case, policy: &str, script: &str) -> Result<bool, Fail> {
+fn holds<R: AllocGlobal + Files + Eprint>(
+    rt: &R,
+    case: &Case,
+    policy: &str,
+    script: &str,
+) -> Result<bool, Fail> {
+    let alloc = rt.alloc();
     let Some(expected) = case.part("status") else {
         return Ok(false);
     };
@@ -221,18 +247,21 @@ fn holds(alloc: Global, case: &Case, policy: &str, script: &str) -> Result<bool,
         script,
     );
     drop(store);
-    holds
+    Ok(holds? && ends_as_said(rt, case, words.as_slice(), policy, script)?)
 }
 
 /// The name of the first case of a text that doesn't hold, or nothing where all do.
-pub fn first_failing(alloc: Global, rows: &str) -> Result<Option<String>, Fail> {
-    let cases = read_cases(alloc, rows)?;
+pub fn first_failing<R: AllocGlobal + Files + Eprint>(
+    rt: &R,
+    rows: &str,
+) -> Result<Option<String>, Fail> {
+    let cases = read_cases(rt.alloc(), rows)?;
     let mut policy = "";
     let mut script = "";
     for case in &cases {
         policy = case.text("policy").unwrap_or(policy);
         script = case.text("script").unwrap_or(script);
-        if !holds(alloc, case, policy, script)? {
+        if !holds(rt, case, policy, script)? {
             return Ok(Some(case.name.clone()?));
         }
     }

@@ -22,6 +22,7 @@ mod worked;
 use lio_main::{Outcome, host_main};
 use lio_outside::{RealStore, Store};
 use lio_status::{HostStatus, print_refusal, refusal_detail};
+use std::fs::Files;
 use std::process::ExitCode;
 use std::{env, io};
 
@@ -39,7 +40,11 @@ fn exit_code(status: &HostStatus) -> ExitCode
 }
 
 /// Runs the script that the words name, says on standard error what was refused, if anything was, and gives the exit status of the answer.
-fn respond<S: Store>(rt: &HostRuntime, words: &[String], store: &mut S) -> ExitCode
+fn respond<R: AllocGlobal + Files + Eprint, S: Store>(
+    rt: &R,
+    words: &[String],
+    store: &mut S,
+) -> ExitCode
     ensures { EndsWith (λ (journal : List Entry). record {
       words = bytes_of_words words.now;
       told_before = S.holds store.old;

@@ -1,8 +1,7 @@
 //! The worked runs of the host, as text.
 //!
-//! A case begins with a line `case` and its name. Each of its lines is a word, what it is about, and the lines of its text, each
-//! with `|` before it; a line of a text ends with a line end, but with none where it ends with `~`, and with a carriage return before it
-//! where it ends with `^`.
+//! A case begins with a line `case` and its name. Each of its lines is a word, what it is about, and the lines of its text, each with `|`
+//! before it; a line of a text ends with a line end, but with none where it ends with `~`, and with a carriage return too where with `^`.
 //!
 //! | line | says |
 //! |---|---|
@@ -11,6 +10,7 @@
 //! | `words` | the words, one a line; `p.json` and `s.lio` where there is none |
 //! | `fail N` | call N of the store fails |
 //! | `status STATUS` | the answer |
+//! | `exit N` | the exit status of the program |
 //! | `file NAME`, `absent NAME` | what a file holds afterwards, or that it isn't there |
 //! | `says` | how the words begin that are printed of the answer |
 //! | `entries N` | how many turns were taken; none where there is none |
@@ -27,6 +27,7 @@ script
 |send c "hi"
 |end
 status Done
+exit 0
 file out.txt
 |hi~
 entries 2
@@ -123,6 +124,7 @@ script
 |send c "hi"
 |end
 status BadPolicy(1, 0)
+exit 4
 says
 |lio_host: BadPolicy(1, 0): p.json: the document: a policy is a JSON text~
 absent out.txt
@@ -286,7 +288,7 @@ script
 |end
 status BadScript(2, 4)
 says
-|lio_host: BadScript(2, 4): s.lio:2: a procedure is given as many arguments as its first `proc` line has parameters; `go` has 1 parameters and is given 2
+|lio_host: BadScript(2, 4): s.lio:2: a procedure is given as many arguments as its first `proc` line has parameters; parameters of `go`: 1, arguments: 2
 |  2 | fork r <alice %% True> 1 0 go c 7~
 absent out.txt
 case a call with too few arguments, where lines end with carriage returns
@@ -298,7 +300,7 @@ script
 |end^
 status BadScript(2, 4)
 says
-|lio_host: BadScript(2, 4): s.lio:2: a procedure is given as many arguments as its first `proc` line has parameters; `go` has 1 parameters and is given 0
+|lio_host: BadScript(2, 4): s.lio:2: a procedure is given as many arguments as its first `proc` line has parameters; parameters of `go`: 1, arguments: 0
 |  2 | call x go~
 absent out.txt
 case a try that ends without catch, where lines end with carriage returns
@@ -334,6 +336,7 @@ script
 |proc other c
 |end
 status BadStart(0, NoProc(0))
+exit 6
 says
 |lio_host: BadStart(0, NoProc(0)): p.json: task "main" runs the procedure `main`, which s.lio doesn't have; add a line `proc main`, or name another procedure~
 absent out.txt
@@ -343,7 +346,7 @@ script
 |end
 status BadStart(0, Arity(0))
 says
-|lio_host: BadStart(0, Arity(0)): p.json: task "main" gives `main` 1 arguments, and in s.lio it has 0 parameters~
+|lio_host: BadStart(0, Arity(0)): p.json: task "main" doesn't fit `main` of s.lio; parameters: 0, arguments: 1~
 absent out.txt
 "#;
 
@@ -359,6 +362,7 @@ script
 |send c "hi"
 |end
 status Clash(p.json)
+exit 11
 says
 |lio_host: Clash(p.json): p.json: the file p.json is to be written, but it is the policy's own file~
 case a channel's file is the script
@@ -380,6 +384,7 @@ script
 |wait
 |end
 status BadScript(2, 1)
+exit 5
 "#;
 
 /// Files that can't be had or written.
@@ -395,8 +400,9 @@ script
 |end
 fail 0
 status ReadFault(p.json)
+exit 3
 says
-|lio_host: ReadFault(p.json): the file couldn't be read~
+|lio_host: ReadFault(p.json): the policy's file couldn't be read~
 absent out.txt
 case the script isn't read
 fail 1
@@ -405,8 +411,9 @@ absent out.txt
 case the channel's file isn't written
 fail 2
 status WriteFault(out.txt)
+exit 7
 says
-|lio_host: WriteFault(out.txt): the file couldn't be written~
+|lio_host: WriteFault(out.txt): a channel's file couldn't be written~
 absent out.txt
 entries 2
 case a file that isn't written is as before
@@ -428,8 +435,9 @@ words
 |p.json
 |t.lio
 status Missing(t.lio)
+exit 2
 says
-|lio_host: Missing(t.lio): there is no such file~
+|lio_host: Missing(t.lio): the script's file isn't there~
 absent out.txt
 case the policy is missing
 words
@@ -452,7 +460,7 @@ policy
 fail 2
 status WriteFault(out\n\x1b.txt)
 says
-|lio_host: WriteFault(out\n\x1b.txt): the file couldn't be written~
+|lio_host: WriteFault(out\n\x1b.txt): a channel's file couldn't be written~
 entries 2
 "#;
 
@@ -460,6 +468,7 @@ entries 2
 pub const WRONG_WORDS: &str = r#"case no words
 words
 status BadWords
+exit 1
 says
 |lio_host: BadWords: the words aren't two names~
 absent out.txt

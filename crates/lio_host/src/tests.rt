@@ -4,12 +4,16 @@ use crate::cases::first_failing;
 use crate::limits::{FULL_POLICY, written_out};
 use crate::rows::{CLASHES, FAULTS, REFUSED_POLICIES, REFUSED_SCRIPTS, RUNS, WRONG_WORDS};
 use crate::worked::WORKED_RUNS;
+use std::fs::Files;
 use std::process::Abort;
 use std::test::Fail;
 
 /// Asserts that each case of a text holds, and else names the first that doesn't.
-fn assert_all_hold<R: Abort + AllocGlobal>(rt: &R, rows: &str) -> Result<(), Fail> {
-    if let Some(name) = first_failing(rt.alloc(), rows)? {
+fn assert_all_hold(
+    rt: &(impl Abort + AllocGlobal + Files + Eprint),
+    rows: &str,
+) -> Result<(), Fail> {
+    if let Some(name) = first_failing(rt, rows)? {
         panic!(rt; "{name}");
     }
     Ok(())

@@ -2,3 +2,4 @@ pub mod MachineState
 pub mod MachineParts
 pub mod Invariant
 pub mod Births
+pub mod Laws

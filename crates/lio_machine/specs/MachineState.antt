@@ -1,13 +1,11 @@
 -- A machine, as contracts see it, and what its turns do to it.
-use Rattle.std.specs.Prelude.{◌≡◌, ℕ, List, [], ◌∷◌, ◌++◌, false, flat_map, length, take, Some}
+use Rattle.std.specs.Prelude.{◌≡◌, ℕ, List, [], ◌∷◌, ◌++◌, flat_map, length, take, Some}
 use Rattle.lio_values.specs.declared.entry.Entry.{Entry}
 use Rattle.lio_syntax.specs.Statements.{Procedure}
-use Rattle.lio_calculus.specs.Step.{Configuration, can, step}
+use Rattle.lio_calculus.specs.Step.{Configuration, step}
 use Rattle.lio_calculus.specs.Run.{run}
 use Rattle.lio_schedule.specs.Round.{born_in, round}
 use Rattle.lio_schedule.specs.Rounds.{stepped}
-use Rattle.lio_machine.specs.declared.machine.TurnFault.{TurnFault}
-use Rattle.lio_machine.specs.declared.machine.TurnFault.TheVariants.{Still, NoMemory}
 
 -- a machine: its script, its configuration, the entries of the turns that it has taken, and the order of its tasks
 pub record MachineState : Type 0 where
@@ -40,8 +38,3 @@ pub record HasWalked (old new : MachineState) (walked : List ℕ) : Type 0 where
   pub has_run : HasRun old new (round stepped walked old.configuration).moved
   pub after : (round stepped walked old.configuration).after ≡ new.configuration
   pub order : new.order ≡ old.order ++ (round stepped walked old.configuration).born
-
--- why a task takes no turn: it can't, or no memory is left
-abbrev pub Stays : Configuration → ℕ → TurnFault → Type 0
-Stays c k (Still n) = (n ≡ k) × (can c k ≡ false)
-Stays c k NoMemory = Unit {0}

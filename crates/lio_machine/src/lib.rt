@@ -2,6 +2,8 @@
 #![tactic(auto)]
 
 mod births;
+pub mod laws;
 mod machine;
 
-pub use machine::{Machine, TurnFault};
+pub use lio_config::StepFault as TurnFault;
+pub use machine::Machine;

@@ -3,33 +3,12 @@ ghost use Rattle.std.specs.Prelude.{◌≡◌};
 
 use crate::births::born_in;
 use lio_clauses::NoMemory;
-use lio_config::{Config, StepFault};
+use lio_config::{Config, StepFault as TurnFault};
 use lio_events::Journal;
 use lio_syntax::Script;
 use lio_values::Entry;
 use std::alloc::Global;
 use std::marker::Model;
-use thiserror::Error;
-
-/// Why a task took no turn.
-#[derive(Debug, PartialEq, Drop, Error)]
-pub enum TurnFault {
-    /// The task with this number can't take a turn.
-    #[error("task {0} can't take a turn")]
-    Still(u32),
-    #[error("out of memory")]
-    NoMemory,
-}
-
-impl From<NoMemory> for TurnFault {
-    ghost use Rattle.lio_machine.specs.declared.machine.TurnFault.TheVariants.{NoMemory as without_memory};
-
-    ghost from_gives = { λ _ fault. fault ≡ without_memory };
-
-    fn from(_error: NoMemory) -> TurnFault {
-        TurnFault::NoMemory
-    }
-}
 
 /// A configuration with its script, and the journal of the turns taken so far.
 #[derive(Drop)]
@@ -62,8 +41,10 @@ impl Machine {
     ghost use Rattle.lio_schedule.specs.Round.{round};
     ghost use Rattle.lio_schedule.specs.Laws.{IsOrderOf};
     ghost use Rattle.lio_schedule.specs.Rounds.{IsComplete, rounds_from, stepped, tasks};
-    ghost use Rattle.lio_machine.specs.MachineState.{HasBegun, HasRun, HasTaken, HasWalked, Stays};
+    ghost use Rattle.lio_config.specs.Takes.{Stays};
+    ghost use Rattle.lio_machine.specs.MachineState.{HasBegun, HasRun, HasTaken, HasWalked};
     ghost use Rattle.lio_machine.specs.MachineParts.{machine_of};
+    ghost use Rattle.lio_machine.specs.Laws.{IsSeenAsErased};
 
     /// A machine that has taken no turn, of a well-formed configuration.
     pub fn new(alloc: Global, config: Config, script: Script) -> Result<Machine, NoMemory>
@@ -126,8 +107,7 @@ impl Machine {
                 self.entries.push_reserved(entry);
                 Ok(())
             }
-            Err(StepFault::Still(k)) => Err(TurnFault::Still(k)),
-            Err(StepFault::NoMemory) => Err(TurnFault::NoMemory),
+            Err(fault) => Err(fault),
         }
     }
 
@@ -145,11 +125,7 @@ impl Machine {
         ensures err { OnErr result (machine_of self.new ≡ machine_of self.old) }
     {
         let ticket = self.ticket();
-        let entry = match self.config.next_entry(alloc, &self.script, k, ticket) {
-            Ok(entry) => entry,
-            Err(StepFault::Still(k)) => return Err(TurnFault::Still(k)),
-            Err(StepFault::NoMemory) => return Err(TurnFault::NoMemory),
-        };
+        let entry = self.config.next_entry(alloc, &self.script, k, ticket)?;
         match self.advance(alloc, k) {
             Ok(()) => Ok(entry),
             Err(fault) => {
@@ -212,11 +188,12 @@ impl Machine {
         self.run_rounds(alloc)
     }
 
-    /// The journal of the turns taken, and the configuration after them.
+    /// The journal of the turns taken, and the configuration after them. Each observer sees of both what the erased calculus gives.
     pub fn finish(self) -> (Journal, Config)
         ensures journal { result.0 ≡ (machine_of self).entries }
         ensures configuration { configuration_of (machine_of self).script result.1 ≡ (machine_of self).configuration }
         ensures well_formed { IsWellFormed (machine_of self).configuration }
+        ensures seen { IsSeenAsErased (machine_of self) }
     {
         (Journal::of(self.entries), self.config)
     }

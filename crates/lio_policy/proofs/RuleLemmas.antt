@@ -148,14 +148,13 @@ unfolding labelled_task
 no_labels names t h = no_labels_by (label_of names t.label) (label_of names t.clearance) _ h
 
 -- a loop goes on past an item that does not fail
-pub goes_on : {X : Type 0} (fails : List X → X → Bool) (before now xs all : List X) (i : ℕ) (x : X) (place : ℕ) → i < length xs → x ≡ get_or xs i x → fails before x ≡ false → now ≡ before ++ x ∷ []
-    → (place ≡ i) × (before ++ drop i xs ≡ all) × (first_failing i (behind fails before (drop i xs)) ≡ first_failing 0 (behind fails [] all))
-    → (place + 1 ≡ i + 1) × (now ++ drop (i + 1) xs ≡ all) × (first_failing (i + 1) (behind fails now (drop (i + 1) xs)) ≡ first_failing 0 (behind fails [] all))
-goes_on fails before now xs all i x place within is fine added inv =
+pub goes_on : {X : Type 0} (fails : List X → X → Bool) (before now xs all : List X) (i : ℕ) (x : X) → i < length xs → x ≡ get_or xs i x → fails before x ≡ false → now ≡ before ++ x ∷ []
+    → (before ++ drop i xs ≡ all) × (first_failing i (behind fails before (drop i xs)) ≡ first_failing 0 (behind fails [] all))
+    → (now ++ drop (i + 1) xs ≡ all) × (first_failing (i + 1) (behind fails now (drop (i + 1) xs)) ≡ first_failing 0 (behind fails [] all))
+goes_on fails before now xs all i x within is fine added inv =
     let split : drop i xs ≡ x ∷ drop (i + 1) xs = drop_more xs i x within ∙ ap (λ y. y ∷ drop (i + 1) xs) (sym is) in (
-      ap (λ n. n + 1) inv.0,
-      ap (λ ys. ys ++ drop (i + 1) xs) added ∙ append_assoc before (x ∷ []) (drop (i + 1) xs) ∙ ap (λ ys. before ++ ys) (sym split) ∙ inv.1,
+      ap (λ ys. ys ++ drop (i + 1) xs) added ∙ append_assoc before (x ∷ []) (drop (i + 1) xs) ∙ ap (λ ys. before ++ ys) (sym split) ∙ inv.0,
       ap (λ ys. first_failing (i + 1) (behind fails ys (drop (i + 1) xs))) added
           ∙ sym (ap (λ b. first_failing i (b ∷ behind fails (before ++ x ∷ []) (drop (i + 1) xs))) fine)
-          ∙ ap (λ ys. first_failing i (behind fails before ys)) (sym split) ∙ inv.2,
+          ∙ ap (λ ys. first_failing i (behind fails before ys)) (sym split) ∙ inv.1,
     )

@@ -6,7 +6,6 @@ ghost use Rattle.lio_policy.specs.Rules.{begins_with_dash, files_fail, no_file};
 
 use crate::keys::{Key, add_keys};
 use crate::table::Table;
-use lio_clauses::NoMemory;
 use lio_draft::{Draft, FileDraft, PolicyFault, first_channel, first_input};
 use std::alloc::Global;
 
@@ -52,8 +51,8 @@ impl Key<FileDraft> for ByFile {
         item.file.bytes()
     }
 
-    fn is_bad(&self, _alloc: Global, key: &[u8]) -> Result<bool, NoMemory> {
-        Ok(is_no_file(key))
+    fn is_bad(&self, key: &[u8]) -> bool {
+        is_no_file(key)
     }
 }
 
@@ -69,7 +68,7 @@ fn add_files(alloc: Global, draft: &Draft, files: &mut Table) -> Result<(), Poli
     Ok(())
 }
 
-/// Whether the files of a draft's channels and inputs may be so, and differ.
+/// Tests that the files of a draft's channels and inputs may be so, and differ.
 pub(crate) fn check_files(alloc: Global, draft: &Draft) -> Result<(), PolicyFault>
     ensures { Passes RULE 0 (entries (files_fail draft.now)) result (λ _. Unit {0}) }
 {

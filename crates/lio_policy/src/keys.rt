@@ -1,10 +1,9 @@
 //! Entries by a text of theirs that is not to be there before.
-ghost use Rattle.std.specs.Prelude.{◌≡◌, ◌++◌, ◌<◌, ◌^◌, IfOk, map};
+ghost use Rattle.std.specs.Prelude.{◌≡◌, ◌++◌, ◌<◌, ◌^◌, map};
 ghost use Rattle.lio_draft.specs.Failing.{Passes};
 ghost use Rattle.lio_policy.specs.Rules.{behind, key_fails};
 
 use crate::table::Table;
-use lio_clauses::NoMemory;
 use lio_draft::{PolicyFault, fault_at};
 use std::alloc::Global;
 
@@ -21,15 +20,8 @@ pub(crate) trait Key<T> {
         ensures { result.now ≡ key_of self.now item.now };
 
     /// Whether the text may not be one.
-    fn is_bad(&self, alloc: Global, key: &[u8]) -> Result<bool, NoMemory>
-        ensures { IfOk result (λ bad. bad ≡ is_wrong self.now key.now) };
-}
-
-/// Whether a text may not be one, or is in the table.
-fn fails<T, K: Key<T>>(alloc: Global, by: &K, table: &Table, key: &[u8]) -> Result<bool, NoMemory>
-    ensures { IfOk result (λ fails. fails ≡ key_fails (K.is_wrong by.now) table.now key.now) }
-{
-    Ok(by.is_bad(alloc, key)? || table.find(key).is_some())
+    fn is_bad(&self, key: &[u8]) -> bool
+        ensures { result ≡ is_wrong self.now key.now };
 }
 
 /// Puts the texts of all entries from the given one on into the table, up to the first that fails.
@@ -46,14 +38,12 @@ pub(crate) fn add_keys<T, K: Key<T>>(
         (behind (key_fails (K.is_wrong by.now)) table.old (map (K.key_of by.now) items.now)) result
         (λ _. table.new ≡ table.old ++ map (K.key_of by.now) items.now) }
 {
-    let mut place = 0;
-    for item in items {
+    for (place, item) in items.iter().enumerate() {
         let key = by.key(item);
-        if fails(alloc, by, table, key)? {
-            return Err(fault_at(rule, first + place));
+        if by.is_bad(key) || table.find(key).is_some() {
+            return Err(fault_at(rule, first + place as u128));
         }
         table.add(alloc, key)?;
-        place += 1;
     }
     Ok(())
 }

@@ -223,10 +223,10 @@ fn is_above(task: &LabelledTask) -> bool
 fn first_above(tasks: &[LabelledTask]) -> Option<usize>
     ensures { result ≡ position is_above tasks.now }
 {
-    tasks.iter().position(|task| is_above(task))
+    tasks.iter().position(is_above)
 }
 
-/// Whether the tasks' labels flow to their clearances.
+/// Tests that the tasks' labels flow to their clearances.
 pub(crate) fn check_flow(draft: &Draft, tasks: &[LabelledTask]) -> Result<(), PolicyFault>
     requires { tasks.now ≡ tasks_of draft.now }
     ensures { Passes FLOW 0 (entries (flow_fails draft.now)) result (λ _. Unit {0}) }

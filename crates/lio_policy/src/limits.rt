@@ -1,5 +1,5 @@
 //! Rule 8: limits.
-ghost use Rattle.std.specs.Prelude.{◌≡◌, ◌<◌, ◌≤◌, ◌+◌, ◌*◌, ◌^◌, ◌||◌, nat_le, nat_lt, []};
+ghost use Rattle.std.specs.Prelude.{◌≡◌, ◌<◌, ◌^◌, ◌||◌, nat_le, nat_lt, []};
 ghost use Rattle.std.specs.List.{list_any};
 ghost use Rattle.lio_draft.specs.Failing.{entries, Passes};
 ghost use Rattle.lio_policy.specs.Rules as spec;
@@ -41,11 +41,11 @@ fn turns_in_all(tasks: &[TaskDraft]) -> u128
 fn work_fails(longest: u64, tasks: &[TaskDraft]) -> bool
     ensures { result ≡ spec.work_fails longest tasks.now }
 {
-    let is_longest = 1 <= longest && longest <= MOST_LONGEST;
+    let is_longest = (1..=MOST_LONGEST).contains(&longest);
     !(is_longest && turns_in_all(tasks) * longest as u128 <= MOST_WORK)
 }
 
-/// Whether there are at most 256 entries from the given one on.
+/// Tests that there are at most 256 entries from the given one on.
 fn check_count(files: &[FileDraft], first: u128) -> Result<(), PolicyFault>
     requires { first < 2 ^ 67 }
     ensures { Passes RULE first (behind is_past_256 [] files.now) result (λ _. Unit {0}) }
@@ -92,21 +92,19 @@ fn task_fails(place: usize, turns: u64, cells: u64, task: &TaskDraft, longest: u
         || has_wrong_args(task, longest)
 }
 
-/// Whether the tasks, which are entries from the given one on, keep to the limits.
+/// Tests that the tasks, which are entries from the given one on, keep to the limits.
 fn check_tasks(tasks: &[TaskDraft], longest: u64, first: u128) -> Result<(), PolicyFault>
     requires { first < 2 ^ 67 }
     ensures { Passes RULE first (behind (task_fails longest) [] tasks.now) result (λ _. Unit {0}) }
 {
-    let mut place = 0;
     let mut turns = 0u64;
     let mut cells = 0u64;
-    for task in tasks {
+    for (place, task) in tasks.iter().enumerate() {
         turns += task.turns as u64;
         cells += task.cells as u64;
         if task_fails(place, turns, cells, task, longest) {
             return Err(fault_at(RULE, first + place as u128));
         }
-        place += 1;
     }
     Ok(())
 }

@@ -5,7 +5,7 @@ ghost use Rattle.lio_policy.specs.Rules.{behind, principal_fails, key_fails, no_
 
 use crate::keys::{Key, add_keys};
 use crate::table::Table;
-use lio_clauses::{NameFault, Names, NoMemory};
+use lio_clauses::{NameFault, Names, NoMemory, name_fault};
 use lio_draft::{
     Draft, FIRST_PRINCIPAL, FileDraft, PolicyFault, TaskDraft, fault_at, first_channel,
     first_input, first_task,
@@ -48,12 +48,10 @@ fn add_all(
     ensures { Passes RULE first (behind principal_fails [] principals.now) result
         (λ _. names.new ≡ principals.now) }
 {
-    let mut place = 0;
-    for name in principals {
+    for (place, name) in principals.iter().enumerate() {
         if add_name(alloc, names, name.bytes())? {
-            return Err(fault_at(RULE, first + place));
+            return Err(fault_at(RULE, first + place as u128));
         }
-        place += 1;
     }
     Ok(())
 }
@@ -75,10 +73,10 @@ fn add_principals(alloc: Global, principals: &[Text], first: u128) -> Result<Nam
 }
 
 /// Whether these bytes are no name.
-fn is_no_name(alloc: Global, bytes: &[u8]) -> Result<bool, NoMemory>
-    ensures { IfOk result (λ no. no ≡ no_name bytes.now) }
+fn is_no_name(bytes: &[u8]) -> bool
+    ensures { result ≡ no_name bytes.now }
 {
-    add_name(alloc, &mut Names::new(alloc)?, bytes)
+    name_fault(bytes).is_some()
 }
 
 /// The names of entries.
@@ -93,8 +91,8 @@ impl Key<FileDraft> for ByName {
         item.name.bytes()
     }
 
-    fn is_bad(&self, alloc: Global, key: &[u8]) -> Result<bool, NoMemory> {
-        is_no_name(alloc, key)
+    fn is_bad(&self, key: &[u8]) -> bool {
+        is_no_name(key)
     }
 }
 
@@ -107,8 +105,8 @@ impl Key<TaskDraft> for ByName {
         item.name.bytes()
     }
 
-    fn is_bad(&self, alloc: Global, key: &[u8]) -> Result<bool, NoMemory> {
-        is_no_name(alloc, key)
+    fn is_bad(&self, key: &[u8]) -> bool {
+        is_no_name(key)
     }
 }
 

@@ -7,8 +7,11 @@ use std::marker::Model;
 /// A channel or an input: its name, its label, and the file that it is written to or read from.
 #[derive(Debug, Drop)]
 pub struct FileEntry {
+    /// Its name: 1 to 32 bytes.
     pub name: Text,
+    /// Its label.
     pub label: Label,
+    /// The name of its file: 1 to 255 bytes.
     pub file: Text,
 }
 
@@ -23,12 +26,19 @@ pub enum Arg {
 /// A task: the procedure that it runs, its label and clearance, and the turns, cells and arguments that it is given.
 #[derive(Drop)]
 pub struct TaskEntry {
+    /// Its name: 1 to 32 bytes.
     pub name: Text,
+    /// The name of the procedure that it runs.
     pub proc_name: Text,
+    /// The label at which it begins.
     pub label: Label,
+    /// Its clearance, above which its label never rises.
     pub clearance: Label,
+    /// How many turns it has, those of its children among them.
     pub turns: u32,
+    /// How many cells it has: a reference and a variable take one, a child one and those that it is given.
     pub cells: u32,
+    /// What its procedure is called with, at most 8.
     pub args: Args,
 }
 
@@ -36,10 +46,15 @@ pub struct TaskEntry {
 /// arguments, limits and files (`IsPolicy`), which a proof learns where the code reads a field.
 #[derive(Drop)]
 pub struct Policy {
+    /// How many bytes a text may have: 1 to 65,536.
     pub longest: u32,
+    /// The principals, at most 64.
     pub names: Names,
+    /// The channels, at most 256.
     pub channels: FileEntries,
+    /// The inputs, at most 256.
     pub inputs: FileEntries,
+    /// The tasks, at most 256.
     pub tasks: TaskEntries,
 }
 

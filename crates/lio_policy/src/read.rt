@@ -26,7 +26,7 @@ fn is_one(version: Option<u64>) -> bool
     matches!(version, Some(1))
 }
 
-/// Whether the version is 1.
+/// Tests that the version is 1.
 fn check_version(draft: &Draft) -> Result<(), PolicyFault>
     ensures { Passes VERSION 0 (entries (version_fails draft.now)) result (λ _. Unit {0}) }
 {

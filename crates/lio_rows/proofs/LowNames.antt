@@ -20,7 +20,7 @@ use Rattle.lio_named.proofs.Starts.{start_names_only}
 use Rattle.lio_config.specs.declared.config.Holder.{Holder}
 use Rattle.lio_erasure.specs.declared.low.LowFault.{LowFault}
 use Rattle.lio_erasure.specs.Low.{IsSeenOfSound, low_configuration_of}
-use Rattle.lio_erasure.specs.LowParts.{LowState}
+use Rattle.lio_erasure.specs.LowParts.{ErasedState}
 use Rattle.lio_erasure.specs.Turn.{TakesTurn}
 
 -- what an equal observer sees of the first configuration, with an equal length
@@ -40,16 +40,16 @@ seen_names_only policy script texts observer seen is over e =
     subst (NamesOnly policy.names) (sym e) (erased_names_only policy.names observer (start_of policy script texts) (start_names_only policy script texts is over))
 
 -- what is answered where a task is asked for a turn: its entry can be printed, and what it leaves names only principals that have names
-pub record IsTakenNamed (names : List (List ℕ)) (state : LowState) (contents : List Content) (result : Result Entry LowFault) : Type 0 where
+pub record IsTakenNamed (names : List (List ℕ)) (state : ErasedState) (contents : List Content) (result : Result Entry LowFault) : Type 0 where
   pub entry : IfOk result (IsPrintable names)
   pub named : NamesOnly names state.configuration
   pub contents_named : All (IsContentNamed names) contents
 
-pub taken_is_named : (names : List (List ℕ)) (k : ℕ) (old new : LowState) (before after : List Content) (result : Result Entry LowFault) → NamesOnly names old.configuration → All (IsContentNamed names) before
+pub taken_is_named : (names : List (List ℕ)) (k : ℕ) (old new : ErasedState) (before after : List Content) (result : Result Entry LowFault) → NamesOnly names old.configuration → All (IsContentNamed names) before
     → IfOk result (TakesTurn old new k before after) → OnErr result ((new ≡ old) × (after ≡ before)) → IsTakenNamed names new after result
 taken_is_named names k old new before after (Ok entry) named all ok err =
     let turn : LowTurn = record { entry = entry; next = new.configuration; left = after } in
     let taken = low_turn_names_only names old.observer 0 old.configuration k before turn named all ok.turn in
     record { entry = taken.entry; named = taken.next; contents_named = taken.left }
 taken_is_named names k old new before after (Err fault) named all ok err =
-    record { entry = tt; named = subst (λ (state : LowState). NamesOnly names state.configuration) (sym err.0) named; contents_named = subst (All (IsContentNamed names)) (sym err.1) all }
+    record { entry = tt; named = subst (λ (state : ErasedState). NamesOnly names state.configuration) (sym err.0) named; contents_named = subst (All (IsContentNamed names)) (sym err.1) all }

@@ -6,6 +6,7 @@ use Rattle.lio_clauses.specs.declared.faults.NoMemory.{NoMemory}
 use Rattle.lio_syntax.specs.Statements.{Procedure}
 use Rattle.lio_calculus.specs.Step.{Cell, Configuration}
 use Rattle.lio_calculus.specs.Run as calculus
+use Rattle.lio_calculus.specs.Sound.{IsSound}
 use Rattle.lio_calculus.specs.Laws.{RunSeenAs}
 use Rattle.lio_calculus.proofs.LawLemmas.{run_is_erased_run}
 use Rattle.lio_calculus.proofs.LocalityLemmas.{step_changes_two_cells}
@@ -69,14 +70,15 @@ run-printable policy script texts (Ok ran) keeps over is = runs_are_printable po
 run-printable policy script texts (Err error) keeps over is = is
 
 -- an observer sees all that is sent to each channel below it
-channels-seen : (policy : PolicyParts) (script : List Procedure) (texts : List (List ℕ)) (ran : calculus.Ran) → RunsRounds (start_of policy script texts) ran → (observer : Label) → SeesChannels observer policy ran.entries
-channels-seen policy script texts ran is observer number channel at below =
-    sends_are_seen observer channel.label [] number 0 0 (start_of policy script texts) (rounds (start_of policy script texts)) ran is.first.sound
-    (ap (λ (cell : Cell). cell.state) ((cells_stand_in_order policy script texts).channels number channel at)) below is.is_run
+pub channels-seen : (policy : PolicyParts) (script : List Procedure) (texts : List (List ℕ)) (ks : List ℕ) (ran : calculus.Ran) → IsSound (start_of policy script texts)
+    → calculus.run 0 (start_of policy script texts) ks ≡ Some ran → (observer : Label) → SeesChannels observer policy ran.entries
+channels-seen policy script texts ks ran sound runs observer number channel at below =
+    sends_are_seen observer channel.label [] number 0 0 (start_of policy script texts) ks ran sound
+    (ap (λ (cell : Cell). cell.state) ((cells_stand_in_order policy script texts).channels number channel at)) below runs
 
 pub run-channels : (policy : PolicyParts) (script : List Procedure) (texts : List (List ℕ)) (result : Result Ran NoMemory)
     → IfOk result (λ ran. RunsRounds (start_of policy script texts) (ran_of script ran)) → IfOk result (λ ran. (observer : Label) → SeesChannels observer policy ran.journal)
-run-channels policy script texts (Ok ran) is = channels-seen policy script texts (ran_of script ran) is
+run-channels policy script texts (Ok ran) is = channels-seen policy script texts (rounds (start_of policy script texts)) (ran_of script ran) is.first.sound is.is_run
 run-channels policy script texts (Err error) is = is
 
 -- each release is by a privilege of the policy

@@ -20,9 +20,13 @@ use Rattle.lio_schedule.proofs.TurnLemmas.{step-ticket, with_ticket}
 use Rattle.lio_machine.specs.MachineState.{HasTaken, MachineState}
 use Rattle.lio_machine.proofs.RunLemmas.{run-nothing, run-step}
 use Rattle.lio_named.proofs.Starts.{runs_are_printable}
+use Rattle.lio_powers.specs.Given.{powers_of}
+use Rattle.lio_powers.specs.Laws.{ReleasesByPowers}
+use Rattle.lio_powers.proofs.LawLemmas.{releases_are_of_policy}
 use Rattle.lio_run.specs.declared.by_schedule.Scheduled.{Scheduled}
-use Rattle.lio_run.specs.Runs.{ran_of}
+use Rattle.lio_run.specs.Runs.{SeesChannels, ran_of}
 use Rattle.lio_run.specs.Schedule.{HasGoneOn, ScheduledRun, behind, by_schedule, passed_over, scheduled_of, takers}
+use Rattle.lio_run.proofs.RunLemmas.{channels-seen}
 
 -- a run by a schedule, over a task that can't take its turn and over one that does
 by-still : (ticket : ℕ) (c : Configuration) (k : ℕ) (ks : List ℕ) → step ticket c k ≡ None → by_schedule ticket c (k ∷ ks) ≡ passed_over (by_schedule ticket c ks)
@@ -127,6 +131,30 @@ scheduled-run : (c : Configuration) (script : List Procedure) (schedule : List �
     → run 0 c (takers schedule (by_schedule 0 c schedule).taken) ≡ Some (ran_of script scheduled.ran)
 scheduled-run c script schedule scheduled is =
     schedule-runs 0 c schedule ∙ ap (λ (s : ScheduledRun). let ran : Ran = record { entries = s.entries; last = s.last } in Some ran) (sym is)
+
+-- so those who took their turns have run
+pub schedule-is-run : (c : Configuration) (script : List Procedure) (schedule : List ℕ) (result : Result Scheduled NoMemory)
+    → IfOk result (λ scheduled. scheduled_of script scheduled ≡ by_schedule 0 c schedule)
+    → IfOk result (λ scheduled. run 0 c (takers schedule scheduled.taken.items) ≡ Some (ran_of script scheduled.ran))
+schedule-is-run c script schedule (Ok scheduled) is =
+    ap (λ (s : ScheduledRun). run 0 c (takers schedule s.taken)) is ∙ scheduled-run c script schedule scheduled is
+schedule-is-run c script schedule (Err error) is = is
+
+pub schedule-channels : (policy : PolicyParts) (script : List Procedure) (texts : List (List ℕ)) (schedule : List ℕ) (result : Result Scheduled NoMemory) → IsPolicy policy → SaysLiterals script
+    → IfOk result (λ scheduled. scheduled_of script scheduled ≡ by_schedule 0 (start_of policy script texts) schedule)
+    → IfOk result (λ scheduled. (observer : Label) → SeesChannels observer policy scheduled.ran.journal)
+schedule-channels policy script texts schedule (Ok scheduled) keeps says is =
+    channels-seen policy script texts (takers schedule (by_schedule 0 (start_of policy script texts) schedule).taken) (ran_of script scheduled.ran)
+    (start_is_sound policy script texts keeps says) (scheduled-run (start_of policy script texts) script schedule scheduled is)
+schedule-channels policy script texts schedule (Err error) keeps says is = is
+
+pub schedule-powers : (policy : PolicyParts) (script : List Procedure) (texts : List (List ℕ)) (schedule : List ℕ) (result : Result Scheduled NoMemory) → IsPolicy policy → SaysLiterals script
+    → IfOk result (λ scheduled. scheduled_of script scheduled ≡ by_schedule 0 (start_of policy script texts) schedule)
+    → IfOk result (λ scheduled. ReleasesByPowers (powers_of policy) (ran_of script scheduled.ran))
+schedule-powers policy script texts schedule (Ok scheduled) keeps says is =
+    releases_are_of_policy policy script texts 0 (takers schedule (by_schedule 0 (start_of policy script texts) schedule).taken) (ran_of script scheduled.ran) keeps says
+    (scheduled-run (start_of policy script texts) script schedule scheduled is)
+schedule-powers policy script texts schedule (Err error) keeps says is = is
 
 pub schedule-seen : (policy : PolicyParts) (script : List Procedure) (texts : List (List ℕ)) (schedule : List ℕ) (result : Result Scheduled NoMemory) → IsPolicy policy → SaysLiterals script
     → IfOk result (λ scheduled. scheduled_of script scheduled ≡ by_schedule 0 (start_of policy script texts) schedule)

@@ -14,9 +14,11 @@ pub record ScheduledRun : Type 0 where
   pub last : Configuration
   pub taken : List Bool
 
+-- the task before this run is passed over
 abbrev pub passed_over : ScheduledRun → ScheduledRun
 passed_over rest = record rest { taken = false ∷ rest.taken }
 
+-- the task before this run has taken its turn
 abbrev pub behind : Entry → ScheduledRun → ScheduledRun
 behind entry rest = record rest { entries = entry ∷ rest.entries; taken = true ∷ rest.taken }
 

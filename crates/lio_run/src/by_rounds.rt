@@ -58,6 +58,7 @@ pub fn run(alloc: Global, policy: &Policy, script: Script, texts: &[Text]) -> Re
     ensures powers { IfOk result (λ ran. ReleasesByPowers (powers_of policy.now) (ran_of script ran)) }
     ensures printable { IfOk result (λ ran. All (IsPrintable policy.now.names) ran.journal) }
 {
+    // What these calls ensure is what the clauses on the run ask for.
     policy_keeps_rules(policy);
     let _ = script.lines();
     run_to_the_end(alloc, policy, script, texts)

@@ -1,5 +1,5 @@
 //! A run in an order that the caller chooses.
-ghost use Rattle.std.specs.Prelude.{◌≡◌, All, IfOk, None, length};
+ghost use Rattle.std.specs.Prelude.{◌≡◌, All, IfOk, None, Some, length};
 ghost use Rattle.lio_labels.specs.declared.label.Label.{Label};
 ghost use Rattle.lio_events.specs.Printable.{IsPrintable};
 ghost use Rattle.lio_syntax.specs.Verdict.{IsOver};
@@ -7,9 +7,12 @@ ghost use Rattle.lio_wellformed.specs.WellFormed.{IsWellFormed};
 ghost use Rattle.lio_start.specs.Fits.{fits};
 ghost use Rattle.lio_start.specs.Start.{start_of};
 ghost use Rattle.lio_calculus.specs.Laws.{RunSeenAs};
+ghost use Rattle.lio_calculus.specs.Run as calculus;
+ghost use Rattle.lio_powers.specs.Given.{powers_of};
+ghost use Rattle.lio_powers.specs.Laws.{ReleasesByPowers};
 ghost use Rattle.lio_machine.specs.MachineParts.{machine_of};
-ghost use Rattle.lio_run.specs.Runs.{ran_of};
-ghost use Rattle.lio_run.specs.Schedule.{HasGoneOn, by_schedule, scheduled_of};
+ghost use Rattle.lio_run.specs.Runs.{SeesChannels, ran_of};
+ghost use Rattle.lio_run.specs.Schedule.{HasGoneOn, by_schedule, scheduled_of, takers};
 
 use crate::by_rounds::Ran;
 use lio_clauses::NoMemory;
@@ -72,7 +75,7 @@ fn run_schedule(
 }
 
 /// Runs a script from the first configuration of a policy, over the texts of the inputs: each task of the schedule in order takes a turn, unless it can't.
-/// Whatever the schedule is, each observer sees of the run what the erased calculus gives.
+/// Those who take theirs have run, and whatever the schedule is, each observer sees of the run what the erased calculus gives.
 pub fn run_by_schedule(
     alloc: Global,
     policy: &Policy,
@@ -85,9 +88,13 @@ pub fn run_by_schedule(
     requires inputs { length texts.now ≡ length policy.now.inputs }
     ensures run { IfOk result (λ scheduled. scheduled_of script scheduled ≡ by_schedule 0 (start_of policy.now script texts.now) schedule.now) }
     ensures seen { IfOk result (λ scheduled. (observer : Label) → RunSeenAs observer (start_of policy.now script texts.now) (ran_of script scheduled.ran)) }
+    ensures is_run { IfOk result (λ scheduled. calculus.run 0 (start_of policy.now script texts.now) (takers schedule.now scheduled.taken.items) ≡ Some (ran_of script scheduled.ran)) }
+    ensures channels { IfOk result (λ scheduled. (observer : Label) → SeesChannels observer policy.now scheduled.ran.journal) }
+    ensures powers { IfOk result (λ scheduled. ReleasesByPowers (powers_of policy.now) (ran_of script scheduled.ran)) }
     ensures printable { IfOk result (λ scheduled. All (IsPrintable policy.now.names) scheduled.ran.journal) }
     ensures well_formed { IfOk result (λ scheduled. IsWellFormed (ran_of script scheduled.ran).last) }
 {
+    // What these calls ensure is what the clauses on the run ask for.
     policy_keeps_rules(policy);
     let _ = script.lines();
     run_schedule(alloc, policy, script, texts, schedule)

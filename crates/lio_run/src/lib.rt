@@ -3,6 +3,7 @@
 
 mod by_rounds;
 mod by_schedule;
+pub mod laws;
 
 pub use by_rounds::{Ran, run};
 pub use by_schedule::{Scheduled, run_by_schedule};

@@ -1,5 +1,7 @@
 -- The laws of the start.
 use Rattle.std.specs.Prelude.{◌≡◌, ◌↔◌, ◌≤◌, ◌+◌, ℕ, List, [], All, IsTrue, Some, None, take, map, slice_get, length}
+use Rattle.lio_labels.specs.declared.label.Label.{Label}
+use Rattle.lio_labels.specs.Flow.{flows}
 use Rattle.lio_values.specs.declared.value.Plain.TheVariants.{Bytes}
 use Rattle.lio_values.specs.declared.value.Plain.{Plain}
 use Rattle.lio_values.specs.declared.value.Content.TheVariants.{Kept, Faulted, Hidden}
@@ -13,6 +15,7 @@ use Rattle.lio_control.specs.Items.{enter}
 use Rattle.lio_calculus.specs.Task.{TaskState}
 use Rattle.lio_calculus.specs.Step.{blank, cell_at}
 use Rattle.lio_calculus.specs.Sound.{block_says, EachBound, IsTaskOf, IsSound}
+use Rattle.lio_calculus.specs.Erased.{erase}
 use Rattle.lio_wellformed.specs.WellFormed.{IsWellFormed}
 use Rattle.lio_policy.specs.Policy.{PolicyParts, IsPolicy}
 use Rattle.lio_policy.specs.declared.policy.FileEntry.{FileEntry}
@@ -93,3 +96,15 @@ IsShort longest (Sealed label Hidden) = Unit {0}
 abbrev pub TextsAreShort : Type 0
 TextsAreShort = (policy : PolicyParts) (script : List Procedure) (inputs : List (List ℕ)) (k : ℕ) (task : TaskState)
     → IsPolicy policy → IsTaskOf (start_of policy script inputs) k task → EachBound (IsShort policy.longest) task.environment
+
+-- two lists of texts look alike to an observer: they have the same length, and at each input whose label flows to the observer's the same text
+-- (the low equivalence of inputs)
+pub record AreAlike (observer : Label) (inputs : List FileEntry) (ones twos : List (List ℕ)) : Type 0 where
+  pub count : length ones ≡ length twos
+  pub texts : (i : ℕ) (input : FileEntry) → slice_get inputs i ≡ Some input → IsTrue (flows input.label observer) → slice_get ones i ≡ slice_get twos i
+
+-- what an observer sees of the first configuration is given by the texts of the inputs whose labels flow to the observer's; no others count, nor do their lengths
+-- (low-equivalent inputs give low-equivalent first configurations, where noninterference begins)
+abbrev pub StartsLookAlike : Type 0
+StartsLookAlike = (observer : Label) (policy : PolicyParts) (script : List Procedure) (ones twos : List (List ℕ))
+    → AreAlike observer policy.inputs ones twos → erase observer (start_of policy script ones) ≡ erase observer (start_of policy script twos)

@@ -1,5 +1,5 @@
 //! The laws of the start. Each function does nothing: its contract is the law.
-ghost use Rattle.lio_start.specs.Laws.{CellsStandInOrder, EachTaskBegins, EachTaskFits, FaultIsOfFirst, LiteralsAreSaid, StartIsSound, StartIsWellFormed, TextsAreShort};
+ghost use Rattle.lio_start.specs.Laws.{CellsStandInOrder, EachTaskBegins, EachTaskFits, FaultIsOfFirst, LiteralsAreSaid, StartIsSound, StartIsWellFormed, StartsLookAlike, TextsAreShort};
 
 /// Nothing is wrong exactly where each task can begin.
 #[tactic(auto, using(crate::proofs::LawLemmas::each_task_fits))]
@@ -43,4 +43,10 @@ pub fn each_task_begins()
 #[tactic(auto, using(crate::proofs::LawLemmas::texts_are_short))]
 pub fn texts_are_short()
     ensures { TextsAreShort }
+{}
+
+/// What an observer sees of a first configuration goes by the texts of the inputs below it alone.
+#[tactic(auto, using(crate::proofs::AlikeLemmas::starts_look_alike))]
+pub fn starts_look_alike()
+    ensures { StartsLookAlike }
 {}

@@ -10,7 +10,7 @@ use lio_lines::read_header;
 use lio_outside::Store;
 use lio_policy::{Policy, read_policy};
 use lio_values::Text;
-use lio_words::{split_word, without_return};
+use lio_words::{Keyword, split_word, without_return};
 use std::alloc::Global;
 use std::fs;
 use std::fs::Files;
@@ -68,10 +68,10 @@ pub enum Hint {
     Takes(TakesAt),
 }
 
-/// A block or a procedure: its first word, and how many lines stand before the one that begins it or its last part.
+/// A block or a procedure: the first word of the line that begins it or its last part, and how many lines stand before that one.
 #[derive(Drop)]
 pub struct OpenAt {
-    pub word: Text,
+    pub word: Keyword,
     pub line: usize,
 }
 
@@ -93,29 +93,25 @@ fn line_at(script: &[u8], number: u32) -> &[u8] {
     b""
 }
 
-/// The first word of a line.
-fn first_word(line: &[u8]) -> &[u8] {
-    match split_word(line) {
-        Some((word, _)) => word,
-        None => b"",
-    }
+/// The first word of a line, if the language has it.
+fn keyword(line: &[u8]) -> Option<Keyword> {
+    let (word, _) = split_word(line)?;
+    Keyword::find(word)
 }
 
-/// Goes past a line: what it opens is put on top, what it ends is taken away.
-fn pass(alloc: Global, open: &mut Vec<OpenAt>, text: &[u8], line: usize) -> Result<(), NoMemory> {
-    let word = first_word(text);
-    match word {
-        b"end" | b"else" | b"catch" => {
-            open.pop();
-        }
-        _ => {}
+/// Goes past a line: what it ends is taken away, and what it opens is put on top.
+fn pass(open: &mut Vec<OpenAt>, text: &[u8], line: usize) -> Result<(), NoMemory> {
+    let Some(word) = keyword(text) else {
+        return Ok(());
+    };
+    if matches!(word, Keyword::End | Keyword::Else | Keyword::Catch) {
+        open.pop();
     }
-    match word {
-        b"proc" | b"if" | b"while" | b"try" | b"else" | b"catch" => {
-            let word = Text::of(alloc, word)?;
-            open.push(OpenAt { word, line })?;
-        }
-        _ => {}
+    if matches!(
+        word,
+        Keyword::Proc | Keyword::If | Keyword::While | Keyword::Try | Keyword::Else | Keyword::Catch
+    ) {
+        open.push(OpenAt { word, line })?;
     }
     Ok(())
 }
@@ -125,7 +121,7 @@ fn open_before(alloc: Global, script: &[u8], number: u32) -> Result<Hint, NoMemo
     let mut open: Vec<OpenAt> = Vec::new(alloc);
     for (before, text) in script.split(|byte| *byte == b'\n').enumerate() {
         if before as u64 + 1 < number as u64 {
-            pass(alloc, &mut open, without_return(text), before)?;
+            pass(&mut open, without_return(text), before)?;
         }
     }
     Ok(match open.pop() {
@@ -149,10 +145,10 @@ fn word_count(line: &[u8]) -> usize {
 /// The procedure that a line calls, forks or spawns, and how many arguments it gives.
 fn callee(line: &[u8]) -> Option<(&[u8], usize)> {
     let (word, mut rest) = split_word(line)?;
-    let before = match word {
-        b"call" => 1,
-        b"fork" => 4,
-        b"spawn" => 2,
+    let before = match Keyword::find(word)? {
+        Keyword::Call => 1,
+        Keyword::Fork => 4,
+        Keyword::Spawn => 2,
         _ => return None,
     };
     for _word in 0..before {
@@ -175,15 +171,9 @@ fn parameters(script: &[u8], name: &[u8]) -> Option<usize> {
     None
 }
 
-/// What helps to mend the line with a number that breaks a rule.
-fn hint_at(alloc: Global, script: &[u8], number: u32, rule: u32) -> Result<Hint, NoMemory> {
-    if rule == 2 {
-        return open_before(alloc, script, number);
-    }
-    if rule != 3 && rule != 4 {
-        return Ok(Hint::Nothing);
-    }
-    let Some((name, given)) = callee(line_at(script, number)) else {
+/// What helps to mend a line that calls, forks or spawns a procedure which isn't there or takes another number of arguments.
+fn callee_hint(alloc: Global, script: &[u8], line: &[u8]) -> Result<Hint, NoMemory> {
+    let Some((name, given)) = callee(line) else {
         return Ok(Hint::Nothing);
     };
     let wanted = parameters(script, name);
@@ -196,6 +186,15 @@ fn hint_at(alloc: Global, script: &[u8], number: u32, rule: u32) -> Result<Hint,
             given,
         }),
     })
+}
+
+/// What helps to mend the line with a number that breaks a rule.
+fn hint_at(alloc: Global, script: &[u8], number: u32, rule: u32) -> Result<Hint, NoMemory> {
+    match rule {
+        2 => open_before(alloc, script, number),
+        3 | 4 => callee_hint(alloc, script, line_at(script, number)),
+        _ => Ok(Hint::Nothing),
+    }
 }
 
 /// A line of a script that breaks a rule.

@@ -100,6 +100,17 @@ fn script_rule_text(rule: u32) -> &'static str {
     }
 }
 
+/// As what a file is read.
+fn read_as(name: &Text, words: &[String]) -> &'static str {
+    if name.bytes() == word(words, 0).as_bytes() {
+        "the policy's file"
+    } else if name.bytes() == word(words, 1).as_bytes() {
+        "the script's file"
+    } else {
+        "an input's file"
+    }
+}
+
 /// With what the name of a file that is written clashes.
 fn taken_by(name: &Text, words: &[String]) -> &'static str {
     if name.bytes() == word(words, 0).as_bytes() {
@@ -123,7 +134,7 @@ impl fmt::Display for Hint {
             Hint::NothingOpen => f.write_str("; no block and no procedure is open here"),
             Hint::Open(open) => {
                 let line = open.line as u128 + 1;
-                let word = shown_bytes(open.word.bytes());
+                let word = shown_bytes(open.word.word());
                 write!(
                     f,
                     "; the innermost that is open here is the `{word}` of line {line}"
@@ -137,7 +148,7 @@ impl fmt::Display for Hint {
                 let name = shown_bytes(takes.name.bytes());
                 let wanted = takes.wanted;
                 let given = takes.given;
-                write!(f, "; `{name}` has {wanted} parameters and is given {given}")
+                write!(f, "; parameters of `{name}`: {wanted}, arguments: {given}")
             }
         }
     }
@@ -186,7 +197,7 @@ fn start_text(
             "lio_host: {status}: {policy}: task \"{name}\" runs the procedure `{procedure}`, which {script} doesn't have; add a line `proc {procedure}`, or name another procedure"
         ),
         Some(wanted) => format!(in alloc;
-            "lio_host: {status}: {policy}: task \"{name}\" gives `{procedure}` {given} arguments, and in {script} it has {wanted} parameters"
+            "lio_host: {status}: {policy}: task \"{name}\" doesn't fit `{procedure}` of {script}; parameters: {wanted}, arguments: {given}"
         ),
     }
 }
@@ -205,12 +216,18 @@ pub fn refusal_text(
         HostStatus::BadWords => {
             format!(in alloc; "lio_host: {status}: the words aren't two names\n{USAGE}")
         }
-        HostStatus::Missing(_) => format!(in alloc;
-            "lio_host: {status}: there is no such file; the names in a policy are looked up from the folder in which the command is given\n{USAGE}"
-        ),
-        HostStatus::ReadFault(_) => format!(in alloc;
-            "lio_host: {status}: the file couldn't be read; see that it is a file, and that it may be read"
-        ),
+        HostStatus::Missing(name) => {
+            let read = read_as(name, words);
+            format!(in alloc;
+                "lio_host: {status}: {read} isn't there; names are looked up from the folder in which the command is given\n{USAGE}"
+            )
+        }
+        HostStatus::ReadFault(name) => {
+            let read = read_as(name, words);
+            format!(in alloc;
+                "lio_host: {status}: {read} couldn't be read; see that it is a file, and that it may be read"
+            )
+        }
         HostStatus::BadPolicy(rule, entry) => {
             let asked = rule_text(*rule);
             let entry = ShownEntry {
@@ -224,11 +241,11 @@ pub fn refusal_text(
         }
         HostStatus::BadStart(_, _) => start_text(alloc, status, policy, script, detail),
         HostStatus::WriteFault(_) => format!(in alloc;
-            "lio_host: {status}: the file couldn't be written; see that it and its folder may be written, and that there is room"
+            "lio_host: {status}: a channel's file couldn't be written; see that it and its folder may be written, and that there is room"
         ),
         HostStatus::NoMemory => {
             format!(in alloc;
-                "lio_host: {status}: no memory was left; a first part of the channels' files may be written"
+                "lio_host: {status}: no memory was left; a first part of the channels' files may be written; give the process more memory, or the policy's tasks fewer turns"
             )
         }
         HostStatus::Clash(name) => {

@@ -3,8 +3,9 @@ use Rattle.lio_calculus.specs.Step.{Configuration}
 use Rattle.lio_schedule.specs.Round.{Round, round}
 use Rattle.lio_schedule.specs.Rounds.{stepped}
 use Rattle.lio_schedule.proofs.RoundLemmas.{round-nobody}
-use Rattle.lio_machine.specs.declared.machine.TurnFault.TheVariants.{Still}
-use Rattle.lio_machine.specs.MachineState.{MachineState, HasBegun, HasWalked, Stays}
+use Rattle.lio_config.specs.declared.config.StepFault.TheVariants.{Still}
+use Rattle.lio_config.specs.Takes.{Stays}
+use Rattle.lio_machine.specs.MachineState.{MachineState, HasBegun, HasWalked}
 use Rattle.lio_machine.specs.MachineParts.{machine_of}
 use Rattle.lio_machine.proofs.RoundLemmas.{take-further, walked-begins, walked-nobody, walked-goes, walked-stays}
 use Rattle.lio_machine.proofs.machine.Machine.round.Goals as goal

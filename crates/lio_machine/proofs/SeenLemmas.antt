@@ -1,0 +1,15 @@
+-- What each observer sees of a machine.
+use Rattle.std.proofs.Common.{◌≡◌, ◌∙◌, ap, sym, subst, ℕ, List, [], ◌++◌, length, Some}
+use Rattle.lio_values.specs.declared.entry.Entry.{Entry}
+use Rattle.lio_calculus.specs.Run.{Ran, run}
+use Rattle.lio_calculus.proofs.LawLemmas.{run_is_erased_run}
+use Rattle.lio_machine.specs.MachineState.{MachineState}
+use Rattle.lio_machine.specs.Laws.{IsSeenAsErased}
+
+pub seen_as_erased : (machine : MachineState) → IsSeenAsErased machine
+seen_as_erased machine fresh ks observer none sound has =
+    let ran : List Entry → Ran = λ es. record { entries = es; last = machine.configuration } in
+    let added : machine.entries ≡ has.added = has.entries ∙ ap (λ (es : List Entry). es ++ has.added) none in
+    let goes : run 0 fresh.configuration ks ≡ Some (ran has.added) =
+    subst (λ (es : List Entry). run (length es) fresh.configuration ks ≡ Some (ran has.added)) none has.is_run in
+    run_is_erased_run observer fresh.configuration ks (ran machine.entries) sound (goes ∙ ap (λ (es : List Entry). Some (ran es)) (sym added))
