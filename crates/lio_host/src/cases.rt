@@ -215,13 +215,14 @@ fn ends_as_said<R: AllocGlobal + Files + Eprint>(
     policy: &str,
     script: &str,
 ) -> Result<bool, Fail> {
-    let Some(number) = case.number("exit")? else {
+    let Some(expected) = case.part("exit") else {
         return Ok(true);
     };
+    let number = expected.about.as_str().parse::<u8>()?;
     let mut store = store(rt.alloc(), case, policy, script)?;
     let exit = respond(rt, words, &mut store);
     drop(store);
-    Ok(exit == ExitCode::from(number as u8))
+    Ok(exit == ExitCode::from(number))
 }
 
 /// Whether a case holds, under this policy and script.

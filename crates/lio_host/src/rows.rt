@@ -9,8 +9,7 @@
 //! | `input NAME` | what another file holds |
 //! | `words` | the words, one a line; `p.json` and `s.lio` where there is none |
 //! | `fail N` | call N of the store fails |
-//! | `status STATUS` | the answer |
-//! | `exit N` | the exit status of the program |
+//! | `status STATUS`, `exit N` | the answer, and the exit status of the program |
 //! | `file NAME`, `absent NAME` | what a file holds afterwards, or that it isn't there |
 //! | `says` | how the words begin that are printed of the answer |
 //! | `entries N` | how many turns were taken; none where there is none |
