@@ -7,6 +7,6 @@ mod display;
 mod refusal;
 mod status;
 
-pub use detail::{Detail, Hint, LineAt, OpenAt, TakesAt, TaskAt, detail_of, refusal_detail};
+pub use detail::{Detail, LineAt, TaskAt, detail_of, refusal_detail};
 pub use refusal::{print_refusal, refusal_text};
 pub use status::HostStatus;

@@ -1,9 +1,10 @@
 //! What is printed of a refusal: the answer as its type writes it, what was refused and where, and how to mend it.
 
-use crate::detail::{Detail, Hint};
+use crate::detail::Detail;
 use crate::display::Shown;
 use crate::status::HostStatus;
 use lio_draft::{EntryAt, EntryKind};
+use lio_syntax::Hint;
 use lio_values::Text;
 use std::alloc::{AllocError, Global};
 use std::fmt::Write;
@@ -127,9 +128,15 @@ fn shown_bytes(bytes: &[u8]) -> &str {
     str::from_utf8(bytes).unwrap_or("..")
 }
 
-impl fmt::Display for Hint {
+/// A hint as it is shown behind what the rule asks.
+#[derive(Clone, Copy)]
+struct ShownHint<'a> {
+    hint: &'a Hint,
+}
+
+impl fmt::Display for ShownHint<'_> {
     fn fmt<W: fmt::Write>(&self, f: &mut fmt::Formatter<W>) -> fmt::Result {
-        match self {
+        match self.hint {
             Hint::Nothing => Ok(()),
             Hint::NothingOpen => f.write_str("; no block and no procedure is open here"),
             Hint::Open(open) => {
@@ -166,7 +173,7 @@ fn script_text(
     let asked = script_rule_text(rule);
     match detail {
         Detail::Line(found) => {
-            let hint = &found.hint;
+            let hint = ShownHint { hint: &found.hint };
             let shown = Shown(&found.text);
             format!(in alloc;
                 "lio_host: {status}: {script}:{line}: {asked}{hint}\n  {line} | {shown}"

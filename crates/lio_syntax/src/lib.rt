@@ -4,6 +4,7 @@
 mod ends;
 mod fault;
 mod headers;
+mod hints;
 pub mod laws;
 mod open_block;
 mod print;
@@ -15,6 +16,7 @@ mod script;
 mod text;
 
 pub use fault::ScriptFault;
+pub use hints::{Hint, OpenAt, TakesAt, hint_at, line_at, parameter_count};
 pub use print::print_script;
 pub use read::read_script;
 pub use script::Script;

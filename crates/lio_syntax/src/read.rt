@@ -17,7 +17,7 @@ use std::alloc::Global;
 const MOST_BYTES: usize = 262_144;
 
 /// The procedures that the lines of a text begin.
-fn read_headers(alloc: Global, bytes: &[u8]) -> Result<Headers, NoMemory>
+pub(crate) fn read_headers(alloc: Global, bytes: &[u8]) -> Result<Headers, NoMemory>
     ensures { IfOk result (λ headers. (names : List (List ℕ)) → Knows headers (parsed_lines names bytes.now)) }
 {
     let mut headers = Headers::new(alloc);
