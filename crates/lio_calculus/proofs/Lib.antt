@@ -19,6 +19,7 @@ pub mod StepGuarded
 pub mod LawLemmas
 pub mod Outcome
 pub mod OutcomeLemmas
+pub mod PlanCases
 pub mod Closed
 pub mod PlanEach
 pub mod Lists

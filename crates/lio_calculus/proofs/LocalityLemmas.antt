@@ -1,38 +1,30 @@
 -- What a turn touches.
-use Rattle.std.proofs.Common.{◌≡◌, ◌∙◌, refl, sym, ap, subst, ℕ, zero, suc, ◌==◌, ◌⊎◌, inl, inr, arith, Bool, true, false, if◌then◌else◌, List, [], ◌∷◌, length, Option, Some, None}
+use Rattle.std.proofs.Common.{◌≡◌, ◌∙◌, refl, sym, ap, subst, ℕ, zero, suc, ◌⊎◌, inl, inr, arith, Bool, true, false, if◌then◌else◌, List, [], ◌∷◌, length, Option, Some, None}
 use Rattle.std.specs.Prelude.{option_and_then, option_map}
 use Rattle.std.specs.Option.{option_map_or}
 use Rattle.std.specs.List.{slice_set, slice_index_or}
 use Rattle.std.proofs.lemmas.List.{length-set, get_or-set_same, get_or-set_other}
 use Rattle.lio_labels.specs.declared.label.Label.{Label}
 use Rattle.lio_values.specs.declared.fault.Fault.{Fault}
-use Rattle.lio_values.specs.declared.fault.FaultKind.TheVariants.{NoTurns}
 use Rattle.lio_values.specs.declared.value.Content.{Content}
-use Rattle.lio_values.specs.declared.value.Content.TheVariants.{Faulted}
 use Rattle.lio_values.specs.declared.value.Value.{Value}
 use Rattle.lio_values.specs.declared.act.Act.{Act}
 use Rattle.lio_values.specs.declared.act.Act.TheVariants as act
 use Rattle.lio_values.specs.declared.act.Reply.{Reply}
 use Rattle.lio_values.specs.declared.act.Reply.TheVariants.{Done, Got, Told, Refused}
 use Rattle.lio_values.specs.declared.entry.Entry.{Entry}
-use Rattle.lio_lines.specs.declared.line.Operand.{Operand}
-use Rattle.lio_lines.specs.declared.line.Simple.{Simple}
-use Rattle.lio_lines.specs.declared.line.Simple.TheVariants as line
-use Rattle.lio_syntax.specs.Statements.{Statement, Statements}
-use Rattle.lio_syntax.specs.Statements as statement
 use Rattle.lio_cells.specs.declared.state.State.{State}
 use Rattle.lio_cells.specs.State.{held, full_with, result_of, answer}
-use Rattle.lio_control.specs.Items.{Item, Do, Access, Mark, Back, Fail}
-use Rattle.lio_calculus.specs.Operands.{bound, seen_as, flag_of, reference_of, variable_of, result_of as result_handle}
+use Rattle.lio_control.specs.Items.{Item}
 use Rattle.lio_calculus.specs.Task.{TaskState}
 use Rattle.lio_calculus.specs.Going.{Onward, Throw, gone_on}
-use Rattle.lio_calculus.specs.Plan.{Program, Plan, Over, Own, Visit, Target, fault_at, ending, with_seen, choosing, looping, plan_statement, plan_access, plan_items, plan}
+use Rattle.lio_calculus.specs.Plan.{Program, Plan, Over, Own, Visit, Target, plan}
 use Rattle.lio_calculus.specs.Step.{Cell, Configuration, blank, cell_at, with_cell, number_of, is_met, met, visit, Move, move_of, met_after, actor_after, target_after, after, Turn, entry_of, turn_of, step}
 use Rattle.lio_calculus.specs.Sound.{IsTaskOf}
 use Rattle.lio_calculus.specs.Locality.{ChangesTwoCells, StepChangesTwoCells, visited, SameWhereItLooks, StepLooksAtTwoCells, StepMakesTheSameCells, after_refusal, ChangesActorAlone, RefusedTurnChangesActorAlone}
-use Rattle.lio_calculus.proofs.Outcome.{Outcome}
+use Rattle.lio_calculus.proofs.Outcome.{Reads}
 use Rattle.lio_calculus.proofs.Outcome as out
-use Rattle.lio_calculus.proofs.OutcomeLemmas.{outcome}
+use Rattle.lio_calculus.proofs.PlanCases.{ItemsCase, IsMistyped, Does, Visits, plan-by}
 use Rattle.lio_calculus.proofs.SoundLemmas.{inside, task-there}
 use Rattle.lio_calculus.proofs.PlanKept.{KeptPlan, is_ended, plan-kept}
 use Rattle.lio_calculus.proofs.MeetingLemmas.{actor-unchanged}
@@ -229,69 +221,22 @@ abbrev ThrowsRefused : Plan → Type 0
 ThrowsRefused (Own asked (Refused fault) onward) = onward ≡ Throw fault
 ThrowsRefused plan = Unit {0}
 
-outcome-throws : (program : Program) (task : TaskState) (s : Simple) (p : Plan) → Outcome program task s p → ThrowsRefused p
-outcome-throws program task s p (out.Mistyped t) = refl
-outcome-throws program task s p (out.Refused t asked o target kind tests e) = refl
-outcome-throws program task s p (out.Fails1 x o a value kind e) = refl
-outcome-throws program task s p (out.Fails2 x a o b left right kind e) = refl
-outcome-throws program task s p (out.IsTooDeep x q arguments) = refl
-outcome-throws program task s p (out.Throws a plain e) = refl
-outcome-throws program task s p (out.KeepsBack x a l q t target power kind e) = refl
-outcome-throws program task s p (out.LacksReference x l a label value e) = refl
-outcome-throws program task s p (out.RefusesReference x l a label value kind e f) = refl
-outcome-throws program task s p (out.LacksVariable t x label value f) = refl
-outcome-throws program task s p (out.RefusesVariable t x label value kind f e) = refl
-outcome-throws program task s p (out.RefusesWrite r a handle value kind e f) = refl
-outcome-throws program task s p (out.RefusesChild t x label turns cells birth kind f e) = refl
-outcome-throws program task s p (out.LacksCells t x label turns cells birth f) = refl
-outcome-throws program task s p (out.LacksTurns t x label turns cells birth f) = refl
-outcome-throws program task s p (out.OrphanLacksCells t turns cells birth f) = refl
-outcome-throws program task s p (out.OrphanLacksTurns t turns cells birth f) = refl
-outcome-throws program task s p o = tt
-
-seen-throws : {X : Type 0} (task : TaskState) (seen : Option X) (next : X → Plan) → ((x : X) → ThrowsRefused (next x)) → ThrowsRefused (with_seen task seen next)
-seen-throws task None next fine = refl
-seen-throws task (Some x) next fine = fine x
-
-choosing-throws : (block other : Statements) (flag : Bool) → ThrowsRefused (choosing block other flag)
-choosing-throws block other true = tt
-choosing-throws block other false = tt
-
-looping-throws : (condition : Operand) (block : Statements) (flag : Bool) → ThrowsRefused (looping condition block flag)
-looping-throws condition block true = tt
-looping-throws condition block false = tt
-
-statement-throws : (program : Program) (task : TaskState) (s : Statement) → ThrowsRefused (plan_statement program task s)
-statement-throws program task (statement.Do simple) = outcome-throws program task simple _ (outcome program task simple)
-statement-throws program task (statement.If a block) = seen-throws task (seen_as flag_of task.environment a) (choosing block statement.Nothing) (choosing-throws block statement.Nothing)
-statement-throws program task (statement.IfElse a block other) = seen-throws task (seen_as flag_of task.environment a) (choosing block other) (choosing-throws block other)
-statement-throws program task (statement.While a block) = seen-throws task (seen_as flag_of task.environment a) (looping a block) (looping-throws a block)
-statement-throws program task (statement.Try block code payload handler) = tt
-
-access-throws : (task : TaskState) (s : Simple) → ThrowsRefused (plan_access task s)
-unfolding plan_access
-access-throws task (line.Read x r) = seen-throws task (seen_as reference_of task.environment r) _ (λ handle. tt)
-access-throws task (line.Take x v) = seen-throws task (seen_as variable_of task.environment v) _ (λ handle. tt)
-access-throws task (line.Put v a) = seen-throws task (seen_as variable_of task.environment v) _ (λ handle. seen-throws task (bound task.environment a) _ (λ value. tt))
-access-throws task (line.Wait x r) = seen-throws task (seen_as result_handle task.environment r) _ (λ handle. tt)
-access-throws task s = refl
-
-items-throws : (program : Program) (task : TaskState) (items : List Item) → ThrowsRefused (plan_items program task items)
-items-throws program task [] = tt
-items-throws program task (Do s ∷ items) = statement-throws program task s
-items-throws program task (Access s ∷ items) = access-throws task s
-items-throws program task (Mark code payload handler ∷ items) = tt
-items-throws program task (Back caller name ∷ items) = tt
-items-throws program task (Fail fault ∷ items) = tt
+items-throws : {program : Program} {task : TaskState} {items : List Item} {p : Plan} → ItemsCase program task items p → ThrowsRefused p
+items-throws IsMistyped = refl
+items-throws (Does out.Mistyped) = refl
+items-throws (Does (out.Refused asks e)) = refl
+items-throws (Does (out.LacksCells asks)) = refl
+items-throws (Does (out.LacksTurns asks)) = refl
+items-throws (Does (out.Fails1 e f)) = refl
+items-throws (Does (out.Fails2 e f g)) = refl
+items-throws (Does out.IsTooDeep) = refl
+items-throws (Does (out.Throws e)) = refl
+items-throws (Visits (Reads e)) = tt
+items-throws (Visits r) = tt
+items-throws o = tt
 
 plan-throws : (program : Program) (task : TaskState) → ThrowsRefused (plan program task)
-unfolding plan
-plan-throws program task = by task.ended (task.turns == 0)
-  where
-    by : (ended none : Bool) → ThrowsRefused (if ended then Over else (if none then ending (Faulted (fault_at task NoTurns)) else plan_items program task task.items))
-    by true none = tt
-    by false true = tt
-    by false false = items-throws program task task.items
+plan-throws program task = plan-by ThrowsRefused program task tt tt (λ p going o. items-throws o)
 
 -- a refused move: it has no target, throws the fault, and ends no task
 move-refused : (c : Configuration) (task : TaskState) (p : Plan) (move : Move) (fault : Fault) → ThrowsRefused p → move_of (cell_at c) p ≡ Some move → move.reply ≡ Refused fault

@@ -1,39 +1,28 @@
 -- In a well-formed configuration each visit meets a node that is there.
-use Rattle.std.proofs.Common.{◌≡◌, ◌∙◌, refl, sym, ap, subst, ℕ, ◌+◌, ◌==◌, Bool, true, false, if◌then◌else◌, nat_le, IsTrue, List, [], ◌∷◌, All, Option, Some, None, is_some, true≢false, arith}
-use Rattle.std.specs.List.{list_all}
-use Rattle.std.proofs.lemmas.Bool.{and_parts}
-use Rattle.std.proofs.lemmas.Bool.Decides.{nat_tests}
+use Rattle.std.proofs.Common.{◌≡◌, ◌∙◌, ◌≤◌, refl, sym, ap, subst, ℕ, ◌+◌, ◌==◌, Bool, true, false, if◌then◌else◌, IsTrue, List, [], ◌∷◌, All, Option, Some, None, is_some, true≢false, arith}
 use Rattle.std.proofs.lemmas.List.Elements.{All-head}
 use Rattle.lio_labels.specs.declared.label.Label.{Label}
 use Rattle.lio_values.specs.declared.fault.FaultKind.TheVariants.{NoTurns}
-use Rattle.lio_values.specs.declared.value.Handle.{Handle}
-use Rattle.lio_values.specs.declared.value.Value.{Value}
 use Rattle.lio_values.specs.declared.value.Content.{Content}
 use Rattle.lio_values.specs.declared.value.Content.TheVariants.{Faulted}
 use Rattle.lio_values.specs.declared.act.Act.{Act}
 use Rattle.lio_values.specs.declared.act.Act.TheVariants as act
-use Rattle.lio_lines.specs.declared.line.Operand.{Operand}
 use Rattle.lio_lines.specs.declared.line.Simple.{Simple}
-use Rattle.lio_lines.specs.declared.line.Simple.TheVariants as line
-use Rattle.lio_lines.specs.Literal.{is_said}
-use Rattle.lio_syntax.specs.Statements.{Statement, Statements}
-use Rattle.lio_syntax.specs.Statements as statement
 use Rattle.lio_cells.specs.declared.state.State.{State}
 use Rattle.lio_cells.specs.declared.state.State.TheVariants.{Absent, Job}
-use Rattle.lio_cells.specs.State.{is_absent, Kind, Reference, Variable, Channel, Result as result, is_of, result_of, ready as is_ready, state_after}
-use Rattle.lio_control.specs.Items.{Item, Do, Access, Mark, Back, Fail}
-use Rattle.lio_calculus.specs.Operands.{bound, seen_as, flag_of, reference_of, variable_of, result_of as result_handle}
+use Rattle.lio_cells.specs.State.{is_absent, Kind, Reference, Channel, is_of, result_of, ready as is_ready, state_after}
+use Rattle.lio_control.specs.Items.{Item}
 use Rattle.lio_calculus.specs.Task.{TaskState}
-use Rattle.lio_calculus.specs.Going.{Onward, Advance, BindReply}
-use Rattle.lio_calculus.specs.Plan.{Plan, Over, Own, Visit, Target, Node, New, fault_at, ending, with_seen, choosing, looping, plan_statement, plan_access, plan_items, plan}
+use Rattle.lio_calculus.specs.Going.{Onward}
+use Rattle.lio_calculus.specs.Plan.{Plan, Over, Own, Visit, Target, Node, New, fault_at, ending, plan_items, plan}
 use Rattle.lio_calculus.specs.Step.{Cell, Configuration, cell_at, waits}
 use Rattle.lio_calculus.specs.Sound.{Names, ValueNames, EachBound, IsTaskOf, IsInRange, IsSound, ItemSays, says, statement_says}
 use Rattle.lio_calculus.specs.Afforded.{makes, kind_met, Meets, AffordsPlan}
 use Rattle.lio_calculus.specs.Meeting.{MeetsNode, VisitMeetsNode}
-use Rattle.lio_calculus.proofs.Outcome.{Outcome}
+use Rattle.lio_calculus.proofs.Outcome.{Reads, Takes, Puts, Waits, Outcome}
 use Rattle.lio_calculus.proofs.Outcome as out
-use Rattle.lio_calculus.proofs.OutcomeLemmas.{outcome}
-use Rattle.lio_calculus.proofs.SoundLemmas.{reference-names, variable-names, result-names, channel-names, named-kind, task-job, inside, named-there}
+use Rattle.lio_calculus.proofs.PlanCases.{ItemsCase, Does, Visits, plan-by}
+use Rattle.lio_calculus.proofs.SoundLemmas.{first-said, reference-names, variable-names, result-names, channel-names, named-kind, task-job, inside, named-there}
 use Rattle.lio_calculus.proofs.AffordedLemmas.{plan_affords}
 use Rattle.lio_calculus.proofs.PlanKept.{is_ended}
 use Rattle.lio_calculus.proofs.ActorKept.{job-state}
@@ -49,81 +38,31 @@ FindsTarget c task (Own asked reply onward) = Unit {0}
 FindsTarget c task (Visit asked target onward) = IsThere c task target
 
 -- the first number of a range that has one
-first-within : (task : TaskState) (count : ℕ) → nat_le (count + 1) task.cells ≡ true → IsInRange task task.first
-first-within task count e = record { from = omega arith; below = grind (arith, nat_tests) }
+first-within : (task : TaskState) (count : ℕ) → count + 1 ≤ task.cells → IsInRange task task.first
+first-within task count e = record { from = omega arith; below = omega (arith, e) }
 
--- the first operand is said
-first-said : (a : Operand) (operands : List Operand) → IsTrue (list_all is_said (a ∷ operands)) → IsTrue (is_said a)
-first-said a operands said = (and_parts (is_said a) (list_all is_said operands) said).0
+-- the cases of a plan
+outcome-finds : {s : Simple} {p : Plan} (c : Configuration) (task : TaskState) → EachBound (ValueNames c) task.environment → IsTrue (says s) → Outcome c.program task s p → FindsTarget c task p
+outcome-finds c task each said (out.Writes {r = r} {a = a} e f g) = reference-names c task.environment r _ each (first-said r (a ∷ []) said) e
+outcome-finds c task each said (out.Sends {c = channel} {a = a} e f g) = channel-names c task.environment channel _ each (first-said channel (a ∷ []) said) e
+outcome-finds c task each said (out.MakesReference asks e room) = first-within task 0 room
+outcome-finds c task each said (out.MakesVariable asks e room) = first-within task 0 room
+outcome-finds c task each said (out.MakesChild asks e f room enough) = first-within task _ room
+outcome-finds c task each said (out.MakesOrphan asks e room enough) = first-within task _ room
+outcome-finds c task each said o = tt
 
--- the outcomes of a statement
-outcome-finds : (c : Configuration) (task : TaskState) (s : Simple) (p : Plan) → EachBound (ValueNames c) task.environment → IsTrue (says s) → Outcome c.program task s p → FindsTarget c task p
-outcome-finds c task s p each said (out.Writes r a handle value current h e) = reference-names c task.environment r handle each (first-said r (a ∷ []) said) h
-outcome-finds c task s p each said (out.Sends ch a handle text current h) = channel-names c task.environment ch handle each (first-said ch (a ∷ []) said) h
-outcome-finds c task s p each said (out.MakesReference x l a label value current e f g) = first-within task 0 g
-outcome-finds c task s p each said (out.MakesVariable t x label value current f e g) = first-within task 0 g
-outcome-finds c task s p each said (out.MakesChild t x label turns cells birth current f e g h) = first-within task cells g
-outcome-finds c task s p each said (out.MakesOrphan t turns cells birth f e g) = first-within task cells e
-outcome-finds c task s p each said o = tt
-
--- what is looked up, where each next plan finds its target
-seen-finds : {X : Type 0} (c : Configuration) (task : TaskState) (seen : Option X) (next : X → Plan) → ((x : X) → seen ≡ Some x → FindsTarget c task (next x)) → FindsTarget c task (with_seen task seen next)
-seen-finds c task None next fine = tt
-seen-finds c task (Some x) next fine = fine x refl
-
-choosing-finds : (c : Configuration) (task : TaskState) (block other : Statements) (flag : Bool) → FindsTarget c task (choosing block other flag)
-choosing-finds c task block other true = tt
-choosing-finds c task block other false = tt
-
-looping-finds : (c : Configuration) (task : TaskState) (condition : Operand) (block : Statements) (flag : Bool) → FindsTarget c task (looping condition block flag)
-looping-finds c task condition block true = tt
-looping-finds c task condition block false = tt
-
-statement-finds : (c : Configuration) (task : TaskState) (s : Statement) → EachBound (ValueNames c) task.environment → ItemSays (Do s) → FindsTarget c task (plan_statement c.program task s)
+items-finds : {items : List Item} {p : Plan} (c : Configuration) (task : TaskState) → EachBound (ValueNames c) task.environment → All ItemSays items → ItemsCase c.program task items p → FindsTarget c task p
 unfolding statement_says
-statement-finds c task (statement.Do simple) each said = outcome-finds c task simple _ each said (outcome c.program task simple)
-statement-finds c task (statement.If a block) each said =
-    seen-finds c task (seen_as flag_of task.environment a) (choosing block statement.Nothing) (λ flag e. choosing-finds c task block statement.Nothing flag)
-statement-finds c task (statement.IfElse a block other) each said =
-    seen-finds c task (seen_as flag_of task.environment a) (choosing block other) (λ flag e. choosing-finds c task block other flag)
-statement-finds c task (statement.While a block) each said =
-    seen-finds c task (seen_as flag_of task.environment a) (looping a block) (λ flag e. looping-finds c task a block flag)
-statement-finds c task (statement.Try block code payload handler) each said = tt
-
-access-finds : (c : Configuration) (task : TaskState) (s : Simple) → EachBound (ValueNames c) task.environment → IsTrue (says s) → FindsTarget c task (plan_access task s)
-unfolding plan_access
-access-finds c task (line.Read x r) each said =
-    seen-finds c task (seen_as reference_of task.environment r) (λ handle. Visit act.Read (Node Reference handle) (BindReply x))
-    (λ handle e. reference-names c task.environment r handle each (first-said r [] said) e)
-access-finds c task (line.Take x v) each said =
-    seen-finds c task (seen_as variable_of task.environment v) (λ handle. Visit act.Take (Node Variable handle) (BindReply x))
-    (λ handle e. variable-names c task.environment v handle each (first-said v [] said) e)
-access-finds c task (line.Put v a) each said =
-    let last : Handle → Value → Plan = λ handle value. Visit (act.Put value) (Node Variable handle) Advance in
-    seen-finds c task (seen_as variable_of task.environment v) (λ handle. with_seen task (bound task.environment a) (last handle))
-    (λ handle e. seen-finds c task (bound task.environment a) (last handle) (λ value f. variable-names c task.environment v handle each (first-said v (a ∷ []) said) e))
-access-finds c task (line.Wait x r) each said =
-    seen-finds c task (seen_as result_handle task.environment r) (λ handle. Visit act.Wait (Node result handle) (BindReply x))
-    (λ handle e. result-names c task.environment r handle each (first-said r [] said) e)
-access-finds c task s each said = tt
-
-items-finds : (c : Configuration) (task : TaskState) (items : List Item) → EachBound (ValueNames c) task.environment → All ItemSays items → FindsTarget c task (plan_items c.program task items)
-items-finds c task [] each said = tt
-items-finds c task (Do s ∷ items) each said = statement-finds c task s each (All-head ItemSays (Do s) items said)
-items-finds c task (Access s ∷ items) each said = access-finds c task s each (All-head ItemSays (Access s) items said)
-items-finds c task (Mark code payload handler ∷ items) each said = tt
-items-finds c task (Back caller name ∷ items) each said = tt
-items-finds c task (Fail fault ∷ items) each said = tt
+items-finds c task each said (Does o) = outcome-finds c task each (All-head ItemSays _ _ said) o
+items-finds c task each said (Visits (Reads {r = r} e)) = reference-names c task.environment r _ each (first-said r [] (All-head ItemSays _ _ said)) e
+items-finds c task each said (Visits (Takes {v = v} e)) = variable-names c task.environment v _ each (first-said v [] (All-head ItemSays _ _ said)) e
+items-finds c task each said (Visits (Puts {v = v} {a = a} e f)) = variable-names c task.environment v _ each (first-said v (a ∷ []) (All-head ItemSays _ _ said)) e
+items-finds c task each said (Visits (Waits {r = r} e)) = result-names c task.environment r _ each (first-said r [] (All-head ItemSays _ _ said)) e
+items-finds c task each said o = tt
 
 -- the plan of a task
 plan-finds : (c : Configuration) (task : TaskState) → EachBound (ValueNames c) task.environment → All ItemSays task.items → FindsTarget c task (plan c.program task)
-unfolding plan
-plan-finds c task each said = by task.ended (task.turns == 0)
-  where
-    by : (ended none : Bool) → FindsTarget c task (if ended then Over else (if none then ending (Faulted (fault_at task NoTurns)) else plan_items c.program task task.items))
-    by true none = tt
-    by false true = tt
-    by false false = items-finds c task task.items each said
+plan-finds c task each said = plan-by (FindsTarget c task) c.program task tt tt (λ p going o. items-finds c task each said o)
 
 -- a task that visits hasn't ended
 visit-unended : (c : Configuration) (task : TaskState) (asked : Act) (target : Target) (onward : Onward) → plan c.program task ≡ Visit asked target onward → task.ended ≡ false

@@ -1,50 +1,39 @@
 -- Privileges are given and never made.
-use Rattle.std.proofs.Common.{◌≡◌, refl, sym, subst, ℕ, zero, suc, ◌-◌, ◌==◌, Bool, true, false, if◌then◌else◌, IsTrue, List, [], ◌∷◌, All, Option, Some, None, true≢false}
-use Rattle.std.specs.Prelude.{option_and_then, slice_get}
-use Rattle.std.specs.List.{slice_set, slice_index_or, list_all, Contains}
-use Rattle.std.proofs.lemmas.Bool.{and_parts}
+use Rattle.std.proofs.Common.{◌≡◌, refl, sym, subst, ℕ, zero, suc, ◌-◌, Bool, true, false, if◌then◌else◌, IsTrue, List, [], ◌∷◌, All, Option, Some, None, true≢false}
+use Rattle.std.specs.Prelude.{slice_get}
+use Rattle.std.specs.List.{slice_set, slice_index_or, Contains}
 use Rattle.std.proofs.lemmas.List.Elements.{All-nil, All-head}
 use Rattle.lio_labels.specs.declared.label.Label.{Label}
 use Rattle.lio_labels.specs.declared.privilege.Priv.{Priv}
 use Rattle.lio_values.specs.declared.fault.FaultKind.{FaultKind}
-use Rattle.lio_values.specs.declared.fault.FaultKind.TheVariants.{NoTurns, User}
+use Rattle.lio_values.specs.declared.fault.FaultKind.TheVariants.{User}
 use Rattle.lio_values.specs.declared.value.Plain.{Plain}
 use Rattle.lio_values.specs.declared.value.Plain.TheVariants.{Power}
 use Rattle.lio_values.specs.declared.value.Content.{Content}
-use Rattle.lio_values.specs.declared.value.Content.TheVariants.{Faulted, Hidden}
 use Rattle.lio_values.specs.declared.value.Value.{Value}
 use Rattle.lio_values.specs.declared.value.Value.TheVariants.{Bare, Sealed}
 use Rattle.lio_values.specs.declared.act.Act.{Act}
 use Rattle.lio_values.specs.declared.act.Act.TheVariants as act
 use Rattle.lio_values.specs.declared.act.Birth.{Birth}
-use Rattle.lio_values.specs.declared.act.Op.{Op}
-use Rattle.lio_values.specs.declared.act.Reply.TheVariants.{Done}
-use Rattle.lio_lines.specs.declared.line.Operand.{Operand}
 use Rattle.lio_lines.specs.declared.line.Simple.{Simple}
-use Rattle.lio_lines.specs.declared.line.Simple.TheVariants as line
-use Rattle.lio_lines.specs.Literal.{is_said, can_be_said}
-use Rattle.lio_syntax.specs.Statements.{Statement, Statements}
-use Rattle.lio_syntax.specs.Statements as statement
-use Rattle.lio_guards.specs.declared.verdict.Verdict.{Verdict}
-use Rattle.lio_guards.specs.declared.verdict.Verdict.TheVariants.{Go, No}
-use Rattle.lio_guards.specs.Guard.{guarded_relabel}
+use Rattle.lio_lines.specs.Literal.{can_be_said}
 use Rattle.lio_operators.specs.Laws.{IsSimple, IsUnthrown}
 use Rattle.lio_cells.specs.declared.state.State.{State}
 use Rattle.lio_cells.specs.declared.state.State.TheVariants.{Absent, Ref, Var, Chan, Job}
 use Rattle.lio_cells.specs.State.{placed, ended, state_after}
 use Rattle.lio_control.specs.Throwing.{payload_of}
-use Rattle.lio_control.specs.Items.{Item, Do, Access, Mark, Back, Fail, rest_of}
-use Rattle.lio_calculus.specs.Operands.{bound, Labelled, sealed_of, seen_as, flag_of, label_of, power_of, reference_of, variable_of, result_of as result_handle}
+use Rattle.lio_control.specs.Items.{Item, rest_of}
+use Rattle.lio_calculus.specs.Operands.{power_of}
 use Rattle.lio_calculus.specs.Task.{TaskState}
-use Rattle.lio_calculus.specs.Going.{Onward, Release, HoldReference, HoldVariable, Fork, gone_on}
-use Rattle.lio_calculus.specs.Plan.{Program, Plan, Over, Own, Visit, Target, fault_at, ending, with_seen, with_verdict, choosing, looping, releasing, plan_simple, plan_statement, plan_access, plan_items, plan}
+use Rattle.lio_calculus.specs.Going.{Onward, HoldReference, HoldVariable, Fork, gone_on}
+use Rattle.lio_calculus.specs.Plan.{Program, Plan, Over, Own, Visit, Target, plan}
 use Rattle.lio_calculus.specs.Step.{Cell, Configuration, blank, cell_at, with_cell, number_of, is_met, met, Move, move_of, body_of, parameters_of, child_of, born, task_after, met_after, actor_after, target_after, after}
 use Rattle.lio_calculus.specs.Sound.{EachBound, EachInItem, EachInTask, EachInState, ItemSays, says, statement_says}
 use Rattle.lio_calculus.specs.Powers.{PlainIsAmong, KindIsAmong, ValueIsAmong, ReleasesBy, MakesNoPower, PowersAreGiven}
-use Rattle.lio_calculus.proofs.Outcome.{Tests, OfSeal, OfRaise, OfLower, OfSend, Outcome}
+use Rattle.lio_calculus.proofs.Outcome.{Reads, Test, Asks}
 use Rattle.lio_calculus.proofs.Outcome as out
-use Rattle.lio_calculus.proofs.OutcomeLemmas.{outcome}
-use Rattle.lio_calculus.proofs.SoundLemmas.{bound-each, seen-plain}
+use Rattle.lio_calculus.proofs.PlanCases.{ItemsCase, Does, Visits, plan-by}
+use Rattle.lio_calculus.proofs.SoundLemmas.{first-said, rest-said, bound-each, seen-plain}
 use Rattle.lio_calculus.proofs.Closed.{IsClosed}
 use Rattle.lio_calculus.proofs.PlanEach.{EachInOnward, EachInAct, EachInPlan, bind_all-each, plan-each}
 use Rattle.lio_calculus.proofs.PlanKept.{KeptPlan, plan-kept}
@@ -214,95 +203,30 @@ PlanReleases powers Over = Unit {0}
 PlanReleases powers (Own asked reply onward) = ReleasesBy powers asked
 PlanReleases powers (Visit asked target onward) = ReleasesBy powers asked
 
-abbrev IsNoRelabel : Simple → Type 0
-IsNoRelabel (line.Relabel x a l p) = ⊥
-IsNoRelabel simple = Unit {0}
-
-tests-released : (powers : List Priv) (task : TaskState) (asked : Act) (o : Op) (target : Label) → Tests task asked o target → ReleasesBy powers asked
-tests-released powers task asked o target (OfSeal label) = tt
-tests-released powers task asked o target (OfRaise p label) = tt
-tests-released powers task asked o target (OfLower label) = tt
-tests-released powers task asked o target (OfSend text label) = tt
-
-outcome-released : (powers : List Priv) (program : Program) (task : TaskState) (s : Simple) (p : Plan) → IsNoRelabel s → Outcome program task s p → PlanReleases powers p
-outcome-released powers program task s p none (out.Releases x a l q t target power current e f) = absurd none
-outcome-released powers program task s p none (out.KeepsBack x a l q t target power kind e) = absurd none
-outcome-released powers program task s p none (out.Refused t asked o target kind tests e) = tests-released powers task asked o target tests
-outcome-released powers program task s p none o = tt
-
-seen-released : {X : Type 0} (powers : List Priv) (task : TaskState) (seen : Option X) (next : X → Plan) → ((x : X) → seen ≡ Some x → PlanReleases powers (next x)) → PlanReleases powers (with_seen task seen next)
-seen-released powers task None next fine = tt
-seen-released powers task (Some x) next fine = fine x refl
-
-releasing-released : (powers : List Priv) (task : TaskState) (name : List ℕ) (source : Labelled) (target : Label) (power : Priv) → Contains powers power → PlanReleases powers (releasing task name source target power)
-releasing-released powers task name source target power held = by (guarded_relabel task.label task.clearance source.label target power)
-  where
-    by : (v : Verdict) → PlanReleases powers (with_verdict task (act.Release source.label target power Hidden) v (λ current. Own (act.Release source.label target power source.content) Done (Release name target)))
-    by (Go label) = held
-    by (No kind) = held
-
 power-among : (powers : List Priv) (plain : Plain) (power : Priv) → power_of plain ≡ Some power → PlainIsAmong powers plain → Contains powers power
 power-among powers (Power held) power e among = let is : held ≡ power = cc in subst (Contains powers) is among
 power-among powers plain power e among = absurd (cc)
 
-simple-released : (powers : List Priv) (program : Program) (task : TaskState) (s : Simple) → EachBound (ValueIsAmong powers) task.environment → IsTrue (says s) → PlanReleases powers (plan_simple program task s)
-unfolding plan_simple
-simple-released powers program task (line.Relabel x a l p) each said =
-    let rest = (and_parts (is_said a) (list_all is_said (l ∷ p ∷ [])) said).1 in
-    let last = (and_parts (is_said l) (list_all is_said (p ∷ [])) rest).1 in
-    let said_p : IsTrue (is_said p) = (and_parts (is_said p) (list_all is_said []) last).0 in
-    seen-released powers task (option_and_then sealed_of (bound task.environment a)) _
-    (λ sealed e. seen-released powers task (seen_as label_of task.environment l) _
-    (λ label f. seen-released powers task (seen_as power_of task.environment p) (releasing task x sealed label)
-    (λ power g.
+asks-released : (powers : List Priv) {program : Program} (task : TaskState) {s : Simple} {asked : Act} {test : Test} → EachBound (ValueIsAmong powers) task.environment → IsTrue (says s)
+    → Asks program task s asked test → ReleasesBy powers asked
+asks-released powers task each said (out.Releasing {a = a} {l = l} {p = p} {power = power} e f g) =
     let seen = seen-plain power_of task.environment p power g in
-    releasing-released powers task x sealed label power
-    (power-among powers seen.0 power seen.2 (bound-each (ValueIsAmong powers) task.environment p (Bare seen.0) (among-said powers) each said_p seen.1)))))
-simple-released powers program task s each said = outcome-released powers program task s _ tt (outcome program task s)
+    power-among powers seen.0 power seen.2
+    (bound-each (ValueIsAmong powers) task.environment p (Bare seen.0) (among-said powers) each (first-said p [] (rest-said l (p ∷ []) (rest-said a (l ∷ p ∷ []) said))) seen.1)
+asks-released powers task each said asks = tt
 
-choosing-released : (powers : List Priv) (block other : Statements) (flag : Bool) → PlanReleases powers (choosing block other flag)
-choosing-released powers block other true = tt
-choosing-released powers block other false = tt
-
-looping-released : (powers : List Priv) (condition : Operand) (block : Statements) (flag : Bool) → PlanReleases powers (looping condition block flag)
-looping-released powers condition block true = tt
-looping-released powers condition block false = tt
-
-statement-released : (powers : List Priv) (program : Program) (task : TaskState) (s : Statement) → EachBound (ValueIsAmong powers) task.environment → ItemSays (Do s) → PlanReleases powers (plan_statement program task s)
+items-released : {program : Program} {items : List Item} {p : Plan} (powers : List Priv) (task : TaskState) → EachBound (ValueIsAmong powers) task.environment → All ItemSays items → ItemsCase program task items p → PlanReleases powers p
 unfolding statement_says
-statement-released powers program task (statement.Do simple) each said = simple-released powers program task simple each said
-statement-released powers program task (statement.If a block) each said =
-    seen-released powers task (seen_as flag_of task.environment a) (choosing block statement.Nothing) (λ flag e. choosing-released powers block statement.Nothing flag)
-statement-released powers program task (statement.IfElse a block other) each said =
-    seen-released powers task (seen_as flag_of task.environment a) (choosing block other) (λ flag e. choosing-released powers block other flag)
-statement-released powers program task (statement.While a block) each said =
-    seen-released powers task (seen_as flag_of task.environment a) (looping a block) (λ flag e. looping-released powers a block flag)
-statement-released powers program task (statement.Try block code payload handler) each said = tt
-
-access-released : (powers : List Priv) (task : TaskState) (s : Simple) → PlanReleases powers (plan_access task s)
-unfolding plan_access
-access-released powers task (line.Read x r) = seen-released powers task (seen_as reference_of task.environment r) _ (λ handle e. tt)
-access-released powers task (line.Take x v) = seen-released powers task (seen_as variable_of task.environment v) _ (λ handle e. tt)
-access-released powers task (line.Put v a) = seen-released powers task (seen_as variable_of task.environment v) _ (λ handle e. seen-released powers task (bound task.environment a) _ (λ value f. tt))
-access-released powers task (line.Wait x r) = seen-released powers task (seen_as result_handle task.environment r) _ (λ handle e. tt)
-access-released powers task s = tt
-
-items-released : (powers : List Priv) (program : Program) (task : TaskState) (items : List Item) → EachBound (ValueIsAmong powers) task.environment → All ItemSays items → PlanReleases powers (plan_items program task items)
-items-released powers program task [] each said = tt
-items-released powers program task (Do s ∷ items) each said = statement-released powers program task s each (All-head ItemSays (Do s) items said)
-items-released powers program task (Access s ∷ items) each said = access-released powers task s
-items-released powers program task (Mark code payload handler ∷ items) each said = tt
-items-released powers program task (Back caller name ∷ items) each said = tt
-items-released powers program task (Fail fault ∷ items) each said = tt
+items-released powers task each said (Does (out.Refused asks e)) = asks-released powers task each (All-head ItemSays _ _ said) asks
+items-released powers task each said (Does (out.LacksCells asks)) = asks-released powers task each (All-head ItemSays _ _ said) asks
+items-released powers task each said (Does (out.LacksTurns asks)) = asks-released powers task each (All-head ItemSays _ _ said) asks
+items-released powers task each said (Does (out.Releases asks e f)) = asks-released powers task each (All-head ItemSays _ _ said) asks
+items-released powers task each said (Visits (Reads e)) = tt
+items-released powers task each said (Visits r) = tt
+items-released powers task each said o = tt
 
 plan-released : (powers : List Priv) (program : Program) (task : TaskState) → EachBound (ValueIsAmong powers) task.environment → All ItemSays task.items → PlanReleases powers (plan program task)
-unfolding plan
-plan-released powers program task each said = by task.ended (task.turns == 0)
-  where
-    by : (ended none : Bool) → PlanReleases powers (if ended then Over else (if none then ending (Faulted (fault_at task NoTurns)) else plan_items program task task.items))
-    by true none = tt
-    by false true = tt
-    by false false = items-released powers program task task.items each said
+plan-released powers program task each said = plan-by (PlanReleases powers) program task tt tt (λ p going o. items-released powers task each said o)
 
 move-released : (powers : List Priv) (c : Configuration) (p : Plan) (move : Move) → PlanReleases powers p → move_of (cell_at c) p ≡ Some move → ReleasesBy powers move.act
 move-released powers c Over move released moves = absurd (over-moves c move moves)

@@ -1,33 +1,22 @@
 -- A run, seen by an observer, is the run of the erased calculus.
-use Rattle.std.proofs.Common.{◌≡◌, ◌∙◌, refl, sym, ap, subst, ℕ, ◌+◌, ◌==◌, Bool, true, false, ◌&&◌, not, if◌then◌else◌, IsTrue, List, [], ◌∷◌, ◌++◌, All, Option, Some, None, true≢false, append_assoc}
+use Rattle.std.proofs.Common.{◌≡◌, ◌∙◌, refl, sym, ap, subst, ℕ, ◌+◌, Bool, true, false, ◌&&◌, not, if◌then◌else◌, IsTrue, List, [], ◌∷◌, ◌++◌, All, Option, Some, None, true≢false, append_assoc}
 use Rattle.std.specs.Prelude.{option_and_then, option_map}
 use Rattle.std.proofs.lemmas.List.Elements.{All-nil, All-cons, All-append}
 use Rattle.lio_labels.specs.declared.label.Label.{Label}
 use Rattle.lio_labels.specs.Flow.{flows}
 use Rattle.lio_labels.proofs.FlowLemmas.{flow_is_transitive}
-use Rattle.lio_values.specs.declared.fault.FaultKind.TheVariants.{NoTurns}
-use Rattle.lio_values.specs.declared.value.Handle.{Handle}
-use Rattle.lio_values.specs.declared.value.Value.{Value}
 use Rattle.lio_values.specs.declared.value.Content.{Content}
-use Rattle.lio_values.specs.declared.value.Content.TheVariants.{Faulted}
 use Rattle.lio_values.specs.declared.act.Act.{Act}
 use Rattle.lio_values.specs.declared.act.Act.TheVariants as act
 use Rattle.lio_values.specs.declared.act.Reply.{Reply}
 use Rattle.lio_values.specs.declared.act.Reply.TheVariants.{Done, Got, Told, Refused}
 use Rattle.lio_values.specs.declared.entry.Entry.{Entry}
 use Rattle.lio_values.specs.Erasure.{erase_entry}
-use Rattle.lio_lines.specs.declared.line.Operand.{Operand}
-use Rattle.lio_lines.specs.declared.line.Simple.{Simple}
-use Rattle.lio_lines.specs.declared.line.Simple.TheVariants as line
-use Rattle.lio_syntax.specs.Statements.{Statement, Statements}
-use Rattle.lio_syntax.specs.Statements as statement
 use Rattle.lio_guards.proofs.GuardLemmas.{current_flows_to_released}
-use Rattle.lio_cells.specs.State.{Reference, Variable, Result as result, ready, answer}
-use Rattle.lio_control.specs.Items.{Item, Do, Access, Mark, Back, Fail}
-use Rattle.lio_calculus.specs.Operands.{bound, seen_as, flag_of, reference_of, variable_of, result_of}
+use Rattle.lio_cells.specs.State.{ready, answer}
+use Rattle.lio_control.specs.Items.{Item}
 use Rattle.lio_calculus.specs.Task.{TaskState}
-use Rattle.lio_calculus.specs.Going.{Advance, BindReply}
-use Rattle.lio_calculus.specs.Plan.{Program, Plan, Over, Own, Visit, Node, fault_at, ending, with_seen, choosing, looping, plan_statement, plan_access, plan_items, plan}
+use Rattle.lio_calculus.specs.Plan.{Program, Plan, Over, Own, Visit, plan}
 use Rattle.lio_calculus.specs.Step.{Configuration, cell_at, Move, move_of, number_of, met, waits, Turn, entry_of, turn_of, after, step}
 use Rattle.lio_calculus.specs.Erased.{erase, LowTurn, released_to}
 use Rattle.lio_calculus.specs.Guarded.{IsShown, IsGuarded, IsNoRelease}
@@ -38,9 +27,8 @@ use Rattle.lio_calculus.proofs.InvisibleLemmas.{visit-move, step-unseen}
 use Rattle.lio_calculus.proofs.VisibleStep.{step-visible}
 use Rattle.lio_calculus.proofs.StepGuarded.{turn-guarded}
 use Rattle.lio_calculus.proofs.StepKept.{turn-kept}
-use Rattle.lio_calculus.proofs.Outcome.{Outcome}
 use Rattle.lio_calculus.proofs.Outcome as out
-use Rattle.lio_calculus.proofs.OutcomeLemmas.{outcome}
+use Rattle.lio_calculus.proofs.PlanCases.{ItemsCase, Does, plan-by}
 
 -- what is released comes to a label above the task's
 abbrev UpAct : TaskState → Act → Type 0
@@ -58,89 +46,12 @@ Up task Over = Unit {0}
 Up task (Own asked reply onward) = UpReply task reply asked
 Up task (Visit asked target onward) = Unit {0}
 
-outcome-up : (program : Program) (task : TaskState) (s : Simple) (p : Plan) → Outcome program task s p → Up task p
-outcome-up program task s p (out.Releases x a l q t target power current e f) = current_flows_to_released task.label task.clearance t.label target current power f
-outcome-up program task s p (out.Mistyped t) = tt
-outcome-up program task s p (out.Refused t asked o target kind tests e) = tt
-outcome-up program task s p (out.Binds x a value e) = tt
-outcome-up program task s p (out.Computes1 x o a value made e) = tt
-outcome-up program task s p (out.Fails1 x o a value kind e) = tt
-outcome-up program task s p (out.Computes2 x a o b left right made e) = tt
-outcome-up program task s p (out.Fails2 x a o b left right kind e) = tt
-outcome-up program task s p (out.Calls x q arguments vs procedure e f g) = tt
-outcome-up program task s p (out.IsTooDeep x q arguments) = tt
-outcome-up program task s p (out.Returns a value e) = tt
-outcome-up program task s p (out.Finishes a plain e) = tt
-outcome-up program task s p out.Stops = tt
-outcome-up program task s p (out.Throws a plain e) = tt
-outcome-up program task s p (out.Seals x l a label plain e) = tt
-outcome-up program task s p (out.Unlabels x a t current e f) = tt
-outcome-up program task s p (out.Taints l label current e) = tt
-outcome-up program task s p (out.Lowers l label current e) = tt
-outcome-up program task s p (out.KeepsBack x a l q t target power kind e) = tt
-outcome-up program task s p (out.MakesReference x l a label value current e f g) = tt
-outcome-up program task s p (out.LacksReference x l a label value e) = tt
-outcome-up program task s p (out.RefusesReference x l a label value kind e f) = tt
-outcome-up program task s p (out.MakesVariable t x label value current f e g) = tt
-outcome-up program task s p (out.LacksVariable t x label value f) = tt
-outcome-up program task s p (out.RefusesVariable t x label value kind f e) = tt
-outcome-up program task s p (out.IsRaised t o handle current r e) = tt
-outcome-up program task s p (out.Writes r a handle value current h e) = tt
-outcome-up program task s p (out.RefusesWrite r a handle value kind e f) = tt
-outcome-up program task s p (out.Sends c a handle text current h) = tt
-outcome-up program task s p (out.MakesChild t x label turns cells birth current f e g h) = tt
-outcome-up program task s p (out.RefusesChild t x label turns cells birth kind f e) = tt
-outcome-up program task s p (out.LacksCells t x label turns cells birth f) = tt
-outcome-up program task s p (out.LacksTurns t x label turns cells birth f) = tt
-outcome-up program task s p (out.MakesOrphan t turns cells birth f e g) = tt
-outcome-up program task s p (out.OrphanLacksCells t turns cells birth f) = tt
-outcome-up program task s p (out.OrphanLacksTurns t turns cells birth f) = tt
-
-seen-up : {X : Type 0} (task : TaskState) (seen : Option X) (next : X → Plan) → ((x : X) → Up task (next x)) → Up task (with_seen task seen next)
-seen-up task None next fine = tt
-seen-up task (Some x) next fine = fine x
-
-choosing-up : (task : TaskState) (block other : Statements) (flag : Bool) → Up task (choosing block other flag)
-choosing-up task block other true = tt
-choosing-up task block other false = tt
-
-looping-up : (task : TaskState) (condition : Operand) (block : Statements) (flag : Bool) → Up task (looping condition block flag)
-looping-up task condition block true = tt
-looping-up task condition block false = tt
-
-statement-up : (program : Program) (task : TaskState) (s : Statement) → Up task (plan_statement program task s)
-statement-up program task (statement.Do simple) = outcome-up program task simple _ (outcome program task simple)
-statement-up program task (statement.If a block) = seen-up task (seen_as flag_of task.environment a) (choosing block statement.Nothing) (choosing-up task block statement.Nothing)
-statement-up program task (statement.IfElse a block other) = seen-up task (seen_as flag_of task.environment a) (choosing block other) (choosing-up task block other)
-statement-up program task (statement.While a block) = seen-up task (seen_as flag_of task.environment a) (looping a block) (looping-up task a block)
-statement-up program task (statement.Try block code payload handler) = tt
-
-access-up : (task : TaskState) (s : Simple) → Up task (plan_access task s)
-unfolding plan_access
-access-up task (line.Read x r) = seen-up task (seen_as reference_of task.environment r) (λ handle. Visit act.Read (Node Reference handle) (BindReply x)) (λ handle. tt)
-access-up task (line.Take x v) = seen-up task (seen_as variable_of task.environment v) (λ handle. Visit act.Take (Node Variable handle) (BindReply x)) (λ handle. tt)
-access-up task (line.Put v a) =
-    let last : Handle → Value → Plan = λ handle value. Visit (act.Put value) (Node Variable handle) Advance in
-    seen-up task (seen_as variable_of task.environment v) (λ handle. with_seen task (bound task.environment a) (last handle)) (λ handle. seen-up task (bound task.environment a) (last handle) (λ value. tt))
-access-up task (line.Wait x r) = seen-up task (seen_as result_of task.environment r) (λ handle. Visit act.Wait (Node result handle) (BindReply x)) (λ handle. tt)
-access-up task s = tt
-
-items-up : (program : Program) (task : TaskState) (items : List Item) → Up task (plan_items program task items)
-items-up program task [] = tt
-items-up program task (Do s ∷ items) = statement-up program task s
-items-up program task (Access s ∷ items) = access-up task s
-items-up program task (Mark code payload handler ∷ items) = tt
-items-up program task (Back caller name ∷ items) = tt
-items-up program task (Fail fault ∷ items) = tt
+items-up : {program : Program} {items : List Item} {p : Plan} (task : TaskState) → ItemsCase program task items p → Up task p
+items-up task (Does (out.Releases asks e f)) = current_flows_to_released task.label task.clearance _ _ _ _ f
+items-up task o = tt
 
 plan-up : (program : Program) (task : TaskState) → Up task (plan program task)
-unfolding plan
-plan-up program task = by task.ended (task.turns == 0)
-  where
-    by : (ended none : Bool) → Up task (if ended then Over else (if none then ending (Faulted (fault_at task NoTurns)) else plan_items program task task.items))
-    by true none = tt
-    by false true = tt
-    by false false = items-up program task task.items
+plan-up program task = plan-by (Up task) program task tt tt (λ p going o. items-up task o)
 
 -- so a turn above an observer releases nothing to it
 and_false : (b : Bool) → (b && false) ≡ false

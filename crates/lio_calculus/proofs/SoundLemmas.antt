@@ -2,6 +2,7 @@
 use Rattle.std.proofs.Common.{◌≡◌, ◌∙◌, refl, sym, ap, subst, ℕ, ◌<◌, ◌≤◌, ◌⊎◌, inl, inr, Bool, true, false, if◌then◌else◌, IsTrue, List, [], ◌∷◌, length, bytes_eq, Option, Some, None, is_some, true≢false, arith}
 use Rattle.std.specs.Prelude.{option_and_then, nat_lt}
 use Rattle.std.specs.Option.{option_map_or}
+use Rattle.std.specs.List.{list_all}
 use Rattle.std.proofs.lemmas.Bool.{and_parts}
 use Rattle.std.proofs.lemmas.Bool.Decides.{Decides-eqb, nat_tests}
 use Rattle.std.proofs.lemmas.List.{get_or_past}
@@ -36,6 +37,13 @@ same_label-same a b e =
   where
     formulas : (x y : List (List ℕ)) → same_formula x y ≡ true → x ≡ y
     formulas x y same = (slice_eq-Decides (λ (p q : List ℕ). slice_eq-Decides Decides-eqb p q _ refl) x y (same_formula x y) refl).0 same
+
+-- the first operand of a list is said, and so are those behind it
+pub first-said : (a : Operand) (operands : List Operand) → IsTrue (list_all is_said (a ∷ operands)) → IsTrue (is_said a)
+first-said a operands said = (and_parts (is_said a) (list_all is_said operands) said).0
+
+pub rest-said : (a : Operand) (operands : List Operand) → IsTrue (list_all is_said (a ∷ operands)) → IsTrue (list_all is_said operands)
+rest-said a operands said = (and_parts (is_said a) (list_all is_said operands) said).1
 
 -- what a name is bound to has what each bound value has
 value_of-each : (P : Value → Type 0) (environment : Environment) (name : List ℕ) (value : Value) → EachBound P environment → value_of environment name ≡ Some value → P value

@@ -2,8 +2,6 @@
 use Rattle.std.proofs.Common.{◌≡◌, ◌∙◌, refl, sym, ap, ℕ, ◌==◌, Bool, true, false, ◌&&◌, not, if◌then◌else◌, IsTrue, List, [], ◌∷◌, All, Option, Some, None, is_some, true≢false}
 use Rattle.std.specs.Prelude.{◌||◌}
 use Rattle.std.specs.Option.{option_map_or}
-use Rattle.std.specs.List.{list_all}
-use Rattle.std.proofs.lemmas.Bool.{and_parts}
 use Rattle.std.proofs.lemmas.List.Elements.{All-head}
 use Rattle.lio_values.specs.declared.fault.FaultKind.TheVariants.{NoTurns}
 use Rattle.lio_values.specs.declared.value.Content.TheVariants.{Faulted}
@@ -11,26 +9,22 @@ use Rattle.lio_values.specs.declared.value.Handle.{Handle}
 use Rattle.lio_values.specs.declared.value.Value.{Value}
 use Rattle.lio_values.specs.declared.act.Act.{Act}
 use Rattle.lio_values.specs.declared.act.Act.TheVariants as act
-use Rattle.lio_lines.specs.declared.line.Operand.{Operand}
 use Rattle.lio_lines.specs.declared.line.Simple.{Simple}
 use Rattle.lio_lines.specs.declared.line.Simple.TheVariants as line
-use Rattle.lio_lines.specs.Literal.{is_said}
-use Rattle.lio_syntax.specs.Statements.{Statement, Statements}
-use Rattle.lio_syntax.specs.Statements as statement
+use Rattle.lio_syntax.specs.Statements.{Statement}
 use Rattle.lio_cells.specs.declared.state.State.TheVariants.{Absent}
 use Rattle.lio_cells.specs.State.{Kind, Reference, Variable, Result as result, ready, answer}
 use Rattle.lio_control.specs.Items.{Item, Do, Access, Mark, Back, Fail}
-use Rattle.lio_calculus.specs.Operands.{bound, seen_as, flag_of, reference_of, variable_of, result_of as result_handle}
+use Rattle.lio_calculus.specs.Operands.{bound, seen_as, reference_of, variable_of, result_of as result_handle}
 use Rattle.lio_calculus.specs.Task.{TaskState}
 use Rattle.lio_calculus.specs.Going.{Onward, Advance, BindReply}
-use Rattle.lio_calculus.specs.Plan.{Plan, Over, Visit, Node, fault_at, ending, with_seen, choosing, looping, plan_statement, plan_access, plan_items, plan}
+use Rattle.lio_calculus.specs.Plan.{Plan, Over, Visit, Node, fault_at, ending, with_seen, plan_access, plan_items, plan}
 use Rattle.lio_calculus.specs.Step.{Configuration, cell_at, waits, Move, move_of, visit, can}
 use Rattle.lio_calculus.specs.Sound.{Names, ValueNames, EachBound, IsRaised, FrontIsRaised, ItemSays, says, IsTaskOf, IsSound}
 use Rattle.lio_calculus.specs.Waiting.{is_ready_for, is_held_up, is_waiting, is_still, TaskCanUnlessStill}
-use Rattle.lio_calculus.proofs.Outcome.{Outcome}
 use Rattle.lio_calculus.proofs.Outcome as out
-use Rattle.lio_calculus.proofs.OutcomeLemmas.{outcome}
-use Rattle.lio_calculus.proofs.SoundLemmas.{reference-names, variable-names, result-names}
+use Rattle.lio_calculus.proofs.PlanCases.{ItemsCase, Does, items-case}
+use Rattle.lio_calculus.proofs.SoundLemmas.{first-said, reference-names, variable-names, result-names}
 use Rattle.lio_calculus.proofs.EnabledLemmas.{can-task, can-absent}
 
 -- whether a plan can be carried out at once
@@ -38,28 +32,9 @@ abbrev moves_at : Configuration → Plan → Bool
 moves_at c p = is_some (move_of (cell_at c) p)
 
 -- a statement never waits
-outcome-moves : (c : Configuration) (task : TaskState) (s : Simple) (p : Plan) → Outcome c.program task s p → moves_at c p ≡ true
-outcome-moves c task s p (out.Mistyped t) = refl
-outcome-moves c task s p o = refl
-
-seen-moves : {X : Type 0} (c : Configuration) (task : TaskState) (seen : Option X) (next : X → Plan) → ((x : X) → moves_at c (next x) ≡ true) → moves_at c (with_seen task seen next) ≡ true
-seen-moves c task None next fine = refl
-seen-moves c task (Some x) next fine = fine x
-
-choosing-moves : (c : Configuration) (block other : Statements) (flag : Bool) → moves_at c (choosing block other flag) ≡ true
-choosing-moves c block other true = refl
-choosing-moves c block other false = refl
-
-looping-moves : (c : Configuration) (condition : Operand) (block : Statements) (flag : Bool) → moves_at c (looping condition block flag) ≡ true
-looping-moves c condition block true = refl
-looping-moves c condition block false = refl
-
-statement-moves : (c : Configuration) (task : TaskState) (s : Statement) → moves_at c (plan_statement c.program task s) ≡ true
-statement-moves c task (statement.Do simple) = outcome-moves c task simple _ (outcome c.program task simple)
-statement-moves c task (statement.If a block) = seen-moves c task (seen_as flag_of task.environment a) (choosing block statement.Nothing) (choosing-moves c block statement.Nothing)
-statement-moves c task (statement.IfElse a block other) = seen-moves c task (seen_as flag_of task.environment a) (choosing block other) (choosing-moves c block other)
-statement-moves c task (statement.While a block) = seen-moves c task (seen_as flag_of task.environment a) (looping a block) (looping-moves c a block)
-statement-moves c task (statement.Try block code payload handler) = refl
+statement-moves : {s : Statement} {items : List Item} {p : Plan} (c : Configuration) (task : TaskState) → ItemsCase c.program task (Do s ∷ items) p → moves_at c p ≡ true
+statement-moves c task (Does out.Mistyped) = refl
+statement-moves c task o = refl
 
 -- an access waits until the node that its handle names is ready
 visit-moves : (c : Configuration) (asked : Act) (kind : Kind) (handle : Handle) (onward : Onward) → waits asked ≡ true → Names c kind handle
@@ -85,10 +60,6 @@ seen-plan task seen next x e = ap (λ o. with_seen task o next) e
 not-not : (b : Bool) → b ≡ not (not b)
 not-not true = refl
 not-not false = refl
-
--- the first operand is said
-first-said : (a : Operand) (operands : List Operand) → IsTrue (list_all is_said (a ∷ operands)) → IsTrue (is_said a)
-first-said a operands said = (and_parts (is_said a) (list_all is_said operands) said).0
 
 -- an access in front of a task of a well-formed configuration
 access-moves : (c : Configuration) (task : TaskState) (s : Simple) (items : List Item) → EachBound (ValueNames c) task.environment → IsTrue (says s) → IsRaised task s → moves_at c (plan_access task s) ≡ not (is_held_up c task.environment (Access s ∷ items))
@@ -122,7 +93,7 @@ access-moves c task s items each said raised = absurd raised
 
 items-moves : (c : Configuration) (task : TaskState) (items : List Item) → EachBound (ValueNames c) task.environment → All ItemSays items → FrontIsRaised task items → moves_at c (plan_items c.program task items) ≡ not (is_held_up c task.environment items)
 items-moves c task [] each said raised = refl
-items-moves c task (Do s ∷ items) each said raised = statement-moves c task s
+items-moves c task (Do s ∷ items) each said raised = statement-moves c task (items-case c.program task (Do s ∷ items))
 items-moves c task (Access s ∷ items) each said raised = access-moves c task s items each (All-head ItemSays (Access s) items said) raised
 items-moves c task (Mark code payload handler ∷ items) each said raised = refl
 items-moves c task (Back caller name ∷ items) each said raised = refl
