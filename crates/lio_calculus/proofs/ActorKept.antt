@@ -10,11 +10,11 @@ use Rattle.lio_values.specs.declared.act.Act.TheVariants as act
 use Rattle.lio_values.specs.declared.act.Reply.{Reply}
 use Rattle.lio_values.specs.declared.act.Reply.TheVariants.{Done, Got, Told, Refused}
 use Rattle.lio_cells.specs.declared.state.State.{State}
-use Rattle.lio_cells.specs.declared.state.State.TheVariants.{Absent, Ref, Var, Chan, Job}
+use Rattle.lio_cells.specs.declared.state.State.TheVariants.{Job}
 use Rattle.lio_cells.specs.State.{Result, is_job, label_of, result_of, state_after}
 use Rattle.lio_control.specs.Items.{rest_of}
 use Rattle.lio_calculus.specs.Task.{TaskState}
-use Rattle.lio_calculus.specs.Going.{Onward, Advance, Bind, Seal, Enter, Repeat, Try, Call, Return, Leave, Raise, RaiseTo, Unlabel, Lower, Release, HoldReference, HoldVariable, Fork, Spawn, BindReply, Throw, End, gone, gone_on}
+use Rattle.lio_calculus.specs.Going.{Onward, Bind, Seal, Call, Return, Leave, Unlabel, Release, HoldReference, HoldVariable, Fork, Spawn, Throw, gone, gone_on}
 use Rattle.lio_calculus.specs.Guarded.{label_after}
 use Rattle.lio_calculus.specs.Step.{Configuration, cell_at}
 use Rattle.lio_calculus.specs.Sound.{ValueNames, IsOpen, EachInTask, EachInState, EachInItem, ItemSays, IsTaskOf, IsInRange, IsSound}
@@ -37,19 +37,7 @@ onward-map P Q implies asked (Leave caller name) p = bound-map P Q implies calle
 onward-map P Q implies asked (Unlabel name label source content) p = implies _ p
 onward-map P Q implies asked (Release name label) p = implies _ p
 onward-map P Q implies asked (Throw fault) p = implies _ p
-onward-map P Q implies asked Advance p = tt
-onward-map P Q implies asked (Enter block) p = tt
-onward-map P Q implies asked (Repeat condition block) p = tt
-onward-map P Q implies asked (Try block code payload handler) p = tt
-onward-map P Q implies asked (Raise label) p = tt
-onward-map P Q implies asked (RaiseTo label access) p = tt
-onward-map P Q implies asked (Lower clearance) p = tt
-onward-map P Q implies asked (HoldReference name label) p = tt
-onward-map P Q implies asked (HoldVariable name label) p = tt
-onward-map P Q implies asked (Fork name label cells turns) p = tt
-onward-map P Q implies asked (Spawn cells turns) p = tt
-onward-map P Q implies asked (BindReply name) p = tt
-onward-map P Q implies asked End p = tt
+onward-map P Q implies asked onward p = tt
 
 pub reply-map : (P Q : Value → Type 0) → ((v : Value) → P v → Q v) → (reply : Reply) → EachInReply P reply → EachInReply Q reply
 reply-map P Q implies (Got value) p = implies value p
@@ -69,63 +57,19 @@ taken-fits task (HoldReference name label) suits = suits
 taken-fits task (HoldVariable name label) suits = suits
 taken-fits task (Fork name label cells turns) suits = suits
 taken-fits task (Spawn cells turns) suits = suits
-taken-fits task Advance suits = omega arith
-taken-fits task (Bind name value) suits = omega arith
-taken-fits task (Seal name label plain) suits = omega arith
-taken-fits task (Enter block) suits = omega arith
-taken-fits task (Repeat condition block) suits = omega arith
-taken-fits task (Try block code payload handler) suits = omega arith
-taken-fits task (Call name environment body) suits = omega arith
-taken-fits task (Return value) suits = omega arith
-taken-fits task (Leave caller name) suits = omega arith
-taken-fits task (Raise label) suits = omega arith
-taken-fits task (RaiseTo label access) suits = omega arith
-taken-fits task (Unlabel name label source content) suits = omega arith
-taken-fits task (Lower clearance) suits = omega arith
-taken-fits task (Release name label) suits = omega arith
-taken-fits task (BindReply name) suits = omega arith
-taken-fits task (Throw fault) suits = omega arith
-taken-fits task End suits = omega arith
+taken-fits task onward suits = omega arith
 
 -- the result of a job after its task's act
 result-after : (label : Label) (r : Option Content) (asked : Act) → is_some r ≡ false → is_some (result_of (state_after (Job label r) asked)) ≡ is_ended asked
 unfolding state_after
 result-after label r (act.Ended content) none = refl
-result-after label r (act.Write w) none = none
-result-after label r act.Take none = none
-result-after label r (act.Put w) none = none
-result-after label r (act.Send text) none = none
-result-after label r (act.NewRef l w) none = none
-result-after label r (act.NewVar l w) none = none
-result-after label r (act.Fork birth) none = none
-result-after label r (act.Spawn birth) none = none
-result-after label r act.Read none = none
-result-after label r act.Wait none = none
-result-after label r act.Step none = none
-result-after label r (act.Seal l) none = none
-result-after label r (act.Raise o l) none = none
-result-after label r (act.Lower l) none = none
-result-after label r (act.Release source target power content) none = none
+result-after label r asked none = none
 
 -- and what it holds
 job-each : (P : Value → Type 0) (label : Label) (r : Option Content) (asked : Act) → EachInState P (Job label r) → EachInAct P asked → EachInState P (state_after (Job label r) asked)
 unfolding state_after
 job-each P label r (act.Ended content) each p = p label
-job-each P label r (act.Write w) each p = each
-job-each P label r act.Take each p = each
-job-each P label r (act.Put w) each p = each
-job-each P label r (act.Send text) each p = each
-job-each P label r (act.NewRef l w) each p = each
-job-each P label r (act.NewVar l w) each p = each
-job-each P label r (act.Fork birth) each p = each
-job-each P label r (act.Spawn birth) each p = each
-job-each P label r act.Read each p = each
-job-each P label r act.Wait each p = each
-job-each P label r act.Step each p = each
-job-each P label r (act.Seal l) each p = each
-job-each P label r (act.Raise o l) each p = each
-job-each P label r (act.Lower l) each p = each
-job-each P label r (act.Release source target power content) each p = each
+job-each P label r asked each p = each
 
 -- the state of a job
 pub record IsJobState (state : State) : Type 0 where
@@ -135,10 +79,7 @@ pub record IsJobState (state : State) : Type 0 where
 
 pub job-state : (state : State) → is_job state ≡ true → IsJobState state
 job-state (Job l r) job = record { label = l; result = r; is = refl }
-job-state Absent job = absurd (true≢false (sym job))
-job-state (Ref l v) job = absurd (true≢false (sym job))
-job-state (Var l v) job = absurd (true≢false (sym job))
-job-state (Chan l b) job = absurd (true≢false (sym job))
+job-state state job = absurd (true≢false (sym job))
 
 pub job-stays : (state : State) (asked : Act) → is_job state ≡ true → is_job (state_after state asked) ≡ true
 job-stays state asked job =

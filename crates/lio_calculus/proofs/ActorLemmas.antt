@@ -18,7 +18,7 @@ use Rattle.lio_cells.specs.declared.state.State.TheVariants.{Absent, Ref, Var, C
 use Rattle.lio_cells.specs.State.{state_after}
 use Rattle.lio_calculus.specs.Task.{TaskState}
 use Rattle.lio_control.specs.Items.{Item, rest_of}
-use Rattle.lio_calculus.specs.Going.{Onward, Advance, Bind, Seal, Enter, Repeat, Try, Call, Return, Leave, Raise, RaiseTo, Unlabel, Lower, Release, HoldReference, HoldVariable, Fork, Spawn, BindReply, Throw, End, released, gone, gone_on}
+use Rattle.lio_calculus.specs.Going.{Onward, Raise, Unlabel, Release, released, gone, gone_on}
 use Rattle.lio_calculus.specs.Hiding.{hide_task, hide_onward}
 use Rattle.lio_calculus.specs.Step.{Cell, Move, actor_after}
 use Rattle.lio_calculus.specs.Erased.{hide_state, hide_cell, erase_cell}
@@ -51,26 +51,7 @@ hide_cell-twice observer cell = λ i. record { state = hide_state-twice observer
 label_after-hidden : (observer : Label) (onward : Onward) (current : Label) → label_after (hide_onward observer onward) current ≡ label_after onward current
 unfolding hide_onward
 label_after-hidden observer (Raise label) current = refl
-label_after-hidden observer (RaiseTo label access) current = refl
-label_after-hidden observer (Unlabel name label source content) current = refl
-label_after-hidden observer Advance current = refl
-label_after-hidden observer (Bind name value) current = refl
-label_after-hidden observer (Seal name label plain) current = refl
-label_after-hidden observer (Enter block) current = refl
-label_after-hidden observer (Repeat condition block) current = refl
-label_after-hidden observer (Try block code payload handler) current = refl
-label_after-hidden observer (Call name environment body) current = refl
-label_after-hidden observer (Return value) current = refl
-label_after-hidden observer (Leave caller name) current = refl
-label_after-hidden observer (Lower clearance) current = refl
-label_after-hidden observer (Release name label) current = refl
-label_after-hidden observer (HoldReference name label) current = refl
-label_after-hidden observer (HoldVariable name label) current = refl
-label_after-hidden observer (Fork name label cells turns) current = refl
-label_after-hidden observer (Spawn cells turns) current = refl
-label_after-hidden observer (BindReply name) current = refl
-label_after-hidden observer (Throw fault) current = refl
-label_after-hidden observer End current = refl
+label_after-hidden observer onward current = refl
 
 -- what the observer may learn of a turn after which it still sees the task
 released-same : (observer label source target : Label) (power : Priv) (content : Content) (seen : Act) → erase_act observer seen ≡ act.Release source target power (erase_content observer target content) → target ≡ label
@@ -79,62 +60,16 @@ released-same observer label source target power content (act.Release source' ta
     let here : target' ≡ target = cc in
     let same : erase_content observer target' content' ≡ erase_content observer target content = cc in
     ap (λ (l : Label). erase_content observer l content') (sym (here ∙ to)) ∙ same ∙ ap (λ (l : Label). erase_content observer l content) to
-released-same observer label source target power content act.Take alike to = absurd (cc)
-released-same observer label source target power content (act.Send text) alike to = absurd (cc)
-released-same observer label source target power content (act.Ended told) alike to = absurd (cc)
-released-same observer label source target power content act.Read alike to = absurd (cc)
-released-same observer label source target power content act.Wait alike to = absurd (cc)
-released-same observer label source target power content act.Step alike to = absurd (cc)
-released-same observer label source target power content (act.Seal l) alike to = absurd (cc)
-released-same observer label source target power content (act.Raise op l) alike to = absurd (cc)
-released-same observer label source target power content (act.Lower l) alike to = absurd (cc)
-released-same observer label source target power content (act.Write value) alike to = absurd (cc)
-released-same observer label source target power content (act.Put value) alike to = absurd (cc)
-released-same observer label source target power content (act.NewRef l value) alike to = absurd (cc)
-released-same observer label source target power content (act.NewVar l value) alike to = absurd (cc)
-released-same observer label source target power content (act.Fork birth) alike to = absurd (cc)
-released-same observer label source target power content (act.Spawn birth) alike to = absurd (cc)
+released-same observer label source target power content asked alike to = absurd (cc)
 
 released-alike : (observer label : Label) (asked seen : Act) → erase_act observer seen ≡ erase_act observer asked → IsReleaseOf asked label → erase_content observer label (released seen) ≡ erase_content observer label (released asked)
 released-alike observer label (act.Release source target power content) seen alike is = released-same observer label source target power content seen alike is
-released-alike observer label act.Take seen alike is = absurd is
-released-alike observer label (act.Send text) seen alike is = absurd is
-released-alike observer label (act.Ended content) seen alike is = absurd is
-released-alike observer label act.Read seen alike is = absurd is
-released-alike observer label act.Wait seen alike is = absurd is
-released-alike observer label act.Step seen alike is = absurd is
-released-alike observer label (act.Seal l) seen alike is = absurd is
-released-alike observer label (act.Raise op l) seen alike is = absurd is
-released-alike observer label (act.Lower l) seen alike is = absurd is
-released-alike observer label (act.Write value) seen alike is = absurd is
-released-alike observer label (act.Put value) seen alike is = absurd is
-released-alike observer label (act.NewRef l value) seen alike is = absurd is
-released-alike observer label (act.NewVar l value) seen alike is = absurd is
-released-alike observer label (act.Fork birth) seen alike is = absurd is
-released-alike observer label (act.Spawn birth) seen alike is = absurd is
+released-alike observer label asked seen alike is = absurd is
 
 agrees : (observer : Label) (current : Label) (onward : Onward) (asked seen : Act) → erase_act observer seen ≡ erase_act observer asked → IsAllowed asked onward → IsTrue (flows (label_after onward current) observer) → Agrees observer onward asked seen
 agrees observer current (Unlabel name label source content) asked seen alike allowed visible = flow_is_transitive source label observer allowed visible
 agrees observer current (Release name label) asked seen alike allowed visible = released-alike observer label asked seen alike allowed
-agrees observer current (Raise label) asked seen alike allowed visible = tt
-agrees observer current (RaiseTo label access) asked seen alike allowed visible = tt
-agrees observer current Advance asked seen alike allowed visible = tt
-agrees observer current (Bind name value) asked seen alike allowed visible = tt
-agrees observer current (Seal name label plain) asked seen alike allowed visible = tt
-agrees observer current (Enter block) asked seen alike allowed visible = tt
-agrees observer current (Repeat condition block) asked seen alike allowed visible = tt
-agrees observer current (Try block code payload handler) asked seen alike allowed visible = tt
-agrees observer current (Call name environment body) asked seen alike allowed visible = tt
-agrees observer current (Return value) asked seen alike allowed visible = tt
-agrees observer current (Leave caller name) asked seen alike allowed visible = tt
-agrees observer current (Lower clearance) asked seen alike allowed visible = tt
-agrees observer current (HoldReference name label) asked seen alike allowed visible = tt
-agrees observer current (HoldVariable name label) asked seen alike allowed visible = tt
-agrees observer current (Fork name label cells turns) asked seen alike allowed visible = tt
-agrees observer current (Spawn cells turns) asked seen alike allowed visible = tt
-agrees observer current (BindReply name) asked seen alike allowed visible = tt
-agrees observer current (Throw fault) asked seen alike allowed visible = tt
-agrees observer current End asked seen alike allowed visible = tt
+agrees observer current onward asked seen alike allowed visible = tt
 
 -- the actor's task goes on as it is seen
 gone_on-hidden : (observer : Label) (task : TaskState) (onward : Onward) (asked seen : Act) (reply : Reply) → Agrees observer onward asked seen

@@ -13,7 +13,7 @@ use Rattle.lio_values.specs.declared.act.Birth.{Birth}
 use Rattle.lio_values.specs.Erasure.{erase_value, erase_birth}
 use Rattle.lio_syntax.specs.Statements.{Procedure}
 use Rattle.lio_cells.specs.declared.state.State.{State}
-use Rattle.lio_cells.specs.declared.state.State.TheVariants.{Absent, Ref, Var, Chan, Job}
+use Rattle.lio_cells.specs.declared.state.State.TheVariants.{Absent, Ref, Var, Job}
 use Rattle.lio_cells.specs.State.{is_of, label_of, written, filled, received, ended, placed, state_after}
 use Rattle.lio_control.specs.Environment.{bind_all}
 use Rattle.lio_calculus.specs.Task.{TaskState}
@@ -29,38 +29,23 @@ use Rattle.lio_calculus.proofs.StateLemmas.{is_absent-hidden, is_of-hidden, labe
 
 written-hidden : (observer : Label) (state : State) (value : Value) → written (hide_state observer state) (erase_value observer value) ≡ hide_state observer (written state value)
 written-hidden observer Absent value = refl
-written-hidden observer (Ref label before) value = refl
-written-hidden observer (Var label before) value = refl
-written-hidden observer (Chan label bytes) value = refl
-written-hidden observer (Job label result) value = refl
+written-hidden observer state value = refl
 
 filled-hidden : (observer : Label) (state : State) (value : Option Value) → filled (hide_state observer state) (option_map (erase_value observer) value) ≡ hide_state observer (filled state value)
 filled-hidden observer Absent value = refl
-filled-hidden observer (Ref label before) value = refl
-filled-hidden observer (Var label before) value = refl
-filled-hidden observer (Chan label bytes) value = refl
-filled-hidden observer (Job label result) value = refl
+filled-hidden observer state value = refl
 
 received-hidden : (observer : Label) (state : State) (text : List ℕ) → received (hide_state observer state) text ≡ hide_state observer (received state text)
 received-hidden observer Absent text = refl
-received-hidden observer (Ref label before) text = refl
-received-hidden observer (Var label before) text = refl
-received-hidden observer (Chan label bytes) text = refl
-received-hidden observer (Job label result) text = refl
+received-hidden observer state text = refl
 
 ended-hidden : (observer : Label) (state : State) (content : Content) → ended (hide_state observer state) content ≡ hide_state observer (ended state content)
 ended-hidden observer Absent content = refl
-ended-hidden observer (Ref label before) content = refl
-ended-hidden observer (Var label before) content = refl
-ended-hidden observer (Chan label bytes) content = refl
-ended-hidden observer (Job label result) content = refl
+ended-hidden observer state content = refl
 
 placed-hidden : (observer : Label) (state new : State) → placed (hide_state observer state) (hide_state observer new) ≡ hide_state observer (placed state new)
 placed-hidden observer Absent new = refl
-placed-hidden observer (Ref label before) new = refl
-placed-hidden observer (Var label before) new = refl
-placed-hidden observer (Chan label bytes) new = refl
-placed-hidden observer (Job label result) new = refl
+placed-hidden observer state new = refl
 
 -- the state after an act that is asked for with hidden values
 pub state_after-hidden : (observer : Label) (state : State) (asked : Act) → state_after (hide_state observer state) (hide_asked observer asked) ≡ hide_state observer (state_after state asked)
@@ -74,13 +59,7 @@ state_after-hidden observer state (act.NewVar label value) = placed-hidden obser
 state_after-hidden observer state (act.Fork birth) = placed-hidden observer state (Job birth.result None)
 state_after-hidden observer state (act.Spawn birth) = placed-hidden observer state (Job birth.result None)
 state_after-hidden observer state (act.Ended content) = ended-hidden observer state content
-state_after-hidden observer state act.Read = refl
-state_after-hidden observer state act.Wait = refl
-state_after-hidden observer state act.Step = refl
-state_after-hidden observer state (act.Seal label) = refl
-state_after-hidden observer state (act.Raise op label) = refl
-state_after-hidden observer state (act.Lower label) = refl
-state_after-hidden observer state (act.Release source target power content) = refl
+state_after-hidden observer state asked = refl
 
 -- whether a cell is the one that a turn is to meet
 pub is_met-hidden : (observer : Label) (target : Target) (state : State) → is_met target (hide_state observer state) ≡ is_met target state
@@ -101,20 +80,7 @@ born-hidden : (observer : Label) (program : Program) (label : Label) (asked : Ac
 unfolding hide_asked
 born-hidden observer program label (act.Fork birth) = ap Some (child_of-hidden observer program label birth)
 born-hidden observer program label (act.Spawn birth) = ap Some (child_of-hidden observer program label birth)
-born-hidden observer program label (act.Write value) = refl
-born-hidden observer program label act.Take = refl
-born-hidden observer program label (act.Put value) = refl
-born-hidden observer program label (act.Send text) = refl
-born-hidden observer program label (act.NewRef l value) = refl
-born-hidden observer program label (act.NewVar l value) = refl
-born-hidden observer program label (act.Ended content) = refl
-born-hidden observer program label act.Read = refl
-born-hidden observer program label act.Wait = refl
-born-hidden observer program label act.Step = refl
-born-hidden observer program label (act.Seal l) = refl
-born-hidden observer program label (act.Raise op l) = refl
-born-hidden observer program label (act.Lower l) = refl
-born-hidden observer program label (act.Release source target power content) = refl
+born-hidden observer program label asked = refl
 
 task_after-hidden : (observer : Label) (task child : Option TaskState) → task_after (option_map (hide_task observer) task) (option_map (hide_task observer) child) ≡ option_map (hide_task observer) (task_after task child)
 task_after-hidden observer None child = refl
@@ -138,28 +104,16 @@ sees-hidden observer cell = ap (λ (l : Option Label). option_map_or (λ label. 
 
 pub label_of-received : (state : State) (text : List ℕ) → label_of (received state text) ≡ label_of state
 label_of-received Absent text = refl
-label_of-received (Ref label before) text = refl
-label_of-received (Var label before) text = refl
-label_of-received (Chan label bytes) text = refl
-label_of-received (Job label result) text = refl
+label_of-received state text = refl
 
 pub label_of-written : (state : State) (value : Value) → label_of (written state value) ≡ label_of state
 label_of-written Absent value = refl
-label_of-written (Ref label before) value = refl
-label_of-written (Var label before) value = refl
-label_of-written (Chan label bytes) value = refl
-label_of-written (Job label result) value = refl
+label_of-written state value = refl
 
 pub label_of-filled : (state : State) (value : Option Value) → label_of (filled state value) ≡ label_of state
 label_of-filled Absent value = refl
-label_of-filled (Ref label before) value = refl
-label_of-filled (Var label before) value = refl
-label_of-filled (Chan label bytes) value = refl
-label_of-filled (Job label result) value = refl
+label_of-filled state value = refl
 
 pub label_of-ended : (state : State) (content : Content) → label_of (ended state content) ≡ label_of state
 label_of-ended Absent content = refl
-label_of-ended (Ref label before) content = refl
-label_of-ended (Var label before) content = refl
-label_of-ended (Chan label bytes) content = refl
-label_of-ended (Job label result) content = refl
+label_of-ended state content = refl

@@ -3,7 +3,7 @@ use Rattle.std.proofs.Common.{◌≡◌, IsTrue}
 use Rattle.lio_labels.specs.declared.label.Label.{Label}
 use Rattle.lio_values.specs.declared.fault.Fault.{Fault}
 use Rattle.lio_values.specs.declared.fault.FaultKind.{FaultKind}
-use Rattle.lio_values.specs.declared.fault.FaultKind.TheVariants.{FlowCurrent, FlowClearance, FlowRaise, FlowPrivilege, BadType, Overflow, DivZero, TooLong, NoTurns, NoCells, ChildTurns, Depth, LabelWide, User}
+use Rattle.lio_values.specs.declared.fault.FaultKind.TheVariants.{User}
 use Rattle.lio_values.specs.declared.value.Plain.{Plain}
 use Rattle.lio_values.specs.declared.value.Plain.TheVariants.{Unit as unit, Flag, Whole, Bytes, Lab, Power, RefOf, VarOf, ResultOf, ChanOf}
 use Rattle.lio_values.specs.declared.value.Content.{Content}
@@ -43,35 +43,11 @@ names-simple c (ChanOf handle) simple = absurd simple
 
 names-payload : (c : Configuration) (kind : FaultKind) → KindNames c kind → PlainNames c (payload_of kind)
 names-payload c (User plain) names = names
-names-payload c (FlowCurrent current target) names = tt
-names-payload c (FlowClearance target clearance) names = tt
-names-payload c (FlowRaise raised clearance) names = tt
-names-payload c (FlowPrivilege power source target) names = tt
-names-payload c BadType names = tt
-names-payload c Overflow names = tt
-names-payload c DivZero names = tt
-names-payload c TooLong names = tt
-names-payload c NoTurns names = tt
-names-payload c (NoCells asked left) names = tt
-names-payload c (ChildTurns asked left) names = tt
-names-payload c Depth names = tt
-names-payload c (LabelWide left right) names = tt
+names-payload c kind names = tt
 
 names-unthrown : (c : Configuration) (kind : FaultKind) → IsUnthrown kind → KindNames c kind
 names-unthrown c (User plain) unthrown = absurd unthrown
-names-unthrown c (FlowCurrent current target) unthrown = tt
-names-unthrown c (FlowClearance target clearance) unthrown = tt
-names-unthrown c (FlowRaise raised clearance) unthrown = tt
-names-unthrown c (FlowPrivilege power source target) unthrown = tt
-names-unthrown c BadType unthrown = tt
-names-unthrown c Overflow unthrown = tt
-names-unthrown c DivZero unthrown = tt
-names-unthrown c TooLong unthrown = tt
-names-unthrown c NoTurns unthrown = tt
-names-unthrown c (NoCells asked left) unthrown = tt
-names-unthrown c (ChildTurns asked left) unthrown = tt
-names-unthrown c Depth unthrown = tt
-names-unthrown c (LabelWide left right) unthrown = tt
+names-unthrown c kind unthrown = tt
 
 pub names-closed : (c : Configuration) → IsClosed (ValueNames c)
 names-closed c = record {

@@ -1,5 +1,5 @@
 -- What a task keeps as it goes on.
-use Rattle.std.proofs.Common.{◌≡◌, ◌∙◌, refl, subst, ℕ, ◌+◌, ◌-◌, ◌<◌, ◌≤◌, Bool, true, false, ◌&&◌, IsTrue, List, [], ◌∷◌, All, arith}
+use Rattle.std.proofs.Common.{◌≡◌, ◌∙◌, refl, subst, ℕ, ◌+◌, ◌-◌, ◌<◌, ◌≤◌, Bool, true, false, ◌&&◌, IsTrue, List, ◌∷◌, All, arith}
 use Rattle.std.proofs.lemmas.List.Elements.{All-nil, All-head, All-cons}
 use Rattle.lio_labels.specs.declared.label.Label.{Label}
 use Rattle.lio_values.specs.declared.fault.Fault.{Fault}
@@ -16,7 +16,7 @@ use Rattle.lio_control.specs.Environment.{Environment}
 use Rattle.lio_control.specs.Items.{Item, Do, Access, Mark, Back, Fail, open_calls}
 use Rattle.lio_control.specs.Throwing.{thrown}
 use Rattle.lio_calculus.specs.Task.{TaskState}
-use Rattle.lio_calculus.specs.Going.{Onward, Advance, Bind, Seal, Enter, Repeat, Try, Call, Return, Leave, Raise, RaiseTo, Unlabel, Lower, Release, HoldReference, HoldVariable, Fork, Spawn, BindReply, Throw, End, released, given, newest, gone}
+use Rattle.lio_calculus.specs.Going.{Onward, Bind, Seal, Enter, Repeat, Try, Call, Return, Leave, RaiseTo, Unlabel, Release, HoldReference, HoldVariable, Fork, Spawn, BindReply, Throw, End, released, given, newest, gone}
 use Rattle.lio_calculus.specs.Guarded.{label_after}
 use Rattle.lio_calculus.specs.Sound.{EachBound, EachInItem, EachInTask, ItemSays, IsRaised, IsNoAccess, FrontIsRaised, AccessIsRaised, statement_says}
 use Rattle.lio_calculus.proofs.Closed.{IsClosed}
@@ -52,7 +52,6 @@ given-each P closed task name Hidden source each p = record { environment = bind
 
 -- the values of a task
 pub gone-each : (P : Value → Type 0) → IsClosed P → (task : TaskState) (onward : Onward) (asked : Act) (reply : Reply) → EachInTask P task → EachInOnward P asked onward → EachInReply P reply → EachHandle P task onward → EachInTask P (gone task onward asked reply)
-gone-each P closed task Advance asked reply each p r h = each
 gone-each P closed task (Bind name value) asked reply each p r h = record { environment = bind-each P task.environment name value each.environment p; items = each.items }
 gone-each P closed task (Seal name label plain) asked reply each p r h = record { environment = bind-each P task.environment name _ each.environment (closed.seal label plain p); items = each.items }
 gone-each P closed task (Enter block) asked reply each p r h = record { environment = each.environment; items = enter-all (EachInItem P) (λ s. tt) block task.items each.items }
@@ -65,22 +64,18 @@ gone-each P closed task (Call name environment body) asked reply each p r h =
 gone-each P closed task (Return value) asked reply each p r h =
     record { environment = returned-bound P value task.environment task.items p each.environment each.items; items = returned-all (EachInItem P) value task.environment task.items each.items }
 gone-each P closed task (Leave caller name) asked reply each p r h = record { environment = bind-each P caller name (Bare unit) p (closed.said unit refl); items = each.items }
-gone-each P closed task (Raise label) asked reply each p r h = record { environment = each.environment; items = each.items }
 gone-each P closed task (RaiseTo label access) asked reply each p r h = record { environment = each.environment; items = All-cons (EachInItem P) (Access access) task.items tt each.items }
 gone-each P closed task (Unlabel name label source content) asked reply each p r h = given-each P closed (record task { label = label }) name content source (record { environment = each.environment; items = each.items }) p
-gone-each P closed task (Lower clearance) asked reply each p r h = record { environment = each.environment; items = each.items }
 gone-each P closed task (Release name label) asked reply each p r h = record { environment = bind-each P task.environment name (Sealed label (released asked)) each.environment p; items = each.items }
 gone-each P closed task (HoldReference name label) asked reply each p r h = record { environment = bind-each P task.environment name _ each.environment h; items = each.items }
 gone-each P closed task (HoldVariable name label) asked reply each p r h = record { environment = bind-each P task.environment name _ each.environment h; items = each.items }
 gone-each P closed task (Fork name label cells turns) asked reply each p r h = record { environment = bind-each P task.environment name _ each.environment h; items = each.items }
-gone-each P closed task (Spawn cells turns) asked reply each p r h = record { environment = each.environment; items = each.items }
 gone-each P closed task (BindReply name) asked (Got value) each p r h = record { environment = bind-each P task.environment name value each.environment r; items = each.items }
 gone-each P closed task (BindReply name) asked (Told content) each p r h = given-each P closed task name content task.label each (r task.label)
-gone-each P closed task (BindReply name) asked Done each p r h = each
-gone-each P closed task (BindReply name) asked (Refused fault) each p r h = each
 gone-each P closed task (Throw fault) asked reply each p r h =
     let t = throwing-each P closed fault task.environment task.items each.environment each.items p in record { environment = t.0; items = t.1 }
 gone-each P closed task End asked reply each p r h = record { environment = All-nil _; items = All-nil _ }
+gone-each P closed task onward asked reply each p r h = record { environment = each.environment; items = each.items }
 
 -- a property of items that statements, calls and faults have anyway
 given-items : (Q : Item → Type 0) → ((fault : Fault) → Q (Fail fault)) → KeepsHandlers Q → (task : TaskState) (name : List ℕ) (content : Content) → All Q task.items → All Q (given task name content).items
@@ -94,9 +89,6 @@ says-handlers code payload handler items mark all = enter-says handler items mar
 
 pub gone-says : (before task : TaskState) (onward : Onward) (asked : Act) (reply : Reply) → All ItemSays task.items → Suits before onward → All ItemSays (gone task onward asked reply).items
 unfolding statement_says
-gone-says before task Advance asked reply all suits = all
-gone-says before task (Bind name value) asked reply all suits = all
-gone-says before task (Seal name label plain) asked reply all suits = all
 gone-says before task (Enter block) asked reply all suits = enter-says block task.items suits all
 gone-says before task (Repeat condition block) asked reply all suits =
     let again : IsTrue (statement_says (While condition block)) = both_true _ _ suits.0 suits.1 in
@@ -107,22 +99,12 @@ gone-says before task (Repeat condition block) asked reply all suits =
 gone-says before task (Try block code payload handler) asked reply all suits = enter-says block (Mark code payload handler ∷ task.items) suits.0 (All-cons ItemSays (Mark code payload handler) task.items suits.1 all)
 gone-says before task (Call name environment body) asked reply all suits = enter-says body (Back task.environment name ∷ task.items) suits.0 (All-cons ItemSays (Back task.environment name) task.items tt all)
 gone-says before task (Return value) asked reply all suits = returned-all ItemSays value task.environment task.items all
-gone-says before task (Leave caller name) asked reply all suits = all
-gone-says before task (Raise label) asked reply all suits = all
 gone-says before task (RaiseTo label access) asked reply all suits = All-cons ItemSays (Access access) task.items suits.1 all
 gone-says before task (Unlabel name label source content) asked reply all suits = given-items ItemSays (λ fault. tt) says-handlers (record task { label = label }) name content all
-gone-says before task (Lower clearance) asked reply all suits = all
-gone-says before task (Release name label) asked reply all suits = all
-gone-says before task (HoldReference name label) asked reply all suits = all
-gone-says before task (HoldVariable name label) asked reply all suits = all
-gone-says before task (Fork name label cells turns) asked reply all suits = all
-gone-says before task (Spawn cells turns) asked reply all suits = all
-gone-says before task (BindReply name) asked (Got value) all suits = all
 gone-says before task (BindReply name) asked (Told content) all suits = given-items ItemSays (λ fault. tt) says-handlers task name content all
-gone-says before task (BindReply name) asked Done all suits = all
-gone-says before task (BindReply name) asked (Refused fault) all suits = all
 gone-says before task (Throw fault) asked reply all suits = thrown-all ItemSays fault tt says-handlers task.environment task.items all
 gone-says before task End asked reply all suits = All-nil _
+gone-says before task onward asked reply all suits = all
 
 -- accesses
 no_access-handlers : KeepsHandlers IsNoAccess
@@ -132,39 +114,22 @@ pub none-raised : (task : TaskState) → All IsNoAccess task.items → AccessIsR
 none-raised task all = record { front = by task.items all; behind = rest-all IsNoAccess task.items all }
   where
     by : (items : List Item) → All IsNoAccess items → FrontIsRaised task items
-    by [] none = tt
     by (Access s ∷ items) none = absurd (All-head IsNoAccess (Access s) items none)
-    by (Do s ∷ items) none = tt
-    by (Mark code payload handler ∷ items) none = tt
-    by (Back caller name ∷ items) none = tt
-    by (Fail fault ∷ items) none = tt
+    by items none = tt
 
 pub gone-accesses : (before task : TaskState) (onward : Onward) (asked : Act) (reply : Reply) → before.environment ≡ task.environment → All IsNoAccess task.items → Suits before onward → AccessIsRaised (gone task onward asked reply)
-gone-accesses before task Advance asked reply same all suits = none-raised _ all
-gone-accesses before task (Bind name value) asked reply same all suits = none-raised _ all
-gone-accesses before task (Seal name label plain) asked reply same all suits = none-raised _ all
 gone-accesses before task (Enter block) asked reply same all suits = none-raised _ (enter-all IsNoAccess (λ s. tt) block task.items all)
 gone-accesses before task (Repeat condition block) asked reply same all suits = none-raised _ (enter-all IsNoAccess (λ s. tt) block (Do (While condition block) ∷ task.items) (All-cons IsNoAccess (Do (While condition block)) task.items tt all))
 gone-accesses before task (Try block code payload handler) asked reply same all suits = none-raised _ (enter-all IsNoAccess (λ s. tt) block (Mark code payload handler ∷ task.items) (All-cons IsNoAccess (Mark code payload handler) task.items tt all))
 gone-accesses before task (Call name environment body) asked reply same all suits = none-raised _ (enter-all IsNoAccess (λ s. tt) body (Back task.environment name ∷ task.items) (All-cons IsNoAccess (Back task.environment name) task.items tt all))
 gone-accesses before task (Return value) asked reply same all suits = none-raised _ (returned-all IsNoAccess value task.environment task.items all)
-gone-accesses before task (Leave caller name) asked reply same all suits = none-raised _ all
-gone-accesses before task (Raise label) asked reply same all suits = none-raised _ all
 gone-accesses before task (RaiseTo label access) asked reply same all suits =
     record { front = subst (λ (e : Environment). IsRaised (record before { environment = e; label = label }) access) same suits.0; behind = all }
 gone-accesses before task (Unlabel name label source content) asked reply same all suits = none-raised _ (given-items IsNoAccess (λ fault. tt) no_access-handlers (record task { label = label }) name content all)
-gone-accesses before task (Lower clearance) asked reply same all suits = none-raised _ all
-gone-accesses before task (Release name label) asked reply same all suits = none-raised _ all
-gone-accesses before task (HoldReference name label) asked reply same all suits = none-raised _ all
-gone-accesses before task (HoldVariable name label) asked reply same all suits = none-raised _ all
-gone-accesses before task (Fork name label cells turns) asked reply same all suits = none-raised _ all
-gone-accesses before task (Spawn cells turns) asked reply same all suits = none-raised _ all
-gone-accesses before task (BindReply name) asked (Got value) same all suits = none-raised _ all
 gone-accesses before task (BindReply name) asked (Told content) same all suits = none-raised _ (given-items IsNoAccess (λ fault. tt) no_access-handlers task name content all)
-gone-accesses before task (BindReply name) asked Done same all suits = none-raised _ all
-gone-accesses before task (BindReply name) asked (Refused fault) same all suits = none-raised _ all
 gone-accesses before task (Throw fault) asked reply same all suits = none-raised _ (thrown-all IsNoAccess fault tt no_access-handlers task.environment task.items all)
 gone-accesses before task End asked reply same all suits = none-raised _ (All-nil _)
+gone-accesses before task onward asked reply same all suits = none-raised _ all
 
 -- open calls
 given-calls : (task : TaskState) (name : List ℕ) (content : Content) → open_calls (given task name content).items ≤ open_calls task.items
@@ -174,30 +139,15 @@ given-calls task name Hidden = omega arith
 
 pub gone-calls : (before task : TaskState) (onward : Onward) (asked : Act) (reply : Reply) → open_calls task.items ≤ open_calls before.items → open_calls before.items ≤ 64 → Suits before onward → open_calls (gone task onward asked reply).items ≤ 64
 unfolding open_calls
-gone-calls before task Advance asked reply fewer few suits = omega arith
-gone-calls before task (Bind name value) asked reply fewer few suits = omega arith
-gone-calls before task (Seal name label plain) asked reply fewer few suits = omega arith
 gone-calls before task (Enter block) asked reply fewer few suits = omega (arith, enter-calls block task.items)
 gone-calls before task (Repeat condition block) asked reply fewer few suits = omega (arith, enter-calls block (Do (While condition block) ∷ task.items))
 gone-calls before task (Try block code payload handler) asked reply fewer few suits = omega (arith, enter-calls block (Mark code payload handler ∷ task.items))
 gone-calls before task (Call name environment body) asked reply fewer few suits = let room : open_calls before.items < 64 = suits.1 in omega (arith, room, enter-calls body (Back task.environment name ∷ task.items))
 gone-calls before task (Return value) asked reply fewer few suits = omega (arith, returned-calls value task.environment task.items)
-gone-calls before task (Leave caller name) asked reply fewer few suits = omega arith
-gone-calls before task (Raise label) asked reply fewer few suits = omega arith
-gone-calls before task (RaiseTo label access) asked reply fewer few suits = omega arith
 gone-calls before task (Unlabel name label source content) asked reply fewer few suits = omega (arith, given-calls (record task { label = label }) name content)
-gone-calls before task (Lower clearance) asked reply fewer few suits = omega arith
-gone-calls before task (Release name label) asked reply fewer few suits = omega arith
-gone-calls before task (HoldReference name label) asked reply fewer few suits = omega arith
-gone-calls before task (HoldVariable name label) asked reply fewer few suits = omega arith
-gone-calls before task (Fork name label cells turns) asked reply fewer few suits = omega arith
-gone-calls before task (Spawn cells turns) asked reply fewer few suits = omega arith
-gone-calls before task (BindReply name) asked (Got value) fewer few suits = omega arith
 gone-calls before task (BindReply name) asked (Told content) fewer few suits = omega (arith, given-calls task name content)
-gone-calls before task (BindReply name) asked Done fewer few suits = omega arith
-gone-calls before task (BindReply name) asked (Refused fault) fewer few suits = omega arith
 gone-calls before task (Throw fault) asked reply fewer few suits = omega (arith, thrown-calls fault task.environment task.items)
-gone-calls before task End asked reply fewer few suits = omega arith
+gone-calls before task onward asked reply fewer few suits = omega arith
 
 -- labels
 given-labels : (task : TaskState) (name : List ℕ) (content : Content) → ((given task name content).label ≡ task.label) × ((given task name content).clearance ≡ task.clearance) × ((given task name content).first ≡ task.first) × ((given task name content).cells ≡ task.cells) × ((given task name content).ended ≡ task.ended)
@@ -214,131 +164,27 @@ taken (Spawn cells turns) = cells + 1
 taken onward = 0
 
 pub gone-label : (task : TaskState) (onward : Onward) (asked : Act) (reply : Reply) → (gone task onward asked reply).label ≡ label_after onward task.label
-gone-label task Advance asked reply = refl
-gone-label task (Bind name value) asked reply = refl
-gone-label task (Seal name label plain) asked reply = refl
-gone-label task (Enter block) asked reply = refl
-gone-label task (Repeat condition block) asked reply = refl
-gone-label task (Try block code payload handler) asked reply = refl
-gone-label task (Call name environment body) asked reply = refl
-gone-label task (Return value) asked reply = refl
-gone-label task (Leave caller name) asked reply = refl
-gone-label task (Raise label) asked reply = refl
-gone-label task (RaiseTo label access) asked reply = refl
 gone-label task (Unlabel name label source content) asked reply = (given-labels (record task { label = label }) name content).0
-gone-label task (Lower clearance) asked reply = refl
-gone-label task (Release name label) asked reply = refl
-gone-label task (HoldReference name label) asked reply = refl
-gone-label task (HoldVariable name label) asked reply = refl
-gone-label task (Fork name label cells turns) asked reply = refl
-gone-label task (Spawn cells turns) asked reply = refl
-gone-label task (BindReply name) asked (Got value) = refl
 gone-label task (BindReply name) asked (Told content) = (given-labels task name content).0
-gone-label task (BindReply name) asked Done = refl
-gone-label task (BindReply name) asked (Refused fault) = refl
-gone-label task (Throw fault) asked reply = refl
-gone-label task End asked reply = refl
+gone-label task onward asked reply = refl
 
 pub gone-clearance : (task : TaskState) (onward : Onward) (asked : Act) (reply : Reply) → (gone task onward asked reply).clearance ≡ clearance_after onward task.clearance
-gone-clearance task Advance asked reply = refl
-gone-clearance task (Bind name value) asked reply = refl
-gone-clearance task (Seal name label plain) asked reply = refl
-gone-clearance task (Enter block) asked reply = refl
-gone-clearance task (Repeat condition block) asked reply = refl
-gone-clearance task (Try block code payload handler) asked reply = refl
-gone-clearance task (Call name environment body) asked reply = refl
-gone-clearance task (Return value) asked reply = refl
-gone-clearance task (Leave caller name) asked reply = refl
-gone-clearance task (Raise label) asked reply = refl
-gone-clearance task (RaiseTo label access) asked reply = refl
 gone-clearance task (Unlabel name label source content) asked reply = (given-labels (record task { label = label }) name content).1
-gone-clearance task (Lower clearance) asked reply = refl
-gone-clearance task (Release name label) asked reply = refl
-gone-clearance task (HoldReference name label) asked reply = refl
-gone-clearance task (HoldVariable name label) asked reply = refl
-gone-clearance task (Fork name label cells turns) asked reply = refl
-gone-clearance task (Spawn cells turns) asked reply = refl
-gone-clearance task (BindReply name) asked (Got value) = refl
 gone-clearance task (BindReply name) asked (Told content) = (given-labels task name content).1
-gone-clearance task (BindReply name) asked Done = refl
-gone-clearance task (BindReply name) asked (Refused fault) = refl
-gone-clearance task (Throw fault) asked reply = refl
-gone-clearance task End asked reply = refl
+gone-clearance task onward asked reply = refl
 
 pub gone-first : (task : TaskState) (onward : Onward) (asked : Act) (reply : Reply) → (gone task onward asked reply).first ≡ task.first + taken onward
-gone-first task Advance asked reply = omega arith
-gone-first task (Bind name value) asked reply = omega arith
-gone-first task (Seal name label plain) asked reply = omega arith
-gone-first task (Enter block) asked reply = omega arith
-gone-first task (Repeat condition block) asked reply = omega arith
-gone-first task (Try block code payload handler) asked reply = omega arith
-gone-first task (Call name environment body) asked reply = omega arith
-gone-first task (Return value) asked reply = omega arith
-gone-first task (Leave caller name) asked reply = omega arith
-gone-first task (Raise label) asked reply = omega arith
-gone-first task (RaiseTo label access) asked reply = omega arith
 gone-first task (Unlabel name label source content) asked reply = omega (arith, (given-labels (record task { label = label }) name content).2)
-gone-first task (Lower clearance) asked reply = omega arith
-gone-first task (Release name label) asked reply = omega arith
-gone-first task (HoldReference name label) asked reply = omega arith
-gone-first task (HoldVariable name label) asked reply = omega arith
-gone-first task (Fork name label cells turns) asked reply = omega arith
-gone-first task (Spawn cells turns) asked reply = omega arith
-gone-first task (BindReply name) asked (Got value) = omega arith
 gone-first task (BindReply name) asked (Told content) = omega (arith, (given-labels task name content).2)
-gone-first task (BindReply name) asked Done = omega arith
-gone-first task (BindReply name) asked (Refused fault) = omega arith
-gone-first task (Throw fault) asked reply = omega arith
-gone-first task End asked reply = omega arith
+gone-first task onward asked reply = omega arith
 
 pub gone-cells : (task : TaskState) (onward : Onward) (asked : Act) (reply : Reply) → (gone task onward asked reply).cells ≡ task.cells - taken onward
-gone-cells task Advance asked reply = omega arith
-gone-cells task (Bind name value) asked reply = omega arith
-gone-cells task (Seal name label plain) asked reply = omega arith
-gone-cells task (Enter block) asked reply = omega arith
-gone-cells task (Repeat condition block) asked reply = omega arith
-gone-cells task (Try block code payload handler) asked reply = omega arith
-gone-cells task (Call name environment body) asked reply = omega arith
-gone-cells task (Return value) asked reply = omega arith
-gone-cells task (Leave caller name) asked reply = omega arith
-gone-cells task (Raise label) asked reply = omega arith
-gone-cells task (RaiseTo label access) asked reply = omega arith
 gone-cells task (Unlabel name label source content) asked reply = omega (arith, (given-labels (record task { label = label }) name content).3)
-gone-cells task (Lower clearance) asked reply = omega arith
-gone-cells task (Release name label) asked reply = omega arith
-gone-cells task (HoldReference name label) asked reply = omega arith
-gone-cells task (HoldVariable name label) asked reply = omega arith
-gone-cells task (Fork name label cells turns) asked reply = omega arith
-gone-cells task (Spawn cells turns) asked reply = omega arith
-gone-cells task (BindReply name) asked (Got value) = omega arith
 gone-cells task (BindReply name) asked (Told content) = omega (arith, (given-labels task name content).3)
-gone-cells task (BindReply name) asked Done = omega arith
-gone-cells task (BindReply name) asked (Refused fault) = omega arith
-gone-cells task (Throw fault) asked reply = omega arith
-gone-cells task End asked reply = omega arith
+gone-cells task onward asked reply = omega arith
 
 pub gone-ended : (task : TaskState) (onward : Onward) (asked : Act) (reply : Reply) → task.ended ≡ false → (gone task onward asked reply).ended ≡ is_end onward
-gone-ended task Advance asked reply going = going
-gone-ended task (Bind name value) asked reply going = going
-gone-ended task (Seal name label plain) asked reply going = going
-gone-ended task (Enter block) asked reply going = going
-gone-ended task (Repeat condition block) asked reply going = going
-gone-ended task (Try block code payload handler) asked reply going = going
-gone-ended task (Call name environment body) asked reply going = going
-gone-ended task (Return value) asked reply going = going
-gone-ended task (Leave caller name) asked reply going = going
-gone-ended task (Raise label) asked reply going = going
-gone-ended task (RaiseTo label access) asked reply going = going
 gone-ended task (Unlabel name label source content) asked reply going = (given-labels (record task { label = label }) name content).4 ∙ going
-gone-ended task (Lower clearance) asked reply going = going
-gone-ended task (Release name label) asked reply going = going
-gone-ended task (HoldReference name label) asked reply going = going
-gone-ended task (HoldVariable name label) asked reply going = going
-gone-ended task (Fork name label cells turns) asked reply going = going
-gone-ended task (Spawn cells turns) asked reply going = going
-gone-ended task (BindReply name) asked (Got value) going = going
 gone-ended task (BindReply name) asked (Told content) going = (given-labels task name content).4 ∙ going
-gone-ended task (BindReply name) asked Done going = going
-gone-ended task (BindReply name) asked (Refused fault) going = going
-gone-ended task (Throw fault) asked reply going = going
 gone-ended task End asked reply going = refl
+gone-ended task onward asked reply going = going

@@ -12,8 +12,8 @@ use Rattle.lio_values.specs.declared.act.Reply.{Reply}
 use Rattle.lio_values.specs.Erasure.{erase_content, erase_value, erase_reply}
 use Rattle.lio_syntax.specs.Statements.{While}
 use Rattle.lio_calculus.specs.Task.{TaskState}
-use Rattle.lio_control.specs.Items.{Item, Do, Access, Mark, Back, enter}
-use Rattle.lio_calculus.specs.Going.{Onward, Advance, Bind, Seal, Enter, Repeat, Try, Call, Return, Leave, Raise, RaiseTo, Unlabel, Lower, Release, HoldReference, HoldVariable, Fork, Spawn, BindReply, Throw, End, binding, throwing, given, replied, released, taking, newest, gone}
+use Rattle.lio_control.specs.Items.{Item, Do, Mark, Back, enter}
+use Rattle.lio_calculus.specs.Going.{Onward, Advance, Bind, Seal, Enter, Repeat, Try, Call, Return, Leave, Unlabel, Release, HoldReference, HoldVariable, Fork, BindReply, Throw, End, binding, throwing, given, replied, released, taking, newest, gone}
 use Rattle.lio_control.specs.Hiding.{hide_environment}
 use Rattle.lio_control.proofs.HidingLemmas.{enter-hidden}
 use Rattle.lio_calculus.specs.Hiding.{hide_task, hide_onward}
@@ -71,18 +71,15 @@ gone-hidden observer task (Return value) act seen reply agrees =
     once_more observer _ (gone task (Return value) act reply) (rw (returned-hidden observer value task.environment task.items) (at-hidden observer task _))
 gone-hidden observer task (Leave caller name) act seen reply agrees =
     once_more observer _ (gone task (Leave caller name) act reply) (binding-hidden observer (record task { environment = caller }) name _)
-gone-hidden observer task (Raise label) act seen reply agrees = once_more observer _ (record task { label = label }) refl
-gone-hidden observer task (RaiseTo label access) act seen reply agrees = once_more observer _ (record task { label = label; items = Access access ∷ task.items }) refl
 gone-hidden observer task (Unlabel name label source content) act seen reply agrees =
     rw (learned observer source content agrees) (once_more observer _ (given (record task { label = label }) name content) (given-hidden observer (record task { label = label }) name content))
-gone-hidden observer task (Lower clearance) act seen reply agrees = once_more observer _ (record task { clearance = clearance }) refl
 gone-hidden observer task (Release name label) act seen reply agrees = bound-alike observer task name _ _ (ap (Sealed label) agrees)
 gone-hidden observer task (HoldReference name label) act seen reply agrees = once_more observer _ (gone task (HoldReference name label) act reply) (holding-hidden observer task name (Bare (RefOf (newest task label))) 0 refl)
 gone-hidden observer task (HoldVariable name label) act seen reply agrees = once_more observer _ (gone task (HoldVariable name label) act reply) (holding-hidden observer task name (Bare (VarOf (newest task label))) 0 refl)
 gone-hidden observer task (Fork name label cells turns) act seen reply agrees =
     once_more observer _ (gone task (Fork name label cells turns) act reply)
     (ap (λ (t : TaskState). record t { turns = task.turns - turns }) (holding-hidden observer task name (Bare (ResultOf (newest task label))) cells refl))
-gone-hidden observer task (Spawn cells turns) act seen reply agrees = once_more observer _ (gone task (Spawn cells turns) act reply) refl
 gone-hidden observer task (BindReply name) act seen reply agrees = once_more observer _ (replied task name reply) (replied-hidden observer task name reply)
 gone-hidden observer task (Throw fault) act seen reply agrees = once_more observer _ (throwing task fault) (throwing-hidden observer task fault)
 gone-hidden observer task End act seen reply agrees = refl
+gone-hidden observer task onward act seen reply agrees = once_more observer _ (gone task onward act reply) refl

@@ -8,7 +8,7 @@ use Rattle.lio_values.specs.declared.act.Act.{Act}
 use Rattle.lio_values.specs.declared.act.Reply.{Reply}
 use Rattle.lio_values.specs.declared.act.Reply.TheVariants.{Refused}
 use Rattle.lio_cells.specs.declared.state.State.{State}
-use Rattle.lio_cells.specs.declared.state.State.TheVariants.{Absent, Ref, Var, Chan, Job}
+use Rattle.lio_cells.specs.declared.state.State.TheVariants.{Job}
 use Rattle.lio_cells.specs.State.{is_reference, is_variable, is_channel, is_job, label_of}
 use Rattle.lio_guards.specs.Guard.{guarded}
 use Rattle.lio_calculus.specs.Task.{TaskState}
@@ -47,25 +47,16 @@ refused-guarded c k task asked kind shown = own-guarded c k task asked (Refused 
 
 -- the cell of another kind isn't the task's own
 pub reference-no_job : (state : State) → IsTrue (is_reference state) → is_job state ≡ true → ⊥
-reference-no_job (Ref label value) is job = true≢false (sym job)
-reference-no_job Absent is job = true≢false (sym job)
-reference-no_job (Var label value) is job = true≢false (sym job)
-reference-no_job (Chan label received) is job = true≢false (sym job)
 reference-no_job (Job label content) is job = true≢false (sym is)
+reference-no_job state is job = true≢false (sym job)
 
 pub variable-no_job : (state : State) → IsTrue (is_variable state) → is_job state ≡ true → ⊥
-variable-no_job (Var label value) is job = true≢false (sym job)
-variable-no_job Absent is job = true≢false (sym job)
-variable-no_job (Ref label value) is job = true≢false (sym job)
-variable-no_job (Chan label received) is job = true≢false (sym job)
 variable-no_job (Job label content) is job = true≢false (sym is)
+variable-no_job state is job = true≢false (sym job)
 
 pub channel-no_job : (state : State) → IsTrue (is_channel state) → is_job state ≡ true → ⊥
-channel-no_job (Chan label received) is job = true≢false (sym job)
-channel-no_job Absent is job = true≢false (sym job)
-channel-no_job (Ref label value) is job = true≢false (sym job)
-channel-no_job (Var label value) is job = true≢false (sym job)
 channel-no_job (Job label content) is job = true≢false (sym is)
+channel-no_job state is job = true≢false (sym job)
 
 -- a node of these kinds has no task, and so its own label
 pub taskless : (c : Configuration) (n : ℕ) → IsSound c → is_job (cell_at c n).state ≡ false → label_of_cell (cell_at c n) ≡ label_of (cell_at c n).state

@@ -13,7 +13,7 @@ use Rattle.lio_values.specs.declared.act.Act.{Act}
 use Rattle.lio_values.specs.declared.act.Reply.{Reply}
 use Rattle.lio_values.specs.declared.act.Reply.TheVariants.{Done, Got, Told, Refused}
 use Rattle.lio_calculus.specs.Task.{TaskState}
-use Rattle.lio_calculus.specs.Going.{Onward, Advance, Bind, Seal, Enter, Repeat, Try, Call, Return, Leave, Raise, RaiseTo, Unlabel, Lower, Release, HoldReference, HoldVariable, Fork, Spawn, BindReply, Throw, End, given, replied, gone, gone_on}
+use Rattle.lio_calculus.specs.Going.{Onward, Unlabel, BindReply, given, replied, gone, gone_on}
 use Rattle.lio_values.specs.declared.act.Act.TheVariants as act
 use Rattle.lio_cells.specs.State.{label_of, ready, answer, state_after}
 use Rattle.lio_calculus.specs.Plan.{Program, Plan, Over, Own, Visit, Target, Node, New, plan}
@@ -33,27 +33,9 @@ replied-label task name Done = refl
 replied-label task name (Refused fault) = refl
 
 gone-label : (task : TaskState) (onward : Onward) (act : Act) (reply : Reply) → (gone task onward act reply).label ≡ label_after onward task.label
-gone-label task (Raise label) act reply = refl
-gone-label task (RaiseTo label access) act reply = refl
 gone-label task (Unlabel name label source content) act reply = given-label (record task { label = label }) name content
-gone-label task Advance act reply = refl
-gone-label task (Bind name value) act reply = refl
-gone-label task (Seal name label plain) act reply = refl
-gone-label task (Enter block) act reply = refl
-gone-label task (Repeat condition block) act reply = refl
-gone-label task (Try block code payload handler) act reply = refl
-gone-label task (Call name environment body) act reply = refl
-gone-label task (Return value) act reply = refl
-gone-label task (Leave caller name) act reply = refl
-gone-label task (Lower clearance) act reply = refl
-gone-label task (Release name label) act reply = refl
-gone-label task (HoldReference name label) act reply = refl
-gone-label task (HoldVariable name label) act reply = refl
-gone-label task (Fork name label cells turns) act reply = refl
-gone-label task (Spawn cells turns) act reply = refl
 gone-label task (BindReply name) act reply = replied-label task name reply
-gone-label task (Throw fault) act reply = refl
-gone-label task End act reply = refl
+gone-label task onward act reply = refl
 
 -- the current label after a turn
 pub gone_on-label : (task : TaskState) (onward : Onward) (act : Act) (reply : Reply) → (gone_on task onward act reply).label ≡ label_after onward task.label
@@ -108,20 +90,7 @@ unchanged program label act.Wait cell is = λ i. record { state = cell.state; ta
     kept : (task : Option TaskState) → task_after task None ≡ task
     kept None = refl
     kept (Some task) = refl
-unchanged program label (act.Write value) cell is = absurd (cc)
-unchanged program label act.Take cell is = absurd (cc)
-unchanged program label (act.Put value) cell is = absurd (cc)
-unchanged program label (act.Send text) cell is = absurd (cc)
-unchanged program label (act.NewRef l value) cell is = absurd (cc)
-unchanged program label (act.NewVar l value) cell is = absurd (cc)
-unchanged program label (act.Fork birth) cell is = absurd (cc)
-unchanged program label (act.Spawn birth) cell is = absurd (cc)
-unchanged program label (act.Ended content) cell is = absurd (cc)
-unchanged program label act.Step cell is = absurd (cc)
-unchanged program label (act.Seal l) cell is = absurd (cc)
-unchanged program label (act.Raise op l) cell is = absurd (cc)
-unchanged program label (act.Lower l) cell is = absurd (cc)
-unchanged program label (act.Release source target power content) cell is = absurd (cc)
+unchanged program label asked cell is = absurd (cc)
 
 -- what a turn meets was left out before it, where it is left out after it
 unseen-before : (observer : Label) (t : Target) (cell next : Cell) → IsBefore t cell next → sees observer next ≡ false → erase_cell observer cell ≡ blank

@@ -10,7 +10,7 @@ use Rattle.lio_values.specs.declared.act.Act.{Act}
 use Rattle.lio_values.specs.declared.act.Act.TheVariants as act
 use Rattle.lio_cells.specs.declared.state.State.{State}
 use Rattle.lio_cells.specs.declared.state.State.TheVariants.{Absent, Ref, Var, Chan, Job}
-use Rattle.lio_cells.specs.State.{Kind, Reference, Variable, Channel, Result, is_of, label_of, answer, state_after}
+use Rattle.lio_cells.specs.State.{Kind, Reference, is_of, label_of, answer, state_after}
 use Rattle.lio_calculus.specs.Step.{is_named, has_label}
 use Rattle.lio_calculus.specs.Sound.{EachInState}
 use Rattle.lio_calculus.proofs.Closed.{IsClosed}
@@ -31,119 +31,54 @@ references label v w = record { kinds = by; label = refl }
   where
     by : (kind : Kind) → is_of kind (Ref label v) ≡ is_of kind (Ref label w)
     by Reference = refl
-    by Variable = refl
-    by Channel = refl
-    by Result = refl
+    by kind = refl
 
 variables : (label : Label) (v w : Option Value) → Alike (Var label v) (Var label w)
 variables label v w = record { kinds = by; label = refl }
   where
     by : (kind : Kind) → is_of kind (Var label v) ≡ is_of kind (Var label w)
     by Reference = refl
-    by Variable = refl
-    by Channel = refl
-    by Result = refl
+    by kind = refl
 
 channels : (label : Label) (v w : List ℕ) → Alike (Chan label v) (Chan label w)
 channels label v w = record { kinds = by; label = refl }
   where
     by : (kind : Kind) → is_of kind (Chan label v) ≡ is_of kind (Chan label w)
     by Reference = refl
-    by Variable = refl
-    by Channel = refl
-    by Result = refl
+    by kind = refl
 
 jobs : (label : Label) (v w : Option Content) → Alike (Job label v) (Job label w)
 jobs label v w = record { kinds = by; label = refl }
   where
     by : (kind : Kind) → is_of kind (Job label v) ≡ is_of kind (Job label w)
     by Reference = refl
-    by Variable = refl
-    by Channel = refl
-    by Result = refl
+    by kind = refl
 
 -- an act leaves a node of its kind with its label, where there is one
 pub reference-after : (label : Label) (v : Value) (asked : Act) → Alike (Ref label v) (state_after (Ref label v) asked)
 unfolding state_after
 reference-after label v (act.Write w) = references label v w
-reference-after label v act.Take = same _
-reference-after label v (act.Put w) = same _
-reference-after label v (act.Send text) = same _
-reference-after label v (act.NewRef l w) = same _
-reference-after label v (act.NewVar l w) = same _
-reference-after label v (act.Fork birth) = same _
-reference-after label v (act.Spawn birth) = same _
-reference-after label v (act.Ended content) = same _
-reference-after label v act.Read = same _
-reference-after label v act.Wait = same _
-reference-after label v act.Step = same _
-reference-after label v (act.Seal l) = same _
-reference-after label v (act.Raise o l) = same _
-reference-after label v (act.Lower l) = same _
-reference-after label v (act.Release source target power content) = same _
+reference-after label v asked = same _
 
 pub variable-after : (label : Label) (v : Option Value) (asked : Act) → Alike (Var label v) (state_after (Var label v) asked)
 unfolding state_after
-variable-after label v (act.Write w) = same _
 variable-after label v act.Take = variables label v None
 variable-after label v (act.Put w) = variables label v (Some w)
-variable-after label v (act.Send text) = same _
-variable-after label v (act.NewRef l w) = same _
-variable-after label v (act.NewVar l w) = same _
-variable-after label v (act.Fork birth) = same _
-variable-after label v (act.Spawn birth) = same _
-variable-after label v (act.Ended content) = same _
-variable-after label v act.Read = same _
-variable-after label v act.Wait = same _
-variable-after label v act.Step = same _
-variable-after label v (act.Seal l) = same _
-variable-after label v (act.Raise o l) = same _
-variable-after label v (act.Lower l) = same _
-variable-after label v (act.Release source target power content) = same _
+variable-after label v asked = same _
 
 pub channel-after : (label : Label) (bytes : List ℕ) (asked : Act) → Alike (Chan label bytes) (state_after (Chan label bytes) asked)
 unfolding state_after
-channel-after label bytes (act.Write w) = same _
-channel-after label bytes act.Take = same _
-channel-after label bytes (act.Put w) = same _
 channel-after label bytes (act.Send text) = channels label bytes _
-channel-after label bytes (act.NewRef l w) = same _
-channel-after label bytes (act.NewVar l w) = same _
-channel-after label bytes (act.Fork birth) = same _
-channel-after label bytes (act.Spawn birth) = same _
-channel-after label bytes (act.Ended content) = same _
-channel-after label bytes act.Read = same _
-channel-after label bytes act.Wait = same _
-channel-after label bytes act.Step = same _
-channel-after label bytes (act.Seal l) = same _
-channel-after label bytes (act.Raise o l) = same _
-channel-after label bytes (act.Lower l) = same _
-channel-after label bytes (act.Release source target power content) = same _
+channel-after label bytes asked = same _
 
 pub job-after : (label : Label) (r : Option Content) (asked : Act) → Alike (Job label r) (state_after (Job label r) asked)
 unfolding state_after
-job-after label r (act.Write w) = same _
-job-after label r act.Take = same _
-job-after label r (act.Put w) = same _
-job-after label r (act.Send text) = same _
-job-after label r (act.NewRef l w) = same _
-job-after label r (act.NewVar l w) = same _
-job-after label r (act.Fork birth) = same _
-job-after label r (act.Spawn birth) = same _
 job-after label r (act.Ended content) = jobs label r (Some content)
-job-after label r act.Read = same _
-job-after label r act.Wait = same _
-job-after label r act.Step = same _
-job-after label r (act.Seal l) = same _
-job-after label r (act.Raise o l) = same _
-job-after label r (act.Lower l) = same _
-job-after label r (act.Release source target power content) = same _
+job-after label r asked = same _
 
 absent-unnamed : (kind : Kind) (handle : Handle) → IsTrue (is_named kind handle Absent) → ⊥
 absent-unnamed Reference handle e = true≢false (sym e)
-absent-unnamed Variable handle e = true≢false (sym e)
-absent-unnamed Channel handle e = true≢false (sym e)
-absent-unnamed Result handle e = true≢false (sym e)
+absent-unnamed kind handle e = true≢false (sym e)
 
 alike-named : (kind : Kind) (handle : Handle) (one other : State) → Alike one other → IsTrue (is_named kind handle one) → IsTrue (is_named kind handle other)
 alike-named kind handle one other alike named =
@@ -188,16 +123,7 @@ each-after P (Job label None) (act.Send text) visit each p = tt
 each-after P (Job label (Some content)) (act.Send text) visit each p = each
 each-after P state act.Read visit each p = each
 each-after P state act.Wait visit each p = each
-each-after P state (act.NewRef l w) visit each p = absurd (true≢false (sym visit))
-each-after P state (act.NewVar l w) visit each p = absurd (true≢false (sym visit))
-each-after P state (act.Fork birth) visit each p = absurd (true≢false (sym visit))
-each-after P state (act.Spawn birth) visit each p = absurd (true≢false (sym visit))
-each-after P state (act.Ended content) visit each p = absurd (true≢false (sym visit))
-each-after P state act.Step visit each p = absurd (true≢false (sym visit))
-each-after P state (act.Seal l) visit each p = absurd (true≢false (sym visit))
-each-after P state (act.Raise o l) visit each p = absurd (true≢false (sym visit))
-each-after P state (act.Lower l) visit each p = absurd (true≢false (sym visit))
-each-after P state (act.Release source target power content) visit each p = absurd (true≢false (sym visit))
+each-after P state asked visit each p = absurd (true≢false (sym visit))
 
 -- what a node answers
 pub answer-each : (P : Value → Type 0) → IsClosed P → (state : State) (asked : Act) → EachInState P state → EachInReply P (answer state asked)
@@ -219,16 +145,4 @@ answer-each P closed (Var label v) act.Wait each = tt
 answer-each P closed (Chan label bytes) act.Wait each = tt
 answer-each P closed (Job label None) act.Wait each = tt
 answer-each P closed (Job label (Some content)) act.Wait each = λ other. closed.again label other content each
-answer-each P closed state (act.Write w) each = tt
-answer-each P closed state (act.Put w) each = tt
-answer-each P closed state (act.Send text) each = tt
-answer-each P closed state (act.NewRef l w) each = tt
-answer-each P closed state (act.NewVar l w) each = tt
-answer-each P closed state (act.Fork birth) each = tt
-answer-each P closed state (act.Spawn birth) each = tt
-answer-each P closed state (act.Ended content) each = tt
-answer-each P closed state act.Step each = tt
-answer-each P closed state (act.Seal l) each = tt
-answer-each P closed state (act.Raise o l) each = tt
-answer-each P closed state (act.Lower l) each = tt
-answer-each P closed state (act.Release source target power content) each = tt
+answer-each P closed state asked each = tt

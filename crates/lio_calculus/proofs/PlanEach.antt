@@ -7,7 +7,7 @@ use Rattle.std.proofs.lemmas.Bool.{and_parts}
 use Rattle.std.proofs.lemmas.List.Elements.{All-nil, All-head, All-tail, All-cons}
 use Rattle.lio_labels.specs.declared.label.Label.{Label}
 use Rattle.lio_values.specs.declared.fault.FaultKind.{FaultKind}
-use Rattle.lio_values.specs.declared.fault.FaultKind.TheVariants.{FlowCurrent, FlowClearance, FlowRaise, FlowPrivilege, BadType, Overflow, DivZero, TooLong, NoTurns, NoCells, ChildTurns, Depth, LabelWide, User}
+use Rattle.lio_values.specs.declared.fault.FaultKind.TheVariants.{BadType, NoTurns, Depth, User}
 use Rattle.lio_values.specs.declared.value.Plain.TheVariants.{Unit as unit}
 use Rattle.lio_values.specs.declared.value.Content.TheVariants.{Faulted}
 use Rattle.lio_values.specs.declared.value.Value.{Value}
@@ -112,19 +112,7 @@ sealed-each P (Some (Sealed label content)) s e each = let made : Labelled = rec
 -- a guard's fault is none that a script throws
 fails-unthrown : (kind : FaultKind) → FailsFor kind → IsUnthrown kind
 fails-unthrown (User plain) fails = absurd fails
-fails-unthrown (FlowCurrent current target) fails = tt
-fails-unthrown (FlowClearance target clearance) fails = tt
-fails-unthrown (FlowRaise raised clearance) fails = tt
-fails-unthrown (FlowPrivilege power source target) fails = tt
-fails-unthrown BadType fails = tt
-fails-unthrown Overflow fails = tt
-fails-unthrown DivZero fails = tt
-fails-unthrown TooLong fails = tt
-fails-unthrown NoTurns fails = tt
-fails-unthrown (NoCells asked left) fails = tt
-fails-unthrown (ChildTurns asked left) fails = tt
-fails-unthrown Depth fails = tt
-fails-unthrown (LabelWide left right) fails = tt
+fails-unthrown kind fails = tt
 
 -- a test's fault is none that a script throws
 test-unthrown : (task : TaskState) (test : Test) (kind : FaultKind) → verdict_of task test ≡ No kind → IsUnthrown kind

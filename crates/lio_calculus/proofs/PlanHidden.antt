@@ -22,7 +22,7 @@ use Rattle.lio_operators.proofs.OperatorLemmas.{hidden_from_one, hidden_from_two
 use Rattle.lio_control.specs.Environment.{bind_all}
 use Rattle.lio_calculus.specs.Operands.{bound, all_bound, Labelled, sealed_of, flag_of, label_of, power_of, text_of, count_of, reference_of, variable_of, result_of, channel_of, seen_as}
 use Rattle.lio_calculus.specs.Task.{TaskState}
-use Rattle.lio_control.specs.Items.{Item, Do, Access, Mark, Back, Fail, open_calls}
+use Rattle.lio_control.specs.Items.{Item, Do, Access, open_calls}
 use Rattle.lio_calculus.specs.Going.{Call, Return}
 use Rattle.lio_calculus.specs.Plan.{Program, Plan, Over, fault_at, bad_type, refused, stepping, ending, computed, calling, returning, choosing, looping, with_seen, verdict_on, birth_of, procedure_at, plan_simple, plan_statement, plan_access, plan_items, plan}
 use Rattle.lio_control.specs.Hiding.{hide_environment, hide_item}
@@ -155,12 +155,9 @@ plan_access-hidden observer task simple = refl
 -- the items of a task
 plan_items-hidden : (program : Program) (observer : Label) (task : TaskState) (items : List Item) → plan_items program (hide_task observer task) (map (hide_item observer) items) ≡ hide_plan observer (plan_items program task items)
 unfolding hide_asked hide_onward
-plan_items-hidden program observer task [] = refl
 plan_items-hidden program observer task (Do s ∷ items) = plan_statement-hidden program observer task s
 plan_items-hidden program observer task (Access simple ∷ items) = plan_access-hidden observer task simple
-plan_items-hidden program observer task (Mark code payload handler ∷ items) = refl
-plan_items-hidden program observer task (Back caller name ∷ items) = refl
-plan_items-hidden program observer task (Fail fault ∷ items) = refl
+plan_items-hidden program observer task items = refl
 
 -- the plan of a task that is seen with hidden values
 pub plan-hidden : (program : Program) (observer : Label) (task : TaskState) → plan program (hide_task observer task) ≡ hide_plan observer (plan program task)

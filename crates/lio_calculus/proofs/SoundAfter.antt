@@ -5,7 +5,7 @@ use Rattle.std.proofs.lemmas.Bool.Decides.{eqb_tells}
 use Rattle.lio_labels.specs.declared.label.Label.{Label}
 use Rattle.lio_labels.specs.Flow.{flows}
 use Rattle.lio_values.specs.declared.fault.FaultKind.{FaultKind}
-use Rattle.lio_values.specs.declared.fault.FaultKind.TheVariants.{FlowCurrent, FlowClearance, FlowRaise, FlowPrivilege, BadType, Overflow, DivZero, TooLong, NoTurns, NoCells, ChildTurns, Depth, LabelWide, User}
+use Rattle.lio_values.specs.declared.fault.FaultKind.TheVariants.{User}
 use Rattle.lio_values.specs.declared.value.Handle.{Handle}
 use Rattle.lio_values.specs.declared.value.Plain.{Plain}
 use Rattle.lio_values.specs.declared.value.Plain.TheVariants.{Unit as unit, Flag, Whole, Bytes, Lab, Power, RefOf, VarOf, ResultOf, ChanOf}
@@ -14,7 +14,7 @@ use Rattle.lio_values.specs.declared.value.Value.{Value}
 use Rattle.lio_values.specs.declared.value.Value.TheVariants.{Bare, Sealed}
 use Rattle.lio_syntax.specs.Statements.{Procedure}
 use Rattle.lio_cells.specs.declared.state.State.{State}
-use Rattle.lio_cells.specs.declared.state.State.TheVariants.{Absent, Ref, Var, Chan, Job}
+use Rattle.lio_cells.specs.declared.state.State.TheVariants.{Ref, Var, Job}
 use Rattle.lio_cells.specs.State.{Kind, Reference, Variable, Channel, Result, is_job, label_of, result_of}
 use Rattle.lio_control.specs.declared.binding.Binding.{Binding}
 use Rattle.lio_control.specs.Environment.{Environment}
@@ -45,13 +45,10 @@ task-map P Q implies task each = record {
 }
 
 pub state-map : (P Q : Value → Type 0) → ((v : Value) → P v → Q v) → (state : State) → EachInState P state → EachInState Q state
-state-map P Q implies Absent p = tt
 state-map P Q implies (Ref label v) p = implies v p
-state-map P Q implies (Var label None) p = tt
 state-map P Q implies (Var label (Some v)) p = implies v p
-state-map P Q implies (Chan label bytes) p = tt
-state-map P Q implies (Job label None) p = tt
 state-map P Q implies (Job label (Some content)) p = implies _ p
+state-map P Q implies state p = tt
 
 -- what handles name they still name
 unfoldable pub Extends : Configuration → Configuration → Type 0
@@ -72,19 +69,7 @@ plain-extends c d extends (Power power) names = tt
 
 kind-extends : (c d : Configuration) → Extends c d → (kind : FaultKind) → KindNames c kind → KindNames d kind
 kind-extends c d extends (User plain) names = plain-extends c d extends plain names
-kind-extends c d extends (FlowCurrent current target) names = tt
-kind-extends c d extends (FlowClearance target clearance) names = tt
-kind-extends c d extends (FlowRaise raised clearance) names = tt
-kind-extends c d extends (FlowPrivilege power source target) names = tt
-kind-extends c d extends BadType names = tt
-kind-extends c d extends Overflow names = tt
-kind-extends c d extends DivZero names = tt
-kind-extends c d extends TooLong names = tt
-kind-extends c d extends NoTurns names = tt
-kind-extends c d extends (NoCells asked left) names = tt
-kind-extends c d extends (ChildTurns asked left) names = tt
-kind-extends c d extends Depth names = tt
-kind-extends c d extends (LabelWide left right) names = tt
+kind-extends c d extends kind names = tt
 
 pub value-extends : (c d : Configuration) → Extends c d → (value : Value) → ValueNames c value → ValueNames d value
 value-extends c d extends (Bare plain) names = plain-extends c d extends plain names

@@ -191,9 +191,7 @@ task-there c k task is empty = let none : Some task ≡ None = sym is ∙ ap (λ
 
 pub absent-unnamed : (kind : Kind) (handle : Handle) → IsTrue (is_named kind handle Absent) → ⊥
 absent-unnamed Reference handle e = true≢false (sym e)
-absent-unnamed Variable handle e = true≢false (sym e)
-absent-unnamed Channel handle e = true≢false (sym e)
-absent-unnamed Result handle e = true≢false (sym e)
+absent-unnamed kind handle e = true≢false (sym e)
 
 pub named-there : (c : Configuration) (kind : Kind) (handle : Handle) → Names c kind handle → cell_at c handle.number ≡ blank → ⊥
 named-there c kind handle names empty = absent-unnamed kind handle (subst (λ (x : Cell). IsTrue (is_named kind handle x.state)) empty names)

@@ -45,20 +45,11 @@ act-map : (P Q : Value → Type 0) → ((v : Value) → P v → Q v) → (asked 
 act-map P Q implies (act.Write v) p = implies v p
 act-map P Q implies (act.Put v) p = implies v p
 act-map P Q implies (act.NewRef l v) p = implies v p
-act-map P Q implies (act.NewVar l None) p = tt
 act-map P Q implies (act.NewVar l (Some v)) p = implies v p
 act-map P Q implies (act.Fork birth) p = λ i d within. implies _ (p i d within)
 act-map P Q implies (act.Spawn birth) p = λ i d within. implies _ (p i d within)
 act-map P Q implies (act.Ended content) p = λ label. implies _ (p label)
-act-map P Q implies act.Step p = tt
-act-map P Q implies (act.Seal l) p = tt
-act-map P Q implies (act.Raise o l) p = tt
-act-map P Q implies (act.Lower l) p = tt
-act-map P Q implies (act.Release source target power content) p = tt
-act-map P Q implies act.Read p = tt
-act-map P Q implies act.Take p = tt
-act-map P Q implies act.Wait p = tt
-act-map P Q implies (act.Send text) p = tt
+act-map P Q implies asked p = tt
 
 -- no handle for a task that takes nothing
 silent-handle : (P : Value → Type 0) (task : TaskState) (onward : Onward) → is_taking onward ≡ false → EachHandle P task onward
@@ -141,16 +132,7 @@ unborn program label act.Take visit = refl
 unborn program label (act.Put v) visit = refl
 unborn program label act.Wait visit = refl
 unborn program label (act.Send text) visit = refl
-unborn program label (act.NewRef l v) visit = absurd (true≢false (sym visit))
-unborn program label (act.NewVar l v) visit = absurd (true≢false (sym visit))
-unborn program label (act.Fork birth) visit = absurd (true≢false (sym visit))
-unborn program label (act.Spawn birth) visit = absurd (true≢false (sym visit))
-unborn program label (act.Ended content) visit = absurd (true≢false (sym visit))
-unborn program label act.Step visit = absurd (true≢false (sym visit))
-unborn program label (act.Seal l) visit = absurd (true≢false (sym visit))
-unborn program label (act.Raise o l) visit = absurd (true≢false (sym visit))
-unborn program label (act.Lower l) visit = absurd (true≢false (sym visit))
-unborn program label (act.Release source target power content) visit = absurd (true≢false (sym visit))
+unborn program label asked visit = absurd (true≢false (sym visit))
 
 unended : (asked : Act) → is_visit asked ≡ true → is_ended asked ≡ false
 unended (act.Ended content) visit = absurd (true≢false (sym visit))
@@ -192,16 +174,7 @@ visit-result (Ref l w) (act.Send text) visit = refl
 visit-result (Var l w) (act.Send text) visit = refl
 visit-result (Chan l b) (act.Send text) visit = refl
 visit-result (Job l r) (act.Send text) visit = refl
-visit-result state (act.NewRef l v) visit = absurd (true≢false (sym visit))
-visit-result state (act.NewVar l v) visit = absurd (true≢false (sym visit))
-visit-result state (act.Fork birth) visit = absurd (true≢false (sym visit))
-visit-result state (act.Spawn birth) visit = absurd (true≢false (sym visit))
-visit-result state (act.Ended content) visit = absurd (true≢false (sym visit))
-visit-result state act.Step visit = absurd (true≢false (sym visit))
-visit-result state (act.Seal l) visit = absurd (true≢false (sym visit))
-visit-result state (act.Raise o l) visit = absurd (true≢false (sym visit))
-visit-result state (act.Lower l) visit = absurd (true≢false (sym visit))
-visit-result state (act.Release source target power content) visit = absurd (true≢false (sym visit))
+visit-result state asked visit = absurd (true≢false (sym visit))
 
 -- a turn that changes the actor's cell and another one that lies in the list
 both : (c : Configuration) (k t : ℕ) (task : TaskState) (asked : Act) (onward : Onward) (reply : Reply) (other : Cell) → IsTaskOf c k task → (k ≡ t → ⊥) → t < length c.cells

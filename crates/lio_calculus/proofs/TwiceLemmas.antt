@@ -4,7 +4,7 @@ use Rattle.lio_labels.specs.declared.label.Label.{Label}
 use Rattle.lio_values.proofs.ErasureLemmas.{value_erased_twice}
 use Rattle.lio_control.specs.Environment.{Environment}
 use Rattle.lio_calculus.specs.Task.{TaskState}
-use Rattle.lio_control.specs.Items.{Item, Do, Access, Mark, Back, Fail}
+use Rattle.lio_control.specs.Items.{Item, Back}
 use Rattle.lio_control.specs.Hiding.{hide_environment, hide_item}
 use Rattle.lio_calculus.specs.Hiding.{hide_task}
 
@@ -14,10 +14,7 @@ hide_environment-twice observer (first ∷ rest) = λ i. record first { value = 
 
 hide_item-twice : (observer : Label) (item : Item) → hide_item observer (hide_item observer item) ≡ hide_item observer item
 hide_item-twice observer (Back caller name) = ap (λ (e : Environment). Back e name) (hide_environment-twice observer caller)
-hide_item-twice observer (Do statement) = refl
-hide_item-twice observer (Access statement) = refl
-hide_item-twice observer (Mark code payload handler) = refl
-hide_item-twice observer (Fail fault) = refl
+hide_item-twice observer item = refl
 
 pub hide_items-twice : (observer : Label) (items : List Item) → map (hide_item observer) (map (hide_item observer) items) ≡ map (hide_item observer) items
 hide_items-twice observer [] = refl

@@ -92,35 +92,13 @@ asked-twice observer (act.NewRef label value) plain = erase_act-twice observer (
 asked-twice observer (act.NewVar label value) plain = erase_act-twice observer (act.NewVar label value)
 asked-twice observer (act.Fork birth) plain = erase_act-twice observer (act.Fork birth)
 asked-twice observer (act.Spawn birth) plain = erase_act-twice observer (act.Spawn birth)
-asked-twice observer act.Take plain = refl
-asked-twice observer (act.Send text) plain = refl
-asked-twice observer (act.Ended content) plain = refl
-asked-twice observer act.Read plain = refl
-asked-twice observer act.Wait plain = refl
-asked-twice observer act.Step plain = refl
-asked-twice observer (act.Seal label) plain = refl
-asked-twice observer (act.Raise op label) plain = refl
-asked-twice observer (act.Lower label) plain = refl
+asked-twice observer asked plain = refl
 
 opened-plain : (observer : Label) (asked : Act) (reply : Reply) (rest : List Content) → IsNoRelease asked
     → opened observer (hide_asked observer asked) (erase_reply observer reply) (released_to observer asked reply ++ rest) ≡ Some (record { act = hide_asked observer asked; left = rest })
 unfolding opened released_to hide_asked
 opened-plain observer (act.Release source target power content) reply rest plain = absurd plain
-opened-plain observer (act.Write value) reply rest plain = refl
-opened-plain observer (act.Put value) reply rest plain = refl
-opened-plain observer (act.NewRef label value) reply rest plain = refl
-opened-plain observer (act.NewVar label value) reply rest plain = refl
-opened-plain observer (act.Fork birth) reply rest plain = refl
-opened-plain observer (act.Spawn birth) reply rest plain = refl
-opened-plain observer act.Take reply rest plain = refl
-opened-plain observer (act.Send text) reply rest plain = refl
-opened-plain observer (act.Ended content) reply rest plain = refl
-opened-plain observer act.Read reply rest plain = refl
-opened-plain observer act.Wait reply rest plain = refl
-opened-plain observer act.Step reply rest plain = refl
-opened-plain observer (act.Seal label) reply rest plain = refl
-opened-plain observer (act.Raise op label) reply rest plain = refl
-opened-plain observer (act.Lower label) reply rest plain = refl
+opened-plain observer asked reply rest plain = refl
 
 taken-plain : (observer : Label) (asked : Act) (reply : Reply) (rest : List Content) → IsNoRelease asked → Taken observer asked reply rest
 taken-plain observer asked reply rest plain = record {
@@ -169,18 +147,4 @@ taken observer (act.Release source target power content) Done rest shown = taken
 taken observer (act.Release source target power content) (Got value) rest shown = taken-refused observer source target power content (Got value) rest shown (λ e. absurd (cc))
 taken observer (act.Release source target power content) (Told told) rest shown = taken-refused observer source target power content (Told told) rest shown (λ e. absurd (cc))
 taken observer (act.Release source target power content) (Refused fault) rest shown = taken-refused observer source target power content (Refused fault) rest shown (λ e. absurd (cc))
-taken observer (act.Write value) reply rest shown = taken-plain observer (act.Write value) reply rest tt
-taken observer (act.Put value) reply rest shown = taken-plain observer (act.Put value) reply rest tt
-taken observer (act.NewRef label value) reply rest shown = taken-plain observer (act.NewRef label value) reply rest tt
-taken observer (act.NewVar label value) reply rest shown = taken-plain observer (act.NewVar label value) reply rest tt
-taken observer (act.Fork birth) reply rest shown = taken-plain observer (act.Fork birth) reply rest tt
-taken observer (act.Spawn birth) reply rest shown = taken-plain observer (act.Spawn birth) reply rest tt
-taken observer act.Take reply rest shown = taken-plain observer act.Take reply rest tt
-taken observer (act.Send text) reply rest shown = taken-plain observer (act.Send text) reply rest tt
-taken observer (act.Ended content) reply rest shown = taken-plain observer (act.Ended content) reply rest tt
-taken observer act.Read reply rest shown = taken-plain observer act.Read reply rest tt
-taken observer act.Wait reply rest shown = taken-plain observer act.Wait reply rest tt
-taken observer act.Step reply rest shown = taken-plain observer act.Step reply rest tt
-taken observer (act.Seal label) reply rest shown = taken-plain observer (act.Seal label) reply rest tt
-taken observer (act.Raise op label) reply rest shown = taken-plain observer (act.Raise op label) reply rest tt
-taken observer (act.Lower label) reply rest shown = taken-plain observer (act.Lower label) reply rest tt
+taken observer asked reply rest shown = taken-plain observer asked reply rest tt

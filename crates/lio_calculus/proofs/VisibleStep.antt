@@ -10,7 +10,7 @@ use Rattle.lio_values.specs.declared.act.Act.{Act}
 use Rattle.lio_values.specs.declared.act.Act.TheVariants as act
 use Rattle.lio_values.specs.declared.act.Reply.{Reply}
 use Rattle.lio_values.specs.Erasure.{erase_reply, erase_entry}
-use Rattle.lio_cells.specs.State.{Kind, Reference, Variable, Channel, Result, ready, answer}
+use Rattle.lio_cells.specs.State.{Kind, Reference, ready, answer}
 use Rattle.lio_calculus.specs.Task.{TaskState}
 use Rattle.lio_calculus.specs.Plan.{Program, Plan, Over, Own, Visit, Target, Node, New, plan}
 use Rattle.lio_calculus.specs.Hiding.{hide_task, hide_asked, hide_onward}
@@ -28,9 +28,7 @@ use Rattle.lio_calculus.proofs.VisitLemmas.{hide_move, low-move}
 -- no handle names a cell where nothing is
 absent-unnamed : (kind : Kind) (handle : Handle) → is_met (Node kind handle) blank.state ≡ false
 absent-unnamed Reference handle = refl
-absent-unnamed Variable handle = refl
-absent-unnamed Channel handle = refl
-absent-unnamed Result handle = refl
+absent-unnamed kind handle = refl
 
 -- a cell that looks as it did
 with_cell-same : (observer : Label) (c : Configuration) (n : ℕ) (cell : Cell) → erase_cell observer cell ≡ erase_cell observer (cell_at c n) → erase observer (with_cell c n cell) ≡ erase observer c
@@ -152,21 +150,7 @@ next-alike observer c k task (Visit asked target onward) move seen is visible gu
 -- what is no release shows nothing
 quiet-shown : (asked : Act) (reply : Reply) → IsNoRelease asked → IsShown asked reply
 quiet-shown (act.Release source target power content) reply quiet = absurd quiet
-quiet-shown (act.Write value) reply quiet = tt
-quiet-shown (act.Put value) reply quiet = tt
-quiet-shown (act.NewRef label value) reply quiet = tt
-quiet-shown (act.NewVar label value) reply quiet = tt
-quiet-shown (act.Fork birth) reply quiet = tt
-quiet-shown (act.Spawn birth) reply quiet = tt
-quiet-shown act.Take reply quiet = tt
-quiet-shown (act.Send text) reply quiet = tt
-quiet-shown (act.Ended content) reply quiet = tt
-quiet-shown act.Read reply quiet = tt
-quiet-shown act.Wait reply quiet = tt
-quiet-shown act.Step reply quiet = tt
-quiet-shown (act.Seal label) reply quiet = tt
-quiet-shown (act.Raise op label) reply quiet = tt
-quiet-shown (act.Lower label) reply quiet = tt
+quiet-shown asked reply quiet = tt
 
 -- what a turn shows of a release
 shown-of : (c : Configuration) (k : ℕ) (task : TaskState) (p : Plan) (move : Move) → IsGuarded c k task p → move_of (cell_at c) p ≡ Some move → IsShown move.act move.reply

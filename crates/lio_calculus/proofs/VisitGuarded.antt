@@ -10,7 +10,7 @@ use Rattle.lio_values.specs.declared.act.Act.{Act}
 use Rattle.lio_values.specs.declared.act.Act.TheVariants as act
 use Rattle.lio_values.specs.declared.act.Birth.{Birth}
 use Rattle.lio_cells.specs.declared.state.State.{State}
-use Rattle.lio_cells.specs.declared.state.State.TheVariants.{Absent, Ref, Var, Chan, Job}
+use Rattle.lio_cells.specs.declared.state.State.TheVariants.{Absent}
 use Rattle.lio_cells.specs.State.{Kind, Reference, Variable, Channel, Result as result, is_job, label_of, result_of, ready, answer, state_after}
 use Rattle.lio_calculus.specs.Task.{TaskState}
 use Rattle.lio_calculus.specs.Going.{Onward, Advance, HoldReference, HoldVariable, Fork, Spawn, BindReply}
@@ -42,10 +42,7 @@ write-keeps value = record { state = same; unborn = λ program label. refl; quie
   where
     same : (s : State) → label_of (state_after s (act.Write value)) ≡ label_of s
     same Absent = refl
-    same (Ref label v) = refl
-    same (Var label v) = refl
-    same (Chan label bytes) = refl
-    same (Job label content) = refl
+    same state = refl
 
 take-keeps : Keeps act.Take
 unfolding state_after
@@ -53,10 +50,7 @@ take-keeps = record { state = same; unborn = λ program label. refl; quiet = tt 
   where
     same : (s : State) → label_of (state_after s act.Take) ≡ label_of s
     same Absent = refl
-    same (Ref label v) = refl
-    same (Var label v) = refl
-    same (Chan label bytes) = refl
-    same (Job label content) = refl
+    same state = refl
 
 put-keeps : (value : Value) → Keeps (act.Put value)
 unfolding state_after
@@ -64,10 +58,7 @@ put-keeps value = record { state = same; unborn = λ program label. refl; quiet 
   where
     same : (s : State) → label_of (state_after s (act.Put value)) ≡ label_of s
     same Absent = refl
-    same (Ref label v) = refl
-    same (Var label v) = refl
-    same (Chan label bytes) = refl
-    same (Job label content) = refl
+    same state = refl
 
 send-keeps : (text : List ℕ) → Keeps (act.Send text)
 unfolding state_after
@@ -75,10 +66,7 @@ send-keeps text = record { state = same; unborn = λ program label. refl; quiet 
   where
     same : (s : State) → label_of (state_after s (act.Send text)) ≡ label_of s
     same Absent = refl
-    same (Ref label v) = refl
-    same (Var label v) = refl
-    same (Chan label bytes) = refl
-    same (Job label content) = refl
+    same state = refl
 
 read-keeps : Keeps act.Read
 unfolding state_after

@@ -11,10 +11,10 @@ use Rattle.lio_values.specs.declared.act.Reply.TheVariants.{Done}
 use Rattle.lio_values.specs.Erasure.{erase_reply}
 use Rattle.lio_cells.specs.declared.state.State.{State}
 use Rattle.lio_cells.specs.declared.state.State.TheVariants.{Absent}
-use Rattle.lio_cells.specs.State.{Reference, Variable, Channel, Result, ready, answer}
+use Rattle.lio_cells.specs.State.{Reference, ready, answer}
 use Rattle.lio_calculus.specs.Task.{TaskState}
 use Rattle.lio_calculus.specs.Going.{Onward}
-use Rattle.lio_calculus.specs.Plan.{Plan, Over, Own, Visit, Target, Node, New}
+use Rattle.lio_calculus.specs.Plan.{Plan, Over, Own, Visit, Target, Node}
 use Rattle.lio_calculus.specs.Hiding.{hide_asked, hide_onward, hide_plan}
 use Rattle.lio_calculus.specs.Step.{Cell, Configuration, cell_at, number_of, is_met, met, waits, visit, Move, move_of}
 use Rattle.lio_calculus.specs.Erased.{sees, hide_state, erase_cell, erase}
@@ -39,41 +39,15 @@ met-hidden observer target state =
 waits-hidden : (observer : Label) (asked : Act) → waits (hide_asked observer asked) ≡ waits asked
 unfolding hide_asked
 waits-hidden observer (act.Release source target power content) = refl
-waits-hidden observer (act.Write value) = refl
-waits-hidden observer (act.Put value) = refl
-waits-hidden observer (act.NewRef label value) = refl
-waits-hidden observer (act.NewVar label value) = refl
-waits-hidden observer (act.Fork birth) = refl
-waits-hidden observer (act.Spawn birth) = refl
-waits-hidden observer act.Take = refl
-waits-hidden observer (act.Send text) = refl
-waits-hidden observer (act.Ended content) = refl
-waits-hidden observer act.Read = refl
-waits-hidden observer act.Wait = refl
-waits-hidden observer act.Step = refl
-waits-hidden observer (act.Seal label) = refl
-waits-hidden observer (act.Raise op label) = refl
-waits-hidden observer (act.Lower label) = refl
+waits-hidden observer asked = refl
 
 -- what doesn't wait is answered alike by each node
 pub answer-done : (state : State) (asked : Act) → waits asked ≡ false → answer state asked ≡ Done
 unfolding answer
 answer-done state act.Read is = absurd (cc)
 answer-done state act.Take is = absurd (cc)
-answer-done state (act.Put value) is = refl
 answer-done state act.Wait is = absurd (cc)
-answer-done state (act.Release source target power content) is = refl
-answer-done state (act.Write value) is = refl
-answer-done state (act.NewRef label value) is = refl
-answer-done state (act.NewVar label value) is = refl
-answer-done state (act.Fork birth) is = refl
-answer-done state (act.Spawn birth) is = refl
-answer-done state (act.Send text) is = refl
-answer-done state (act.Ended content) is = refl
-answer-done state act.Step is = refl
-answer-done state (act.Seal label) is = refl
-answer-done state (act.Raise op label) is = refl
-answer-done state (act.Lower label) is = refl
+answer-done state asked is = refl
 
 chosen : (observer : Label) (b : Bool) (own move : Move) → (if b then None else Some own) ≡ Some move → (if b then None else Some (hide_move observer own)) ≡ Some (hide_move observer move)
 chosen observer true own move is = absurd (cc)
@@ -134,10 +108,7 @@ low-move observer c k task (Visit asked target onward) move visible guarded move
 -- where nothing is no handle names a cell, and nothing is ready for what waits
 met-absent : (target : Target) → met target Absent ≡ Absent
 met-absent (Node Reference handle) = refl
-met-absent (Node Variable handle) = refl
-met-absent (Node Channel handle) = refl
-met-absent (Node Result handle) = refl
-met-absent (New number) = refl
+met-absent target = refl
 
 absent-unready : (asked : Act) → waits asked ≡ true → ready Absent asked ≡ false
 unfolding ready
@@ -145,18 +116,7 @@ absent-unready act.Read is = refl
 absent-unready act.Take is = refl
 absent-unready (act.Put value) is = refl
 absent-unready act.Wait is = refl
-absent-unready (act.Release source target power content) is = absurd (cc)
-absent-unready (act.Write value) is = absurd (cc)
-absent-unready (act.NewRef label value) is = absurd (cc)
-absent-unready (act.NewVar label value) is = absurd (cc)
-absent-unready (act.Fork birth) is = absurd (cc)
-absent-unready (act.Spawn birth) is = absurd (cc)
-absent-unready (act.Send text) is = absurd (cc)
-absent-unready (act.Ended content) is = absurd (cc)
-absent-unready act.Step is = absurd (cc)
-absent-unready (act.Seal label) is = absurd (cc)
-absent-unready (act.Raise op label) is = absurd (cc)
-absent-unready (act.Lower label) is = absurd (cc)
+absent-unready asked is = absurd (cc)
 
 halted : (b : Bool) (own : Move) → (if b then None else Some own) ≡ None → b ≡ true
 halted true own is = refl

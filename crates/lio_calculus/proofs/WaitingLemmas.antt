@@ -14,7 +14,7 @@ use Rattle.lio_lines.specs.declared.line.Simple.TheVariants as line
 use Rattle.lio_syntax.specs.Statements.{Statement}
 use Rattle.lio_cells.specs.declared.state.State.TheVariants.{Absent}
 use Rattle.lio_cells.specs.State.{Kind, Reference, Variable, Result as result, ready, answer}
-use Rattle.lio_control.specs.Items.{Item, Do, Access, Mark, Back, Fail}
+use Rattle.lio_control.specs.Items.{Item, Do, Access}
 use Rattle.lio_calculus.specs.Operands.{bound, seen_as, reference_of, variable_of, result_of as result_handle}
 use Rattle.lio_calculus.specs.Task.{TaskState}
 use Rattle.lio_calculus.specs.Going.{Onward, Advance, BindReply}
@@ -92,12 +92,9 @@ access-moves c task (line.Wait x r) items each said raised =
 access-moves c task s items each said raised = absurd raised
 
 items-moves : (c : Configuration) (task : TaskState) (items : List Item) → EachBound (ValueNames c) task.environment → All ItemSays items → FrontIsRaised task items → moves_at c (plan_items c.program task items) ≡ not (is_held_up c task.environment items)
-items-moves c task [] each said raised = refl
 items-moves c task (Do s ∷ items) each said raised = statement-moves c task (items-case c.program task (Do s ∷ items))
 items-moves c task (Access s ∷ items) each said raised = access-moves c task s items each (All-head ItemSays (Access s) items said) raised
-items-moves c task (Mark code payload handler ∷ items) each said raised = refl
-items-moves c task (Back caller name ∷ items) each said raised = refl
-items-moves c task (Fail fault ∷ items) each said raised = refl
+items-moves c task items each said raised = refl
 
 task-moves : (c : Configuration) (k : ℕ) (task : TaskState) → IsSound c → IsTaskOf c k task → moves_at c (plan c.program task) ≡ not (task.ended || is_waiting c task)
 unfolding plan
