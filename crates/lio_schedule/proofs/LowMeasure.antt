@@ -13,7 +13,7 @@ use Rattle.lio_values.specs.declared.act.Reply.{Reply}
 use Rattle.lio_values.specs.declared.act.Reply.TheVariants.{Done}
 use Rattle.lio_control.specs.Items.{rest_of}
 use Rattle.lio_calculus.specs.Task.{TaskState}
-use Rattle.lio_calculus.specs.Going.{Onward, Advance, Bind, Seal, Enter, Repeat, Try, Call, Return, Leave, Raise, RaiseTo, Unlabel, Lower, Release, HoldReference, HoldVariable, Fork, Spawn, BindReply, Throw, End, gone, gone_on}
+use Rattle.lio_calculus.specs.Going.{Onward, Advance, gone, gone_on}
 use Rattle.lio_calculus.specs.Plan.{Program, Target, plan}
 use Rattle.lio_calculus.specs.Step.{Cell, Configuration, cell_at, born, Move, move_of, after}
 use Rattle.lio_calculus.specs.Erased.{sees, hide_cell, erase_cell, erase, LowTurn, Opened, taking_front, opened_release, opened}
@@ -27,26 +27,7 @@ use Rattle.lio_schedule.proofs.MeasureLemmas.{newborn, measure-after, move-lower
 -- what a task that goes on weighs doesn't depend on the act
 gone-weight : (task : TaskState) (onward : Onward) (one two : Act) (reply : Reply) → weight (Some (gone task onward one reply)) ≡ weight (Some (gone task onward two reply))
 gone-weight task Advance one two reply = refl
-gone-weight task (Bind name value) one two reply = refl
-gone-weight task (Seal name label plain) one two reply = refl
-gone-weight task (Enter block) one two reply = refl
-gone-weight task (Repeat condition block) one two reply = refl
-gone-weight task (Try block code payload handler) one two reply = refl
-gone-weight task (Call name environment body) one two reply = refl
-gone-weight task (Return value) one two reply = refl
-gone-weight task (Leave caller name) one two reply = refl
-gone-weight task (Raise label) one two reply = refl
-gone-weight task (RaiseTo label access) one two reply = refl
-gone-weight task (Unlabel name label source content) one two reply = refl
-gone-weight task (Lower clearance) one two reply = refl
-gone-weight task (Release name label) one two reply = refl
-gone-weight task (HoldReference name label) one two reply = refl
-gone-weight task (HoldVariable name label) one two reply = refl
-gone-weight task (Fork name label cells turns) one two reply = refl
-gone-weight task (Spawn cells turns) one two reply = refl
-gone-weight task (BindReply name) one two reply = refl
-gone-weight task (Throw fault) one two reply = refl
-gone-weight task End one two reply = refl
+gone-weight task onward one two reply = refl
 
 gone_on-weight : (task : TaskState) (onward : Onward) (one two : Act) (reply : Reply) → weight (Some (gone_on task onward one reply)) ≡ weight (Some (gone_on task onward two reply))
 unfolding gone_on

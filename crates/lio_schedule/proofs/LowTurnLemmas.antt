@@ -73,23 +73,7 @@ low-none observer one two c k contents stays = by (low observer two c k contents
 -- an erased act, and so an erased entry, shows the same child
 born_at-erased : (observer : Label) (asked : Act) (target : Option ℕ) → born_at (erase_act observer asked) target ≡ born_at asked target
 born_at-erased observer (act.Fork birth) None = refl
-born_at-erased observer (act.Fork birth) (Some n) = refl
-born_at-erased observer (act.Spawn birth) None = refl
-born_at-erased observer (act.Spawn birth) (Some n) = refl
-born_at-erased observer (act.Release source target power content) t = refl
-born_at-erased observer (act.NewRef label value) t = refl
-born_at-erased observer (act.NewVar label value) t = refl
-born_at-erased observer (act.Write value) t = refl
-born_at-erased observer (act.Put value) t = refl
-born_at-erased observer act.Step t = refl
-born_at-erased observer (act.Seal label) t = refl
-born_at-erased observer (act.Raise op label) t = refl
-born_at-erased observer (act.Lower label) t = refl
-born_at-erased observer act.Read t = refl
-born_at-erased observer act.Take t = refl
-born_at-erased observer act.Wait t = refl
-born_at-erased observer (act.Send text) t = refl
-born_at-erased observer (act.Ended content) t = refl
+born_at-erased observer asked target = refl
 
 pub born-erased : (observer : Label) (entry : Entry) → born_in (erase_entry observer entry) ≡ born_in entry
 born-erased observer entry = born_at-erased observer entry.act entry.target

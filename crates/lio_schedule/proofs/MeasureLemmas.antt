@@ -21,6 +21,7 @@ use Rattle.lio_calculus.proofs.InvisibleLemmas.{visit-move}
 use Rattle.lio_schedule.specs.Rounds.{weight, measure}
 use Rattle.lio_schedule.specs.Laws.{TurnLowersMeasure}
 use Rattle.lio_schedule.proofs.TurnLemmas.{parts}
+use Rattle.lio_calculus.proofs.PlanCases.{items-case}
 use Rattle.lio_schedule.proofs.TurnsLeft.{handed, begun, gone-turns, Affords, items-afford}
 use Rattle.lio_schedule.proofs.AfterLemmas.{lt_or, task-inside, task-met}
 
@@ -124,7 +125,7 @@ move-lowers c task move moves = by task.ended (task.turns == 0) refl refl moves
     by false true e t m = ending-lowers c task move e m
     by false false e t m =
         let some : 0 < task.turns = grind (arith, nat_tests, t) in
-        spending c task (plan_items c.program task task.items) move e some (items-afford c.program task task.items) m
+        spending c task (plan_items c.program task task.items) move e some (items-afford task (items-case c.program task task.items)) m
 
 pub turn_lowers_measure : TurnLowersMeasure
 turn_lowers_measure ticket c k turn steps =

@@ -1,21 +1,19 @@
 -- No turn adds to the turns that are left.
-use Rattle.std.proofs.Common.{◌≡◌, ap, subst, ℕ, ◌+◌, ◌-◌, ◌<◌, ◌≤◌, ◌==◌, ◌⊎◌, inl, inr, Bool, true, false, if◌then◌else◌, List, length, Option, Some, None, arith}
+use Rattle.std.proofs.Common.{◌≡◌, ap, subst, ℕ, ◌+◌, ◌-◌, ◌<◌, ◌≤◌, ◌⊎◌, inl, inr, Bool, true, false, if◌then◌else◌, List, length, Option, Some, None, arith}
 use Rattle.std.proofs.lemmas.List.{set_past}
 use Rattle.std.proofs.lemmas.List.Sums.{sum_by-set}
 use Rattle.lio_labels.specs.declared.label.Label.{Label}
-use Rattle.lio_values.specs.declared.fault.FaultKind.TheVariants.{NoTurns}
-use Rattle.lio_values.specs.declared.value.Content.TheVariants.{Faulted}
 use Rattle.lio_values.specs.declared.act.Act.{Act}
 use Rattle.lio_values.specs.declared.act.Act.TheVariants as act
 use Rattle.lio_values.specs.declared.act.Reply.{Reply}
 use Rattle.lio_control.specs.Items.{rest_of}
 use Rattle.lio_calculus.specs.Task.{TaskState}
 use Rattle.lio_calculus.specs.Going.{Onward, gone_on}
-use Rattle.lio_calculus.specs.Plan.{Program, Plan, Over, Own, Visit, Target, fault_at, ending, plan_items, plan}
+use Rattle.lio_calculus.specs.Plan.{Program, Plan, Over, Own, Visit, Target, plan}
 use Rattle.lio_calculus.specs.Step.{Cell, Configuration, blank, cell_at, with_cell, number_of, is_met, child_of, born, task_after, met_after, Move, move_of, actor_after, target_after, after, Turn}
 use Rattle.lio_calculus.specs.Sound.{IsTaskOf}
 use Rattle.lio_calculus.proofs.TurnParts.{parts, own-moves, visit-moves, over-moves}
-use Rattle.lio_schedule.proofs.TurnsLeft.{handed, begun, gone-turns, Affords, items-afford}
+use Rattle.lio_schedule.proofs.TurnsLeft.{handed, begun, gone-turns, Affords, plan-affords}
 use Rattle.lio_schedule.proofs.AfterLemmas.{lt_or, task-inside, task-met}
 use Rattle.lio_wellformed.specs.Turns.{turns_of, turns_left}
 use Rattle.lio_wellformed.specs.Laws.{TurnAddsNoTurns}
@@ -86,15 +84,6 @@ move-hands : (c : Configuration) (task : TaskState) (p : Plan) (move : Move) →
 move-hands c task Over move affords moves = absurd (over-moves c move moves)
 move-hands c task (Own asked reply onward) move affords moves = subst (Hands task) (own-moves c asked reply onward move moves) (omega arith)
 move-hands c task (Visit asked target onward) move affords moves = subst (Hands task) (visit-moves c asked target onward move moves) (omega (arith, affords.0, affords.1))
-
-plan-affords : (program : Program) (task : TaskState) → Affords task (plan program task)
-unfolding plan
-plan-affords program task = by task.ended (task.turns == 0)
-  where
-    by : (ended none : Bool) → Affords task (if ended then Over else (if none then ending (Faulted (fault_at task NoTurns)) else plan_items program task task.items))
-    by true none = tt
-    by false true = tt
-    by false false = items-afford program task task.items
 
 pub turn_adds_no_turns : TurnAddsNoTurns
 turn_adds_no_turns ticket c k turn steps =
