@@ -1,5 +1,5 @@
 -- Turns of the erased calculus name no principal without a name, and their entries can be printed.
-use Rattle.std.proofs.Common.{◌≡◌, ◌∙◌, refl, sym, ap, subst, ℕ, Bool, true, false, if◌then◌else◌, List, [], ◌∷◌, map, All, Option, Some, None}
+use Rattle.std.proofs.Common.{◌≡◌, refl, sym, subst, ℕ, Bool, true, false, if◌then◌else◌, List, [], ◌∷◌, All, Option, Some, None}
 use Rattle.std.specs.Prelude.{option_and_then}
 use Rattle.std.specs.Option.{option_map}
 use Rattle.std.proofs.lemmas.List.Elements.{All-head, All-tail, All-map}
@@ -15,19 +15,19 @@ use Rattle.lio_values.specs.declared.act.Reply.{Reply}
 use Rattle.lio_values.specs.declared.act.Reply.TheVariants.{Done, Got, Told, Refused}
 use Rattle.lio_values.specs.Erasure.{erase_content, erase_value}
 use Rattle.lio_events.specs.Named.{IsContentNamed, IsValueNamed}
-use Rattle.lio_events.specs.Printable.{IsOptionNamed, IsActNamed, IsRaiseOf, IsPrintable}
+use Rattle.lio_events.specs.Printable.{IsOptionNamed, IsActNamed, IsRaiseOf}
 use Rattle.lio_events.proofs.PrintableLemmas.{erased_is_printable}
 use Rattle.lio_cells.specs.declared.state.State.{State}
 use Rattle.lio_cells.specs.declared.state.State.TheVariants.{Absent, Ref, Var, Chan, Job}
 use Rattle.lio_control.specs.Environment.{Environment}
-use Rattle.lio_control.specs.Items.{Item, Do, Access, Mark, Back, Fail}
+use Rattle.lio_control.specs.Items.{Item, Back}
 use Rattle.lio_control.specs.Hiding.{hide_binding, hide_environment, hide_item}
 use Rattle.lio_calculus.specs.Task.{TaskState}
 use Rattle.lio_calculus.specs.Plan.{Program, plan}
 use Rattle.lio_calculus.specs.Step.{Cell, Configuration, blank, cell_at, Move, move_of, after, entry_of}
 use Rattle.lio_calculus.specs.Hiding.{hide_task}
-use Rattle.lio_calculus.specs.Erased.{sees, hide_state, hide_cell, erase_cell, erase, LowTurn, Opened, taking_front, opened, low_with, low_turn, low}
-use Rattle.lio_calculus.specs.Sound.{EachBound, IsTaskOf}
+use Rattle.lio_calculus.specs.Erased.{sees, hide_state, hide_cell, erase_cell, erase, Opened, taking_front, opened, low_with, low_turn, low}
+use Rattle.lio_calculus.specs.Sound.{EachBound}
 use Rattle.lio_calculus.proofs.ConfigLemmas.{cell_at-erased}
 use Rattle.lio_named.specs.Script.{IsScriptNamed}
 use Rattle.lio_named.specs.Configuration.{IsItemNamed, IsTaskNamed, IsStateNamed, NamesOnly}
@@ -57,10 +57,7 @@ environment_named names observer environment each = All-map (λ binding. IsValue
 
 item_named : (names : List (List ℕ)) (observer : Label) (item : Item) → IsItemNamed names item → IsItemNamed names (hide_item observer item)
 item_named names observer (Back caller name) named = environment_named names observer caller named
-item_named names observer (Do statement) named = named
-item_named names observer (Access simple) named = named
-item_named names observer (Mark code payload handler) named = named
-item_named names observer (Fail fault) named = named
+item_named names observer item named = named
 
 task_named : (names : List (List ℕ)) (observer : Label) (task : TaskState) → IsTaskNamed names task → IsTaskNamed names (hide_task observer task)
 task_named names observer task named = record {

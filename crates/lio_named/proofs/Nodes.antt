@@ -28,10 +28,7 @@ filled_named names (Job label result) value s v = s
 
 received_named : (names : List (List ℕ)) (state : State) (bytes : List ℕ) → IsStateNamed names state → IsStateNamed names (received state bytes)
 received_named names Absent bytes s = tt
-received_named names (Ref label value) bytes s = s
-received_named names (Var label value) bytes s = s
-received_named names (Chan label before) bytes s = s
-received_named names (Job label result) bytes s = s
+received_named names state bytes s = s
 
 ended_named : (names : List (List ℕ)) (state : State) (content : Content) → IsStateNamed names state → IsContentNamed names content → IsStateNamed names (ended state content)
 ended_named names Absent content s c = tt
@@ -42,10 +39,7 @@ ended_named names (Job label result) content s c = (s.0, c)
 
 placed_named : (names : List (List ℕ)) (state new : State) → IsStateNamed names state → IsStateNamed names new → IsStateNamed names (placed state new)
 placed_named names Absent new s n = n
-placed_named names (Ref label value) new s n = s
-placed_named names (Var label value) new s n = s
-placed_named names (Chan label bytes) new s n = s
-placed_named names (Job label result) new s n = s
+placed_named names state new s n = s
 
 -- a node after an act
 pub state_named : (names : List (List ℕ)) (state : State) (asked : Act) → IsStateNamed names state → IsActNamed names asked → IsStateNamed names (state_after state asked)

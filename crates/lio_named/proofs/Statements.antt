@@ -1,32 +1,42 @@
 -- Each principal in the plan of a task has a name, where each in the task and in its program has one.
-use Rattle.std.proofs.Common.{ℕ, ◌+◌, ◌==◌, Bool, true, false, if◌then◌else◌, List, [], ◌∷◌, All, Some, None}
-use Rattle.std.specs.Prelude.{option_and_then, slice_get}
-use Rattle.std.proofs.lemmas.List.Elements.{All-head, All-tail}
+use Rattle.std.proofs.Common.{◌≡◌, subst, ℕ, ◌-◌, List, [], ◌∷◌, All, Option, Some}
+use Rattle.std.specs.Prelude.{option_and_then}
+use Rattle.std.proofs.lemmas.List.Elements.{All-nil, All-head, All-tail}
 use Rattle.lio_labels.specs.declared.label.Label.{Label}
-use Rattle.lio_labels.specs.declared.privilege.Priv.{Priv}
 use Rattle.lio_labels.specs.LabelPrint.{AreNamed}
-use Rattle.lio_values.specs.declared.fault.FaultKind.TheVariants.{NoTurns, User}
+use Rattle.lio_values.specs.declared.fault.FaultKind.{FaultKind}
+use Rattle.lio_values.specs.declared.fault.FaultKind.TheVariants.{BadType, NoCells, ChildTurns, Depth, User}
 use Rattle.lio_values.specs.declared.value.Handle.{Handle}
-use Rattle.lio_values.specs.declared.value.Plain.{Plain}
-use Rattle.lio_values.specs.declared.value.Content.TheVariants.{Faulted}
+use Rattle.lio_values.specs.declared.value.Value.{Value}
+use Rattle.lio_values.specs.declared.act.Act.{Act}
 use Rattle.lio_values.specs.declared.act.Act.TheVariants as act
+use Rattle.lio_values.specs.declared.act.Op.{Op}
 use Rattle.lio_values.specs.declared.act.Op.TheVariants as op
-use Rattle.lio_values.specs.PlainText.{IsPowerNamed, IsPlainNamed}
+use Rattle.lio_values.specs.PlainText.{IsPowerNamed}
+use Rattle.lio_events.specs.Named.{IsKindNamed, IsValueNamed}
+use Rattle.lio_events.specs.Printable.{IsActNamed, IsRaising, IsRaiseOf}
 use Rattle.lio_lines.specs.declared.line.Operand.{Operand}
 use Rattle.lio_lines.specs.declared.line.Simple.{Simple}
-use Rattle.lio_lines.specs.declared.line.Simple.TheVariants as line
-use Rattle.lio_syntax.specs.Statements.{Statement}
-use Rattle.lio_syntax.specs.Statements as statement
-use Rattle.lio_operators.specs.Operators.{operate1, operate2}
-use Rattle.lio_control.specs.Items.{Item, Do, Access, Mark, Back, Fail}
-use Rattle.lio_calculus.specs.Operands.{seen_as, flag_of, label_of, power_of, text_of, count_of, reference_of, variable_of, result_of, channel_of}
+use Rattle.lio_syntax.specs.Statements.{Procedure}
+use Rattle.lio_guards.specs.declared.verdict.Verdict.{Verdict}
+use Rattle.lio_guards.specs.declared.verdict.Verdict.TheVariants.{Go, No}
+use Rattle.lio_cells.specs.State.{Kind}
+use Rattle.lio_control.specs.Items.{Item}
+use Rattle.lio_calculus.specs.Operands.{bound, Labelled, sealed_of, seen_as, label_of, power_of, reference_of, variable_of, result_of, channel_of}
 use Rattle.lio_calculus.specs.Task.{TaskState}
-use Rattle.lio_calculus.specs.Plan.{Program, Plan, Over, fault_at, ending, with_seen, verdict_on, procedure_at, birth_of, choosing, looping, plan_simple, plan_statement, plan_access, plan_items, plan}
+use Rattle.lio_calculus.specs.Going.{Onward}
+use Rattle.lio_calculus.specs.Plan.{Program, Plan, refused, procedure_at, plan}
+use Rattle.lio_calculus.specs.Step.{body_of}
+use Rattle.lio_calculus.proofs.Outcome.{Reaches, Reads, Takes, Puts, Waits, Test, On, Between, Free, verdict_of, Asks, Outcome}
+use Rattle.lio_calculus.proofs.Outcome as out
+use Rattle.lio_calculus.proofs.PlanCases.{ItemsCase, Does, IsMistyped, Enters, Chooses, ChoosesOther, Repeats, Tries, Visits, Leaves, Fails, plan-by}
+use Rattle.lio_calculus.proofs.PlanEach.{bind_all-each}
 use Rattle.lio_named.specs.Script.{IsOperandNamed, IsSimpleNamed, IsStatementNamed, IsBlockNamed, IsScriptNamed}
 use Rattle.lio_named.specs.Configuration.{IsItemNamed, IsTaskNamed}
-use Rattle.lio_named.proofs.Operators.{one_named, two_named}
-use Rattle.lio_named.proofs.Lookups.{IsHandleNamed, plain_shown, label_shown, power_shown, reference_shown, variable_shown, result_shown, channel_shown}
-use Rattle.lio_named.proofs.Plans.{IsPlanNamed, refused_named, bad_type_named, with_any, with_view, with_value, with_values, with_sealed, verdict_named, on_named, computed_named, found_named, calling_named, returning_named, choosing_named, looping_named, forking_named, spawning_named, raising_named, new_reference_named, new_variable_named, releasing_named}
+use Rattle.lio_named.proofs.Operators.{IsGivenNamed, one_named, two_named}
+use Rattle.lio_named.proofs.Guards.{IsVerdictNamed, guarded_named, relabel_named}
+use Rattle.lio_named.proofs.Lookups.{IsLabelledNamed, IsHandleNamed, bound_named, all_bound_named, sealed_named, seen_named, label_shown, power_shown, reference_shown, variable_shown, result_shown, channel_shown}
+use Rattle.lio_named.proofs.Plans.{IsOnwardNamed, IsPlanNamed, found_named}
 
 -- the operands of a statement
 first : (names : List (List ℕ)) (a : Operand) (operands : List Operand) → All (IsOperandNamed names) (a ∷ operands) → IsOperandNamed names a
@@ -38,129 +48,125 @@ rest names = All-tail (IsOperandNamed names)
 second : (names : List (List ℕ)) (a b : Operand) (operands : List Operand) → All (IsOperandNamed names) (a ∷ b ∷ operands) → IsOperandNamed names b
 second names a b operands said = first names b operands (rest names a (b ∷ operands) said)
 
--- a label, and a handle of each kind
-with_label : (names : List (List ℕ)) (task : TaskState) (operand : Operand) (next : Label → Plan) → IsTaskNamed names task → IsOperandNamed names operand
-    → ((label : Label) → AreNamed names label → IsPlanNamed names (next label)) → IsPlanNamed names (with_seen task (seen_as label_of task.environment operand) next)
-with_label names = with_view names label_of (AreNamed names) (label_shown names)
+-- each principal in a test has a name
+abbrev IsTestNamed : List (List ℕ) → Test → Type 0
+IsTestNamed names (On o target) = AreNamed names target
+IsTestNamed names (Between source target power) = AreNamed names source × AreNamed names target × IsPowerNamed names power
+IsTestNamed names Free = Unit {0}
 
-with_plain : (names : List (List ℕ)) (task : TaskState) (operand : Operand) (next : Plain → Plan) → IsTaskNamed names task → IsOperandNamed names operand
-    → ((plain : Plain) → IsPlainNamed names plain → IsPlanNamed names (next plain)) → IsPlanNamed names (with_seen task (seen_as Some task.environment operand) next)
-with_plain names = with_view names Some (IsPlainNamed names) (plain_shown names)
+-- what a task of these names looks up
+module _ (names : List (List ℕ)) (task : TaskState) (t : IsTaskNamed names task) where
+  value_at : (a : Operand) (value : Value) → IsOperandNamed names a → bound task.environment a ≡ Some value → IsValueNamed names value
+  value_at a value said e = bound_named names task.environment a value t.environment said e
 
-with_power : (names : List (List ℕ)) (task : TaskState) (operand : Operand) (next : Priv → Plan) → IsTaskNamed names task → IsOperandNamed names operand
-    → ((power : Priv) → IsPowerNamed names power → IsPlanNamed names (next power)) → IsPlanNamed names (with_seen task (seen_as power_of task.environment operand) next)
-with_power names = with_view names power_of (IsPowerNamed names) (power_shown names)
+  label_at : (l : Operand) (label : Label) → IsOperandNamed names l → seen_as label_of task.environment l ≡ Some label → AreNamed names label
+  label_at l label said e = seen_named names label_of (AreNamed names) (label_shown names) task.environment l label t.environment said e
 
-with_reference : (names : List (List ℕ)) (task : TaskState) (operand : Operand) (next : Handle → Plan) → IsTaskNamed names task → IsOperandNamed names operand
-    → ((handle : Handle) → IsHandleNamed names handle → IsPlanNamed names (next handle)) → IsPlanNamed names (with_seen task (seen_as reference_of task.environment operand) next)
-with_reference names = with_view names reference_of (IsHandleNamed names) (reference_shown names)
+  sealed_at : (a : Operand) (sealed : Labelled) → IsOperandNamed names a → option_and_then sealed_of (bound task.environment a) ≡ Some sealed → IsLabelledNamed names sealed
+  sealed_at a sealed said e = sealed_named names (bound task.environment a) sealed e (λ value f. value_at a value said f)
 
-with_variable : (names : List (List ℕ)) (task : TaskState) (operand : Operand) (next : Handle → Plan) → IsTaskNamed names task → IsOperandNamed names operand
-    → ((handle : Handle) → IsHandleNamed names handle → IsPlanNamed names (next handle)) → IsPlanNamed names (with_seen task (seen_as variable_of task.environment operand) next)
-with_variable names = with_view names variable_of (IsHandleNamed names) (variable_shown names)
+  -- the verdict of a test
+  verdict_named : (test : Test) (verdict : Verdict) → IsTestNamed names test → verdict_of task test ≡ verdict → IsVerdictNamed names verdict
+  verdict_named test verdict n e = subst (IsVerdictNamed names) e (by test n)
+    where
+      by : (u : Test) → IsTestNamed names u → IsVerdictNamed names (verdict_of task u)
+      by (On o target) m = guarded_named names o task.label task.clearance target t.label t.clearance m
+      by (Between source target power) m = relabel_named names task.label task.clearance source target power t.label t.clearance m.0 m.1 m.2
+      by Free m = t.label
 
-with_result : (names : List (List ℕ)) (task : TaskState) (operand : Operand) (next : Handle → Plan) → IsTaskNamed names task → IsOperandNamed names operand
-    → ((handle : Handle) → IsHandleNamed names handle → IsPlanNamed names (next handle)) → IsPlanNamed names (with_seen task (seen_as result_of task.environment operand) next)
-with_result names = with_view names result_of (IsHandleNamed names) (result_shown names)
+  refused_named : (asked : Act) (kind : FaultKind) → IsActNamed names asked → IsRaiseOf asked → IsKindNamed names kind → IsPlanNamed names (refused task asked kind)
+  refused_named asked kind a r k = (a, r, (k, t.label), (k, t.label))
 
-with_channel : (names : List (List ℕ)) (task : TaskState) (operand : Operand) (next : Handle → Plan) → IsTaskNamed names task → IsOperandNamed names operand
-    → ((handle : Handle) → IsHandleNamed names handle → IsPlanNamed names (next handle)) → IsPlanNamed names (with_seen task (seen_as channel_of task.environment operand) next)
-with_channel names = with_view names channel_of (IsHandleNamed names) (channel_shown names)
+  -- a statement with an access
+  reach_named : {s : Simple} {o : Op} {asked : Act} {kind : Kind} {handle : Handle} {onward : Onward} → IsSimpleNamed names s → Reaches task s o asked kind handle onward
+      → IsHandleNamed names handle × IsRaising o × IsActNamed names asked × IsRaiseOf asked × IsOnwardNamed names onward
+  reach_named said (Reads {r = r} e) = (seen_named names reference_of (IsHandleNamed names) (reference_shown names) task.environment r _ t.environment (first names r [] said) e, tt, tt, tt, tt)
+  reach_named said (Takes {v = v} e) = (seen_named names variable_of (IsHandleNamed names) (variable_shown names) task.environment v _ t.environment (first names v [] said) e, tt, tt, tt, tt)
+  reach_named said (Puts {v = v} {a = a} e f) =
+      (seen_named names variable_of (IsHandleNamed names) (variable_shown names) task.environment v _ t.environment (first names v (a ∷ []) said) e, tt, value_at a _ (second names v a [] said) f, tt, tt)
+  reach_named said (Waits {r = r} e) = (seen_named names result_of (IsHandleNamed names) (result_shown names) task.environment r _ t.environment (first names r [] said) e, tt, tt, tt, tt)
 
--- a statement that opens no block
-simple_named : (names : List (List ℕ)) (program : Program) (task : TaskState) (s : Simple) → IsScriptNamed names program.procedures → IsTaskNamed names task → IsSimpleNamed names s → IsPlanNamed names (plan_simple program task s)
-unfolding plan_simple
-simple_named names program task (line.Let x a) p t said = with_value names task a _ t (first names a [] said) (λ value v. (tt, tt, tt, v))
-simple_named names program task (line.LetOne x o a) p t said =
-    with_value names task a _ t (first names a [] said) (λ value v. computed_named names task x (operate1 program.longest o value) t (one_named names program.longest o value v))
-simple_named names program task (line.LetTwo x a o b) p t said =
-    with_value names task a _ t (first names a (b ∷ []) said) (λ left v. with_value names task b _ t (second names a b [] said)
-    (λ right w. computed_named names task x (operate2 program.longest o left right) t (two_named names program.longest o left right v w)))
-simple_named names program task (line.Call x q arguments) p t said =
-    with_values names task arguments _ t said
-    (λ vs v. calling_named names task x vs (option_and_then (slice_get program.procedures) (procedure_at program q)) t v (found_named names program.procedures (procedure_at program q) p))
-simple_named names program task (line.Return a) p t said = with_value names task a _ t (first names a [] said) (λ value v. returning_named names task value t v)
-simple_named names program task line.Stop p t said = (tt, tt, tt, tt)
-simple_named names program task (line.Throw a) p t said = with_plain names task a _ t (first names a [] said) (λ plain v. refused_named names task act.Step (User plain) t tt tt v)
-simple_named names program task (line.Label x l a) p t said =
-    with_label names task l _ t (first names l (a ∷ []) said) (λ label n. with_plain names task a _ t (second names l a [] said)
-    (λ plain v. verdict_named names task (act.Seal label) (verdict_on task op.Seal label) _ t n tt (on_named names task op.Seal label t n) (λ current c. (n, tt, tt, (n, v)))))
-simple_named names program task (line.Unlabel x a) p t said =
-    with_sealed names task a _ t (first names a [] said)
-    (λ s v. verdict_named names task (act.Raise op.Unlabel s.label) (verdict_on task op.Unlabel s.label) _ t v.0 tt (on_named names task op.Unlabel s.label t v.0) (λ current c. (v.0, tt, tt, (c, v.1))))
-simple_named names program task (line.Taint l) p t said =
-    with_label names task l _ t (first names l [] said)
-    (λ label n. verdict_named names task (act.Raise op.Taint label) (verdict_on task op.Taint label) _ t n tt (on_named names task op.Taint label t n) (λ current c. (n, tt, tt, c)))
-simple_named names program task (line.Lower l) p t said =
-    with_label names task l _ t (first names l [] said)
-    (λ label n. verdict_named names task (act.Lower label) (verdict_on task op.Lower label) _ t n tt (on_named names task op.Lower label t n) (λ current c. (n, tt, tt, n)))
-simple_named names program task (line.Relabel x a l q) p t said =
-    with_sealed names task a _ t (first names a (l ∷ q ∷ []) said) (λ s v. with_label names task l _ t (second names a l (q ∷ []) said)
-    (λ label n. with_power names task q _ t (second names l q [] (rest names a (l ∷ q ∷ []) said)) (λ power w. releasing_named names task x s label power t v n w)))
-simple_named names program task (line.NewRef x l a) p t said =
-    with_label names task l _ t (first names l (a ∷ []) said) (λ label n. with_value names task a _ t (second names l a [] said) (λ value v. new_reference_named names task x label value t n v))
-simple_named names program task (line.NewVar x l) p t said = with_label names task l _ t (first names l [] said) (λ label n. new_variable_named names task x label None t n tt)
-simple_named names program task (line.FullVar x l a) p t said =
-    with_label names task l _ t (first names l (a ∷ []) said) (λ label n. with_value names task a _ t (second names l a [] said) (λ value v. new_variable_named names task x label (Some value) t n v))
-simple_named names program task (line.Read x r) p t said = with_reference names task r _ t (first names r [] said) (λ handle h. raising_named names task op.Read (line.Read x r) handle t h tt said)
-simple_named names program task (line.Write r a) p t said =
-    with_reference names task r _ t (first names r (a ∷ []) said) (λ handle h. with_value names task a _ t (second names r a [] said)
-    (λ value v. verdict_named names task (act.Write value) (verdict_on task op.Write handle.label) _ t v tt (on_named names task op.Write handle.label t h) (λ current c. (v, tt, tt))))
-simple_named names program task (line.Take x v) p t said = with_variable names task v _ t (first names v [] said) (λ handle h. raising_named names task op.Take (line.Take x v) handle t h tt said)
-simple_named names program task (line.Put v a) p t said =
-    with_variable names task v _ t (first names v (a ∷ []) said) (λ handle h. with_value names task a _ t (second names v a [] said)
-    (λ value w. raising_named names task op.Put (line.Put v a) handle t h tt said))
-simple_named names program task (line.Fork x l n m q arguments) p t said =
-    let others : List Operand = n ∷ m ∷ arguments in
-    with_label names task l _ t (first names l others said) (λ label f. with_any names task (seen_as count_of task.environment n) _ t (λ turns e. with_any names task (seen_as count_of task.environment m) _ t
-    (λ cells g. with_any names task (procedure_at program q) _ t (λ place h. with_values names task arguments _ t (rest names m arguments (rest names n (m ∷ arguments) (rest names l others said)))
-    (λ vs v. forking_named names task x label turns cells (birth_of place vs label label turns (task.first + 1) cells) t f (f, f, v))))))
-simple_named names program task (line.Spawn n m q arguments) p t said =
-    with_any names task (seen_as count_of task.environment n) _ t (λ turns e. with_any names task (seen_as count_of task.environment m) _ t
-    (λ cells g. with_any names task (procedure_at program q) _ t (λ place h. with_values names task arguments _ t (rest names m arguments (rest names n (m ∷ arguments) said))
-    (λ vs v. spawning_named names task turns cells (birth_of place vs task.clearance task.clearance turns (task.first + 1) cells) t (t.clearance, t.clearance, v)))))
-simple_named names program task (line.Wait x r) p t said = with_result names task r _ t (first names r [] said) (λ handle h. raising_named names task op.Wait (line.Wait x r) handle t h tt said)
-simple_named names program task (line.Send c a) p t said =
-    with_channel names task c _ t (first names c (a ∷ []) said) (λ handle h. with_any names task (seen_as text_of task.environment a) _ t
-    (λ text e. verdict_named names task (act.Send text) (verdict_on task op.Send handle.label) _ t tt tt (on_named names task op.Send handle.label t h) (λ current d. (tt, tt, tt))))
+  -- what a statement asks for
+  asks_named : {program : Program} {s : Simple} {asked : Act} {test : Test} → IsSimpleNamed names s → Asks program task s asked test → IsActNamed names asked × IsRaiseOf asked × IsTestNamed names test
+  asks_named said (out.Sealing {l = l} {a = a} e) = let n = label_at l _ (first names l (a ∷ []) said) e in (n, tt, n)
+  asks_named said (out.Unlabelling {a = a} e) = let s = sealed_at a _ (first names a [] said) e in (s.0, tt, s.0)
+  asks_named said (out.Tainting {l = l} e) = let n = label_at l _ (first names l [] said) e in (n, tt, n)
+  asks_named said (out.Lowering {l = l} e) = let n = label_at l _ (first names l [] said) e in (n, tt, n)
+  asks_named said (out.Releasing {a = a} {l = l} {p = p} e f g) =
+      let s = sealed_at a _ (first names a (l ∷ p ∷ []) said) e in
+      let n = label_at l _ (second names a l (p ∷ []) said) f in
+      let w = seen_named names power_of (IsPowerNamed names) (power_shown names) task.environment p _ t.environment (second names l p [] (rest names a (l ∷ p ∷ []) said)) g in
+      ((s.0, n, w, tt), tt, (s.0, n, w))
+  asks_named said (out.Referring {l = l} {a = a} e f) = let n = label_at l _ (first names l (a ∷ []) said) e in ((n, value_at a _ (second names l a [] said) f), tt, n)
+  asks_named said (out.Holding {l = l} e) = let n = label_at l _ (first names l [] said) e in ((n, tt), tt, n)
+  asks_named said (out.Filling {l = l} {a = a} e f) = let n = label_at l _ (first names l (a ∷ []) said) e in ((n, value_at a _ (second names l a [] said) f), tt, n)
+  asks_named said (out.Raising r) = let n = reach_named said r in (n.0, n.1, n.0)
+  asks_named said (out.Writing {r = r} {a = a} e f) =
+      (value_at a _ (second names r a [] said) f, tt, seen_named names reference_of (IsHandleNamed names) (reference_shown names) task.environment r _ t.environment (first names r (a ∷ []) said) e)
+  asks_named said (out.Sending {c = c} {a = a} e f) =
+      (tt, tt, seen_named names channel_of (IsHandleNamed names) (channel_shown names) task.environment c _ t.environment (first names c (a ∷ []) said) e)
+  asks_named said (out.Forking {l = l} {t = turns} {n = cells} {arguments = arguments} e f) =
+      let n = label_at l _ (first names l (turns ∷ cells ∷ arguments) said) e in
+      let vs = all_bound_named names task.environment arguments _ t.environment (rest names cells arguments (rest names turns (cells ∷ arguments) (rest names l (turns ∷ cells ∷ arguments) said))) f in
+      ((n, n, vs), tt, n)
+  asks_named said (out.Spawning {t = turns} {n = cells} {arguments = arguments} e) =
+      let vs = all_bound_named names task.environment arguments _ t.environment (rest names cells arguments (rest names turns (cells ∷ arguments) said)) e in ((t.clearance, t.clearance, vs), tt, tt)
 
--- a statement
-statement_named : (names : List (List ℕ)) (program : Program) (task : TaskState) (s : Statement) → IsScriptNamed names program.procedures → IsTaskNamed names task → IsStatementNamed names s → IsPlanNamed names (plan_statement program task s)
-unfolding IsStatementNamed IsBlockNamed
-statement_named names program task (statement.Do simple) p t said = simple_named names program task simple p t said
-statement_named names program task (statement.If a block) p t said =
-    with_any names task (seen_as flag_of task.environment a) (choosing block statement.Nothing) t (λ flag e. choosing_named names block statement.Nothing flag said.1 tt)
-statement_named names program task (statement.IfElse a block other) p t said =
-    with_any names task (seen_as flag_of task.environment a) (choosing block other) t (λ flag e. choosing_named names block other flag said.1 said.2)
-statement_named names program task (statement.While a block) p t said =
-    with_any names task (seen_as flag_of task.environment a) (looping a block) t (λ flag e. looping_named names a block flag said.0 said.1)
-statement_named names program task (statement.Try block code payload handler) p t said = (tt, tt, tt, (said.0, said.1))
+  -- the cases of a plan
+  outcome_named : {s : Simple} {p : Plan} (program : Program) → IsScriptNamed names program.procedures → IsSimpleNamed names s → Outcome program task s p → IsPlanNamed names p
+  outcome_named program script said out.Mistyped = refused_named act.Step BadType tt tt tt
+  outcome_named program script said (out.Refused {test = test} {kind = kind} asks e) = let n = asks_named said asks in refused_named _ kind n.0 n.1 (verdict_named test (No kind) n.2 e)
+  outcome_named program script said (out.LacksCells {count = count} asks) = let n = asks_named said asks in refused_named _ (NoCells count task.cells) n.0 n.1 tt
+  outcome_named program script said (out.LacksTurns {turns = turns} asks) = let n = asks_named said asks in refused_named _ (ChildTurns turns (task.turns - 1)) n.0 n.1 tt
+  outcome_named program script said (out.Binds {a = a} e) = (tt, tt, tt, value_at a _ (first names a [] said) e)
+  outcome_named program script said (out.Computes1 {o = o} {a = a} {value = value} e f) =
+      (tt, tt, tt, subst (IsGivenNamed names) f (one_named names program.longest o value (value_at a value (first names a [] said) e)))
+  outcome_named program script said (out.Fails1 {o = o} {a = a} {value = value} {kind = kind} e f) =
+      refused_named act.Step kind tt tt (subst (IsGivenNamed names) f (one_named names program.longest o value (value_at a value (first names a [] said) e)))
+  outcome_named program script said (out.Computes2 {a = a} {o = o} {b = b} {left = left} {right = right} e f g) =
+      (tt, tt, tt, subst (IsGivenNamed names) g (two_named names program.longest o left right (value_at a left (first names a (b ∷ []) said) e) (value_at b right (second names a b [] said) f)))
+  outcome_named program script said (out.Fails2 {a = a} {o = o} {b = b} {left = left} {right = right} {kind = kind} e f g) =
+      refused_named act.Step kind tt tt
+      (subst (IsGivenNamed names) g (two_named names program.longest o left right (value_at a left (first names a (b ∷ []) said) e) (value_at b right (second names a b [] said) f)))
+  outcome_named program script said (out.Calls {p = name} {arguments = arguments} {procedure = procedure} e f g) =
+      let body = subst (λ (found : Option Procedure). IsBlockNamed names (body_of found)) f (found_named names program.procedures (procedure_at program name) script) in
+      (tt, tt, tt, (bind_all-each (IsValueNamed names) [] procedure.parameters _ (All-nil _) (all_bound_named names task.environment arguments _ t.environment said e), body))
+  outcome_named program script said out.IsTooDeep = refused_named act.Step Depth tt tt tt
+  outcome_named program script said (out.Returns {a = a} e) = (tt, tt, tt, value_at a _ (first names a [] said) e)
+  outcome_named program script said (out.Finishes {a = a} e) = (value_at a _ (first names a [] said) e, tt, tt, tt)
+  outcome_named program script said out.Stops = (tt, tt, tt, tt)
+  outcome_named program script said (out.Throws {a = a} {plain = plain} e) = refused_named act.Step (User plain) tt tt (value_at a _ (first names a [] said) e)
+  outcome_named program script said (out.Seals {l = l} {a = a} e f) = let n = label_at l _ (first names l (a ∷ []) said) e in (n, tt, tt, (n, value_at a _ (second names l a [] said) f))
+  outcome_named program script said (out.Unlabels {a = a} {sealed = s} {current = current} e f) =
+      let n = sealed_at a s (first names a [] said) e in (n.0, tt, tt, (verdict_named (On op.Unlabel s.label) (Go current) n.0 f, n.1))
+  outcome_named program script said (out.Taints {l = l} {label = label} {current = current} e f) =
+      let n = label_at l label (first names l [] said) e in (n, tt, tt, verdict_named (On op.Taint label) (Go current) n f)
+  outcome_named program script said (out.Lowers {l = l} {label = label} e f) = let n = label_at l label (first names l [] said) e in (n, tt, tt, n)
+  outcome_named program script said (out.Releases {a = a} {l = l} {p = p} asks e f) =
+      let n = asks_named said asks in ((n.0.0, n.0.1, n.0.2, (sealed_at a _ (first names a (l ∷ p ∷ []) said) e).1), tt, tt, n.0.1)
+  outcome_named program script said (out.MakesReference asks e room) = let n = asks_named said asks in (n.0, tt, n.0.0)
+  outcome_named program script said (out.MakesVariable asks e room) = let n = asks_named said asks in (n.0, tt, n.0.0)
+  outcome_named program script said (out.IsRaised {o = o} {handle = handle} {current = current} r e) =
+      let n = reach_named said r in (n.0, n.1, tt, (verdict_named (On o handle.label) (Go current) n.0 e, said))
+  outcome_named program script said (out.Writes {r = r} {a = a} e f g) = (value_at a _ (second names r a [] said) f, tt, tt)
+  outcome_named program script said (out.Sends e f g) = (tt, tt, tt)
+  outcome_named program script said (out.MakesChild asks e f room enough) = let n = asks_named said asks in (n.0, tt, n.0.0)
+  outcome_named program script said (out.MakesOrphan asks e room enough) = let n = asks_named said asks in (n.0, tt, tt)
 
--- an access
-access_named : (names : List (List ℕ)) (task : TaskState) (s : Simple) → IsTaskNamed names task → IsSimpleNamed names s → IsPlanNamed names (plan_access task s)
-unfolding plan_access
-access_named names task (line.Read x r) t said = with_any names task (seen_as reference_of task.environment r) _ t (λ handle e. (tt, tt, tt))
-access_named names task (line.Take x v) t said = with_any names task (seen_as variable_of task.environment v) _ t (λ handle e. (tt, tt, tt))
-access_named names task (line.Put v a) t said =
-    with_any names task (seen_as variable_of task.environment v) _ t (λ handle e. with_value names task a _ t (second names v a [] said) (λ value w. (w, tt, tt)))
-access_named names task (line.Wait x r) t said = with_any names task (seen_as result_of task.environment r) _ t (λ handle e. (tt, tt, tt))
-access_named names task s t said = bad_type_named names task t
-
--- the items of a task
-items_named : (names : List (List ℕ)) (program : Program) (task : TaskState) (items : List Item) → IsScriptNamed names program.procedures → IsTaskNamed names task → All (IsItemNamed names) items → IsPlanNamed names (plan_items program task items)
-items_named names program task [] p t all = (tt, tt, tt, tt)
-items_named names program task (Do s ∷ items) p t all = statement_named names program task s p t (All-head (IsItemNamed names) (Do s) items all)
-items_named names program task (Access s ∷ items) p t all = access_named names task s t (All-head (IsItemNamed names) (Access s) items all)
-items_named names program task (Mark code payload handler ∷ items) p t all = (tt, tt, tt, tt)
-items_named names program task (Back caller name ∷ items) p t all = (tt, tt, tt, All-head (IsItemNamed names) (Back caller name) items all)
-items_named names program task (Fail fault ∷ items) p t all = (All-head (IsItemNamed names) (Fail fault) items all, tt, tt, tt)
+  items_named : {items : List Item} {p : Plan} (program : Program) → IsScriptNamed names program.procedures → All (IsItemNamed names) items → ItemsCase program task items p → IsPlanNamed names p
+  unfolding IsStatementNamed IsBlockNamed
+  items_named program script all (Does o) = outcome_named program script (All-head (IsItemNamed names) _ _ all) o
+  items_named program script all IsMistyped = refused_named act.Step BadType tt tt tt
+  items_named program script all Enters = (tt, tt, tt, (All-head (IsItemNamed names) _ _ all).1)
+  items_named program script all Chooses = (tt, tt, tt, (All-head (IsItemNamed names) _ _ all).1)
+  items_named program script all ChoosesOther = (tt, tt, tt, (All-head (IsItemNamed names) _ _ all).2)
+  items_named program script all Repeats = (tt, tt, tt, All-head (IsItemNamed names) _ _ all)
+  items_named program script all Tries = (tt, tt, tt, All-head (IsItemNamed names) _ _ all)
+  items_named program script all (Visits r) = let n = reach_named (All-head (IsItemNamed names) _ _ all) r in (n.2, n.3, n.4)
+  items_named program script all Leaves = (tt, tt, tt, All-head (IsItemNamed names) _ _ all)
+  items_named program script all Fails = (All-head (IsItemNamed names) _ _ all, tt, tt, tt)
+  items_named program script all o = (tt, tt, tt, tt)
 
 -- a task
 pub plan_named : (names : List (List ℕ)) (program : Program) (task : TaskState) → IsScriptNamed names program.procedures → IsTaskNamed names task → IsPlanNamed names (plan program task)
-unfolding plan
-plan_named names program task p t = by task.ended (task.turns == 0)
-  where
-    by : (ended none : Bool) → IsPlanNamed names (if ended then Over else (if none then ending (Faulted (fault_at task NoTurns)) else plan_items program task task.items))
-    by true none = tt
-    by false true = ((tt, t.label), tt, tt, tt)
-    by false false = items_named names program task task.items p t t.items
+plan_named names program task script t = plan-by (IsPlanNamed names) program task tt ((tt, t.label), tt, tt, tt) (λ p going o. items_named names task t program script t.items o)

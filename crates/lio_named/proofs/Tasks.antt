@@ -12,7 +12,7 @@ use Rattle.lio_values.specs.declared.value.Value.TheVariants.{Bare, Sealed}
 use Rattle.lio_values.specs.declared.act.Act.{Act}
 use Rattle.lio_values.specs.declared.act.Act.TheVariants as act
 use Rattle.lio_values.specs.declared.act.Reply.{Reply}
-use Rattle.lio_values.specs.declared.act.Reply.TheVariants.{Done, Got, Told, Refused}
+use Rattle.lio_values.specs.declared.act.Reply.TheVariants.{Got, Told}
 use Rattle.lio_values.specs.PlainText.{IsPlainNamed}
 use Rattle.lio_events.specs.Named.{IsKindNamed, IsFaultNamed, IsContentNamed, IsValueNamed}
 use Rattle.lio_events.specs.Printable.{IsActNamed, IsReplyNamed}
@@ -21,7 +21,7 @@ use Rattle.lio_control.specs.Environment.{Environment, bind}
 use Rattle.lio_control.specs.Items.{Item, Do, Access, Mark, Back, Fail, enter, rest_of}
 use Rattle.lio_control.specs.Throwing.{code_of, payload_of, thrown, returned}
 use Rattle.lio_calculus.specs.Task.{TaskState}
-use Rattle.lio_calculus.specs.Going.{Onward, Advance, Bind, Seal, Enter, Repeat, Try, Call, Return, Leave, Raise, RaiseTo, Unlabel, Lower, Release, HoldReference, HoldVariable, Fork, Spawn, BindReply, Throw, End, released, given, throwing, gone, gone_on}
+use Rattle.lio_calculus.specs.Going.{Onward, Bind, Seal, Enter, Repeat, Try, Call, Return, Leave, Raise, RaiseTo, Unlabel, Lower, Release, HoldReference, HoldVariable, Fork, BindReply, Throw, End, released, given, throwing, gone, gone_on}
 use Rattle.lio_calculus.specs.Sound.{EachBound}
 use Rattle.lio_calculus.proofs.PlanEach.{bind-each}
 use Rattle.lio_calculus.proofs.PlacesKept.{rest-all, thrown-all, returned-all}
@@ -95,7 +95,6 @@ released_named names asked a = tt
 -- a task goes on
 gone_named : (names : List (List ℕ)) (task : TaskState) (onward : Onward) (asked : Act) (reply : Reply) → IsTaskNamed names task → IsActNamed names asked → IsOnwardNamed names onward → IsReplyNamed names reply → IsTaskNamed names (gone task onward asked reply)
 unfolding IsStatementNamed
-gone_named names task Advance asked reply t a o r = t
 gone_named names task (Bind name value) asked reply t a o r = binding_named names task name value t o
 gone_named names task (Seal name label plain) asked reply t a o r = binding_named names task name (Sealed label (Kept plain)) t o
 gone_named names task (Enter block) asked reply t a o r = with_items names task (enter block task.items) t (enter_named names block task.items o t.items)
@@ -125,13 +124,11 @@ gone_named names task (Release name label) asked reply t a o r = binding_named n
 gone_named names task (HoldReference name label) asked reply t a o r = record { environment = bind-each (IsValueNamed names) task.environment name _ t.environment o; items = t.items; label = t.label; clearance = t.clearance }
 gone_named names task (HoldVariable name label) asked reply t a o r = record { environment = bind-each (IsValueNamed names) task.environment name _ t.environment o; items = t.items; label = t.label; clearance = t.clearance }
 gone_named names task (Fork name label cells turns) asked reply t a o r = record { environment = bind-each (IsValueNamed names) task.environment name _ t.environment o; items = t.items; label = t.label; clearance = t.clearance }
-gone_named names task (Spawn cells turns) asked reply t a o r = record { environment = t.environment; items = t.items; label = t.label; clearance = t.clearance }
 gone_named names task (BindReply name) asked (Got value) t a o r = binding_named names task name value t r
 gone_named names task (BindReply name) asked (Told content) t a o r = given_named names task name content t r
-gone_named names task (BindReply name) asked Done t a o r = t
-gone_named names task (BindReply name) asked (Refused fault) t a o r = t
 gone_named names task (Throw fault) asked reply t a o r = throwing_named names task fault t o
 gone_named names task End asked reply t a o r = record { environment = All-nil _; items = All-nil _; label = t.label; clearance = t.clearance }
+gone_named names task onward asked reply t a o r = record { environment = t.environment; items = t.items; label = t.label; clearance = t.clearance }
 
 -- a task after its turn
 pub gone_on_named : (names : List (List ℕ)) (task : TaskState) (onward : Onward) (asked : Act) (reply : Reply) → IsTaskNamed names task → IsActNamed names asked → IsOnwardNamed names onward → IsReplyNamed names reply
