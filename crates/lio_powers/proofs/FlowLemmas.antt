@@ -1,27 +1,18 @@
 -- A release that is carried out passed its test: the source flows to the target with the privilege.
-use Rattle.std.proofs.Common.{◌≡◌, ◌∙◌, ap, subst, ℕ, ◌==◌, Bool, true, false, if◌then◌else◌, List, [], ◌∷◌, Option, Some, None}
-use Rattle.lio_values.specs.declared.fault.FaultKind.TheVariants.{NoTurns}
-use Rattle.lio_values.specs.declared.value.Content.TheVariants.{Faulted}
+use Rattle.std.proofs.Common.{◌≡◌, ◌∙◌, ap, subst, ℕ, List, Some}
 use Rattle.lio_values.specs.declared.act.Act.{Act}
 use Rattle.lio_values.specs.declared.act.Act.TheVariants as act
 use Rattle.lio_values.specs.declared.act.Reply.{Reply}
 use Rattle.lio_values.specs.declared.act.Reply.TheVariants.{Done, Got, Told, Refused}
-use Rattle.lio_lines.specs.declared.line.Operand.{Operand}
-use Rattle.lio_lines.specs.declared.line.Simple.{Simple}
-use Rattle.lio_lines.specs.declared.line.Simple.TheVariants as line
-use Rattle.lio_syntax.specs.Statements.{Statement, Statements}
-use Rattle.lio_syntax.specs.Statements as statement
 use Rattle.lio_guards.proofs.GuardLemmas.{source_flows_with_privilege}
-use Rattle.lio_control.specs.Items.{Item, Do, Access, Mark, Back, Fail}
-use Rattle.lio_calculus.specs.Operands.{bound, seen_as, flag_of, reference_of, variable_of, result_of}
+use Rattle.lio_control.specs.Items.{Item}
 use Rattle.lio_calculus.specs.Task.{TaskState}
-use Rattle.lio_calculus.specs.Plan.{Program, Plan, Over, Own, Visit, fault_at, ending, with_seen, choosing, looping, plan_statement, plan_access, plan_items, plan}
+use Rattle.lio_calculus.specs.Plan.{Program, Plan, Over, Own, Visit, plan}
 use Rattle.lio_calculus.specs.Step.{Configuration, cell_at, Move, move_of, Turn, step}
 use Rattle.lio_calculus.specs.Guarded.{IsNoRelease, IsGuarded}
 use Rattle.lio_calculus.specs.Sound.{IsSound}
-use Rattle.lio_calculus.proofs.Outcome.{Outcome}
 use Rattle.lio_calculus.proofs.Outcome as out
-use Rattle.lio_calculus.proofs.OutcomeLemmas.{outcome}
+use Rattle.lio_calculus.proofs.PlanCases.{ItemsCase, Does, plan-by}
 use Rattle.lio_calculus.proofs.StepGuarded.{turn-guarded}
 use Rattle.lio_calculus.proofs.TurnParts.{parts, own-moves, visit-moves, over-moves}
 use Rattle.lio_powers.specs.Given.{FlowsByPower}
@@ -38,53 +29,12 @@ PlanFlows Over = Unit {0}
 PlanFlows (Own asked reply onward) = ReplyFlows reply asked
 PlanFlows (Visit asked target onward) = Unit {0}
 
-outcome-flows : (program : Program) (task : TaskState) (s : Simple) (p : Plan) → Outcome program task s p → PlanFlows p
-outcome-flows program task s p (out.Releases x a l q t target power current e f) = source_flows_with_privilege task.label task.clearance t.label target current power f
-outcome-flows program task s p o = tt
-
-seen-flows : {X : Type 0} (task : TaskState) (seen : Option X) (next : X → Plan) → ((x : X) → PlanFlows (next x)) → PlanFlows (with_seen task seen next)
-seen-flows task None next fine = tt
-seen-flows task (Some x) next fine = fine x
-
-choosing-flows : (block other : Statements) (flag : Bool) → PlanFlows (choosing block other flag)
-choosing-flows block other true = tt
-choosing-flows block other false = tt
-
-looping-flows : (condition : Operand) (block : Statements) (flag : Bool) → PlanFlows (looping condition block flag)
-looping-flows condition block true = tt
-looping-flows condition block false = tt
-
-statement-flows : (program : Program) (task : TaskState) (s : Statement) → PlanFlows (plan_statement program task s)
-statement-flows program task (statement.Do simple) = outcome-flows program task simple _ (outcome program task simple)
-statement-flows program task (statement.If a block) = seen-flows task (seen_as flag_of task.environment a) (choosing block statement.Nothing) (choosing-flows block statement.Nothing)
-statement-flows program task (statement.IfElse a block other) = seen-flows task (seen_as flag_of task.environment a) (choosing block other) (choosing-flows block other)
-statement-flows program task (statement.While a block) = seen-flows task (seen_as flag_of task.environment a) (looping a block) (looping-flows a block)
-statement-flows program task (statement.Try block code payload handler) = tt
-
-access-flows : (task : TaskState) (s : Simple) → PlanFlows (plan_access task s)
-unfolding plan_access
-access-flows task (line.Read x r) = seen-flows task (seen_as reference_of task.environment r) _ (λ handle. tt)
-access-flows task (line.Take x v) = seen-flows task (seen_as variable_of task.environment v) _ (λ handle. tt)
-access-flows task (line.Put v a) = seen-flows task (seen_as variable_of task.environment v) _ (λ handle. seen-flows task (bound task.environment a) _ (λ value. tt))
-access-flows task (line.Wait x r) = seen-flows task (seen_as result_of task.environment r) _ (λ handle. tt)
-access-flows task s = tt
-
-items-flows : (program : Program) (task : TaskState) (items : List Item) → PlanFlows (plan_items program task items)
-items-flows program task [] = tt
-items-flows program task (Do s ∷ items) = statement-flows program task s
-items-flows program task (Access s ∷ items) = access-flows task s
-items-flows program task (Mark code payload handler ∷ items) = tt
-items-flows program task (Back caller name ∷ items) = tt
-items-flows program task (Fail fault ∷ items) = tt
+items-flow : {program : Program} {items : List Item} {p : Plan} (task : TaskState) → ItemsCase program task items p → PlanFlows p
+items-flow task (Does (out.Releases asks e f)) = source_flows_with_privilege task.label task.clearance _ _ _ _ f
+items-flow task o = tt
 
 plan-flows : (program : Program) (task : TaskState) → PlanFlows (plan program task)
-unfolding plan
-plan-flows program task = by task.ended (task.turns == 0)
-  where
-    by : (ended none : Bool) → PlanFlows (if ended then Over else (if none then ending (Faulted (fault_at task NoTurns)) else plan_items program task task.items))
-    by true none = tt
-    by false true = tt
-    by false false = items-flows program task task.items
+plan-flows program task = plan-by PlanFlows program task tt tt (λ p going o. items-flow task o)
 
 -- a visit releases nothing
 quiet-flows : (asked : Act) → IsNoRelease asked → FlowsByPower asked
