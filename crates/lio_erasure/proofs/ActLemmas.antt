@@ -71,26 +71,17 @@ ready-kind kind state act.Take e r = let same : Variable ≡ kind = cc in ap (λ
   where
     full : (s : State) → ready s act.Take ≡ true → is_of Variable s ≡ true
     full (Var label value) r = refl
-    full Absent r = r
-    full (Ref label value) r = r
-    full (Chan label received) r = r
-    full (Job label result) r = r
+    full state r = r
 ready-kind kind state (act.Put value) e r = let same : Variable ≡ kind = cc in ap (λ (k : Kind). is_of k state) (sym same) ∙ empty state r
   where
     empty : (s : State) → ready s (act.Put value) ≡ true → is_of Variable s ≡ true
     empty (Var label held) r = refl
-    empty Absent r = r
-    empty (Ref label held) r = r
-    empty (Chan label received) r = r
-    empty (Job label result) r = r
+    empty state r = r
 ready-kind kind state act.Wait e r = let same : Result ≡ kind = cc in ap (λ (k : Kind). is_of k state) (sym same) ∙ job state r
   where
     job : (s : State) → ready s act.Wait ≡ true → is_of Result s ≡ true
     job (Job label result) r = refl
-    job Absent r = r
-    job (Ref label value) r = r
-    job (Var label value) r = r
-    job (Chan label received) r = r
+    job state r = r
 ready-kind kind state (act.Send text) e r = let same : Channel ≡ kind = cc in ap (λ (k : Kind). is_of k state) (sym same) ∙ r
 ready-kind kind state asked e r = absurd (cc)
 
@@ -129,18 +120,12 @@ job-stays label result asked = refl
 
 pub job-after : (state : State) (asked : Act) → is_job state ≡ true → is_job (state_after state asked) ≡ true
 job-after (Job label result) asked e = job-stays label result asked
-job-after Absent asked e = absurd (true≢false (sym e))
-job-after (Ref label value) asked e = absurd (true≢false (sym e))
-job-after (Var label value) asked e = absurd (true≢false (sym e))
-job-after (Chan label received) asked e = absurd (true≢false (sym e))
+job-after state asked e = absurd (true≢false (sym e))
 
 -- a job is there
 pub job-there : (state : State) → is_job state ≡ true → is_absent state ≡ false
 job-there (Job label result) e = refl
-job-there Absent e = absurd (true≢false (sym e))
-job-there (Ref label value) e = absurd (true≢false (sym e))
-job-there (Var label value) e = absurd (true≢false (sym e))
-job-there (Chan label received) e = absurd (true≢false (sym e))
+job-there state e = absurd (true≢false (sym e))
 
 job-kept : (kind : Kind) (label : Label) (result : Option Content) (asked : Act) → kind_met asked ≡ Some kind → state_after (Job label result) asked ≡ Job label result
 unfolding state_after
@@ -154,17 +139,11 @@ job-made label result asked e = refl
 
 pub met-job : (kind : Kind) (state : State) (asked : Act) → is_job state ≡ true → kind_met asked ≡ Some kind → state_after state asked ≡ state
 met-job kind (Job label result) asked j e = job-kept kind label result asked e
-met-job kind Absent asked j e = absurd (true≢false (sym j))
-met-job kind (Ref label value) asked j e = absurd (true≢false (sym j))
-met-job kind (Var label value) asked j e = absurd (true≢false (sym j))
-met-job kind (Chan label received) asked j e = absurd (true≢false (sym j))
+met-job kind state asked j e = absurd (true≢false (sym j))
 
 pub made-job : (state : State) (asked : Act) → is_job state ≡ true → makes asked ≡ true → state_after state asked ≡ state
 made-job (Job label result) asked j e = job-made label result asked e
-made-job Absent asked j e = absurd (true≢false (sym j))
-made-job (Ref label value) asked j e = absurd (true≢false (sym j))
-made-job (Var label value) asked j e = absurd (true≢false (sym j))
-made-job (Chan label received) asked j e = absurd (true≢false (sym j))
+made-job state asked j e = absurd (true≢false (sym j))
 
 -- the node that a handle names is ready where the node has the label and is ready
 pub ready-named : (kind : Kind) (handle : Handle) (state : State) (asked : Act) → kind_met asked ≡ Some kind → (has_label state handle.label && ready state asked) ≡ ready (met (Node kind handle) state) asked

@@ -25,10 +25,7 @@ IsJobWithTask cell = IsTrue (is_some cell.task) → IsTrue (is_job cell.state)
 
 is_job-hidden : (observer : Label) (state : State) → is_job (hide_state observer state) ≡ is_job state
 is_job-hidden observer Absent = refl
-is_job-hidden observer (Ref label value) = refl
-is_job-hidden observer (Var label value) = refl
-is_job-hidden observer (Chan label received) = refl
-is_job-hidden observer (Job label result) = refl
+is_job-hidden observer state = refl
 
 had-task : (observer : Label) (task : Option TaskState) → is_some (option_map (hide_task observer) task) ≡ is_some task
 had-task observer None = refl
@@ -82,10 +79,7 @@ absent-taskless cell absent job = by cell.state cell.task absent job
     by : (s : State) (t : Option TaskState) → is_absent s ≡ true → (IsTrue (is_some t) → IsTrue (is_job s)) → ◌≡◌ {A = Cell} (record { state = s; task = t }) blank
     by Absent None a j = refl
     by Absent (Some task) a j = absurd (true≢false (sym (j refl)))
-    by (Ref label value) t a j = absurd (true≢false (sym a))
-    by (Var label value) t a j = absurd (true≢false (sym a))
-    by (Chan label received) t a j = absurd (true≢false (sym a))
-    by (Job label result) t a j = absurd (true≢false (sym a))
+    by state t a j = absurd (true≢false (sym a))
 
 pub made-is_job : (program : Program) (label : Label) (asked : Act) → makes asked ≡ true → IsJobWithTask (met_after program label asked blank)
 unfolding state_after

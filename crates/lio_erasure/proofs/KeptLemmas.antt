@@ -28,17 +28,11 @@ set-kept holders news n holder is kept all = subst LeavesOutBlanks (sym is) (All
 -- a node that is there stays there
 filled-there : (state : State) (value : Option Value) → is_absent state ≡ false → is_absent (filled state value) ≡ false
 filled-there Absent value e = e
-filled-there (Ref label held) value e = e
-filled-there (Var label held) value e = e
-filled-there (Chan label held) value e = e
-filled-there (Job label held) value e = e
+filled-there state value e = e
 
 placed-there : (state new : State) → is_absent state ≡ false → is_absent (placed state new) ≡ false
 placed-there Absent new e = absurd (true≢false e)
-placed-there (Ref label held) new e = e
-placed-there (Var label held) new e = e
-placed-there (Chan label held) new e = e
-placed-there (Job label held) new e = e
+placed-there state new e = e
 
 there-after : (state : State) (asked : Act) → is_absent state ≡ false → is_absent (state_after state asked) ≡ false
 unfolding state_after
@@ -46,20 +40,14 @@ there-after state (act.Write value) e = of state e
   where
     of : (s : State) → is_absent s ≡ false → is_absent (written s value) ≡ false
     of Absent e = e
-    of (Ref label held) e = e
-    of (Var label held) e = e
-    of (Chan label held) e = e
-    of (Job label held) e = e
+    of state e = e
 there-after state act.Take e = filled-there state None e
 there-after state (act.Put value) e = filled-there state (Some value) e
 there-after state (act.Send text) e = of state e
   where
     of : (s : State) → is_absent s ≡ false → is_absent (received s text) ≡ false
     of Absent e = e
-    of (Ref label held) e = e
-    of (Var label held) e = e
-    of (Chan label held) e = e
-    of (Job label held) e = e
+    of state e = e
 there-after state (act.NewRef label value) e = placed-there state (Ref label value) e
 there-after state (act.NewVar label value) e = placed-there state (Var label value) e
 there-after state (act.Fork birth) e = placed-there state (Job birth.result None) e
@@ -68,10 +56,7 @@ there-after state (act.Ended content) e = of state e
   where
     of : (s : State) → is_absent s ≡ false → is_absent (ended s content) ≡ false
     of Absent e = e
-    of (Ref label held) e = e
-    of (Var label held) e = e
-    of (Chan label held) e = e
-    of (Job label held) e = e
+    of state e = e
 there-after state asked e = e
 
 pub served-kept : (holder other : Holder) (asked : Act) → other.task ≡ holder.task → other.node.state ≡ state_after holder.node.state asked → IsTrue (is_kept (Some holder)) → IsTrue (is_kept (Some other))
@@ -100,24 +85,16 @@ unfolding there
 seen-there observer cell e = by cell.task cell.state e
   where
     by : (t : Option TaskState) (s : State) → (let x : Cell = record { state = s; task = t } in sees observer x) ≡ true → IsTrue (is_some t || not (is_absent s))
-    by (Some task) s e = refl
     by None Absent e = absurd (true≢false (sym e))
-    by None (Ref label held) e = refl
-    by None (Var label held) e = refl
-    by None (Chan label held) e = refl
-    by None (Job label held) e = refl
+    by task state e = refl
 
 hidden-there : (observer : Label) (cell : Cell) → IsTrue (there cell) → IsTrue (there (hide_cell observer cell))
 unfolding there
 hidden-there observer cell kept = by cell.task cell.state kept
   where
     by : (t : Option TaskState) (s : State) → IsTrue (is_some t || not (is_absent s)) → IsTrue (is_some (option_map (hide_task observer) t) || not (is_absent (hide_state observer s)))
-    by (Some task) s kept = refl
     by None Absent kept = absurd (true≢false (sym kept))
-    by None (Ref label held) kept = refl
-    by None (Var label held) kept = refl
-    by None (Chan label held) kept = refl
-    by None (Job label held) kept = refl
+    by task state kept = refl
 
 -- so a holder that an observer sees is kept, and so is what it sees of it
 pub seen-kept : (observer : Label) (holder : Holder) → ((script : List Procedure) → true ≡ sees observer (cell_of script holder)) → IsTrue (is_kept (Some holder))

@@ -64,7 +64,6 @@ holding-hidden observer task name value cells bare =
 gone-seen : (observer : Label) (task : TaskState) (onward : Onward) (asked seen : Act) (reply : Reply) → Opens observer onward asked seen → Shows observer onward
     → gone (hide_task observer task) (hide_onward observer onward) seen (erase_reply observer reply) ≡ hide_task observer (gone task onward asked reply)
 unfolding hide_onward
-gone-seen observer task Advance asked seen reply opens shows = refl
 gone-seen observer task (Bind name value) asked seen reply opens shows = binding-hidden observer task name value
 gone-seen observer task (Seal name label plain) asked seen reply opens shows = sealing-hidden observer task name label (Kept plain) (Kept plain) (sym (learned observer label (Kept plain) shows))
 gone-seen observer task (Enter block) asked seen reply opens shows =
@@ -77,20 +76,16 @@ gone-seen observer task (Call name environment body) asked seen reply opens show
     ap (λ (items : List Item). record task { environment = hide_environment observer environment; items = items }) (enter-hidden observer body (Back task.environment name ∷ task.items))
 gone-seen observer task (Return value) asked seen reply opens shows = rw (returned-hidden observer value task.environment task.items) (at-hidden observer task _)
 gone-seen observer task (Leave caller name) asked seen reply opens shows = binding-hidden observer (record task { environment = caller }) name (Bare unit)
-gone-seen observer task (Raise label) asked seen reply opens shows = refl
-gone-seen observer task (RaiseTo label access) asked seen reply opens shows = refl
 gone-seen observer task (Unlabel name label source content) asked seen reply opens shows =
     ap (given (record (hide_task observer task) { label = label }) name) opens ∙ given-hidden observer (record task { label = label }) name content
-gone-seen observer task (Lower clearance) asked seen reply opens shows = refl
 gone-seen observer task (Release name label) asked seen reply opens shows = sealing-hidden observer task name label (released asked) (released seen) opens
 gone-seen observer task (HoldReference name label) asked seen reply opens shows = holding-hidden observer task name (Bare (RefOf (newest task label))) 0 refl
 gone-seen observer task (HoldVariable name label) asked seen reply opens shows = holding-hidden observer task name (Bare (VarOf (newest task label))) 0 refl
 gone-seen observer task (Fork name label cells turns) asked seen reply opens shows =
     ap (λ (t : TaskState). record t { turns = task.turns - turns }) (holding-hidden observer task name (Bare (ResultOf (newest task label))) cells refl)
-gone-seen observer task (Spawn cells turns) asked seen reply opens shows = refl
 gone-seen observer task (BindReply name) asked seen reply opens shows = replied-hidden observer task name reply
 gone-seen observer task (Throw fault) asked seen reply opens shows = throwing-hidden observer task fault
-gone-seen observer task End asked seen reply opens shows = refl
+gone-seen observer task onward asked seen reply opens shows = refl
 
 -- the task before it goes on: the item that acted is dropped, and one turn is spent
 spent : TaskState → TaskState
