@@ -18,7 +18,6 @@ pub mod VisitGuarded
 pub mod StepGuarded
 pub mod LawLemmas
 pub mod Outcome
-pub mod OutcomeLemmas
 pub mod PlanCases
 pub mod Closed
 pub mod PlanEach

@@ -20,8 +20,7 @@ use Rattle.lio_calculus.specs.Operands.{bound, seen_as, flag_of, reference_of, v
 use Rattle.lio_calculus.specs.Task.{TaskState}
 use Rattle.lio_calculus.specs.Going.{Onward, Advance, Enter, Repeat, Try, Leave}
 use Rattle.lio_calculus.specs.Plan.{Program, Plan, Over, Visit, Node, stepping, ending, fault_at, bad_type, with_seen, choosing, looping, plan_statement, plan_access, plan_items, plan}
-use Rattle.lio_calculus.proofs.Outcome.{Reaches, Reads, Takes, Puts, Waits, Outcome}
-use Rattle.lio_calculus.proofs.OutcomeLemmas.{outcome}
+use Rattle.lio_calculus.proofs.Outcome.{Reaches, Reads, Takes, Puts, Waits, Outcome, outcome}
 
 -- the plan of items; what has an operand that isn't of the needed kind is mistyped, and a loop that is done and a mark are passed
 pub data ItemsCase (program : Program) (task : TaskState) : List Item → Plan → Type 0 where
