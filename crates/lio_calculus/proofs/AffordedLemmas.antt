@@ -27,38 +27,39 @@ range-within first cells count room = omega (arith, room)
 taken-within : (cells count : ℕ) → cells + 1 ≤ count → 1 + cells ≤ count
 taken-within cells count room = omega (arith, room)
 
--- the outcomes of a statement that stands in front
-outcome-affords : {s : Simple} {p : Plan} (program : Program) (task : TaskState) → IsTrue (flows task.label task.clearance) → task.items ≡ Do (statement.Do s) ∷ rest_of task.items → Outcome program task s p → AffordsPlan program task p
-outcome-affords program task below front (out.Unlabels e f) = label_flows_to_clearance op.Unlabel task.label task.clearance _ _ below f
-outcome-affords program task below front (out.Taints e f) = label_flows_to_clearance op.Taint task.label task.clearance _ _ below f
-outcome-affords program task below front (out.Lowers e f) = current_flows_to_lowered task.label task.clearance _ _ f
-outcome-affords program task below front (out.IsRaised {o = o} r e) = (label_flows_to_clearance o task.label task.clearance _ _ below e, front)
-outcome-affords program task below front (out.MakesReference asks e room) = (room, tt, (refl, refl))
-outcome-affords program task below front (out.MakesVariable asks e room) = (room, tt, (refl, refl))
-outcome-affords program task below front (out.MakesChild {p = name} {cells = cells} {place = place} asks e f room enough) = (
-  taken-within cells task.cells room,
-  record {
-    procedure = place-within program name place e;
-    range = range-within task.first cells task.cells room;
-    cleared = current_flows_to_written op.Fork task.label task.clearance _ _ refl f;
-  },
-  (refl, refl),
-)
-outcome-affords program task below front (out.MakesOrphan {p = name} {cells = cells} {place = place} asks e room enough) =
-    (taken-within cells task.cells room, record { procedure = place-within program name place e; range = range-within task.first cells task.cells room; cleared = below }, (refl, refl))
-outcome-affords program task below front (out.Writes e f g) = (tt, tt, refl)
-outcome-affords program task below front (out.Sends e f g) = (tt, tt, refl)
-outcome-affords program task below front o = tt
-
 -- the first item stands in front
 in-front : (task : TaskState) (item : Item) (items : List Item) → task.items ≡ item ∷ items → task.items ≡ item ∷ rest_of task.items
 in-front task item items is = is ∙ ap (λ (rest : List Item). item ∷ rest) (sym (ap rest_of is))
 
-items-affords : {items : List Item} {p : Plan} (program : Program) (task : TaskState) → IsTrue (flows task.label task.clearance) → task.items ≡ items → ItemsCase program task items p → AffordsPlan program task p
-items-affords program task below is (Does o) = outcome-affords program task below (in-front task _ _ is) o
-items-affords program task below is (Visits (Reads e)) = (tt, tt, refl)
-items-affords program task below is (Visits r) = (tt, tt, refl)
-items-affords program task below is o = tt
+-- the cases of a plan, whose first item stands in front
+module _ (program : Program) (task : TaskState) (below : IsTrue (flows task.label task.clearance)) where
+  outcome-affords : {s : Simple} {p : Plan} → task.items ≡ Do (statement.Do s) ∷ rest_of task.items → Outcome program task s p → AffordsPlan program task p
+  outcome-affords front (out.Unlabels e f) = label_flows_to_clearance op.Unlabel task.label task.clearance _ _ below f
+  outcome-affords front (out.Taints e f) = label_flows_to_clearance op.Taint task.label task.clearance _ _ below f
+  outcome-affords front (out.Lowers e f) = current_flows_to_lowered task.label task.clearance _ _ f
+  outcome-affords front (out.IsRaised {o = o} r e) = (label_flows_to_clearance o task.label task.clearance _ _ below e, front)
+  outcome-affords front (out.MakesReference asks e room) = (room, tt, (refl, refl))
+  outcome-affords front (out.MakesVariable asks e room) = (room, tt, (refl, refl))
+  outcome-affords front (out.MakesChild {p = name} {cells = cells} {place = place} asks e f room enough) = (
+    taken-within cells task.cells room,
+    record {
+      procedure = place-within program name place e;
+      range = range-within task.first cells task.cells room;
+      cleared = current_flows_to_written op.Fork task.label task.clearance _ _ refl f;
+    },
+    (refl, refl),
+  )
+  outcome-affords front (out.MakesOrphan {p = name} {cells = cells} {place = place} asks e room enough) =
+      (taken-within cells task.cells room, record { procedure = place-within program name place e; range = range-within task.first cells task.cells room; cleared = below }, (refl, refl))
+  outcome-affords front (out.Writes e f g) = (tt, tt, refl)
+  outcome-affords front (out.Sends e f g) = (tt, tt, refl)
+  outcome-affords front o = tt
+
+  items-affords : {items : List Item} {p : Plan} → task.items ≡ items → ItemsCase program task items p → AffordsPlan program task p
+  items-affords is (Does o) = outcome-affords (in-front task _ _ is) o
+  items-affords is (Visits (Reads e)) = (tt, tt, refl)
+  items-affords is (Visits r) = (tt, tt, refl)
+  items-affords is o = tt
 
 -- the plan of a task
 pub plan_affords : PlanAfforded

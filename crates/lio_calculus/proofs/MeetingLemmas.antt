@@ -42,27 +42,27 @@ first-within : (task : TaskState) (count : ℕ) → count + 1 ≤ task.cells →
 first-within task count e = record { from = omega arith; below = omega (arith, e) }
 
 -- the cases of a plan
-outcome-finds : {s : Simple} {p : Plan} (c : Configuration) (task : TaskState) → EachBound (ValueNames c) task.environment → IsTrue (says s) → Outcome c.program task s p → FindsTarget c task p
-outcome-finds c task each said (out.Writes {r = r} {a = a} e f g) = reference-names c task.environment r _ each (first-said r (a ∷ []) said) e
-outcome-finds c task each said (out.Sends {c = channel} {a = a} e f g) = channel-names c task.environment channel _ each (first-said channel (a ∷ []) said) e
-outcome-finds c task each said (out.MakesReference asks e room) = first-within task 0 room
-outcome-finds c task each said (out.MakesVariable asks e room) = first-within task 0 room
-outcome-finds c task each said (out.MakesChild asks e f room enough) = first-within task _ room
-outcome-finds c task each said (out.MakesOrphan asks e room enough) = first-within task _ room
-outcome-finds c task each said o = tt
+module _ (c : Configuration) (task : TaskState) (each : EachBound (ValueNames c) task.environment) where
+  outcome-finds : {s : Simple} {p : Plan} → IsTrue (says s) → Outcome c.program task s p → FindsTarget c task p
+  outcome-finds said (out.Writes {r = r} {a = a} e f g) = reference-names c task.environment r _ each (first-said r (a ∷ []) said) e
+  outcome-finds said (out.Sends {c = channel} {a = a} e f g) = channel-names c task.environment channel _ each (first-said channel (a ∷ []) said) e
+  outcome-finds said (out.MakesReference asks e room) = first-within task 0 room
+  outcome-finds said (out.MakesVariable asks e room) = first-within task 0 room
+  outcome-finds said (out.MakesChild asks e f room enough) = first-within task _ room
+  outcome-finds said (out.MakesOrphan asks e room enough) = first-within task _ room
+  outcome-finds said o = tt
 
-items-finds : {items : List Item} {p : Plan} (c : Configuration) (task : TaskState) → EachBound (ValueNames c) task.environment → All ItemSays items → ItemsCase c.program task items p → FindsTarget c task p
-unfolding statement_says
-items-finds c task each said (Does o) = outcome-finds c task each (All-head ItemSays _ _ said) o
-items-finds c task each said (Visits (Reads {r = r} e)) = reference-names c task.environment r _ each (first-said r [] (All-head ItemSays _ _ said)) e
-items-finds c task each said (Visits (Takes {v = v} e)) = variable-names c task.environment v _ each (first-said v [] (All-head ItemSays _ _ said)) e
-items-finds c task each said (Visits (Puts {v = v} {a = a} e f)) = variable-names c task.environment v _ each (first-said v (a ∷ []) (All-head ItemSays _ _ said)) e
-items-finds c task each said (Visits (Waits {r = r} e)) = result-names c task.environment r _ each (first-said r [] (All-head ItemSays _ _ said)) e
-items-finds c task each said o = tt
+  items-finds : {items : List Item} {p : Plan} → All ItemSays items → ItemsCase c.program task items p → FindsTarget c task p
+  unfolding statement_says
+  items-finds said (Does o) = outcome-finds (All-head ItemSays _ _ said) o
+  items-finds said (Visits (Reads {r = r} e)) = reference-names c task.environment r _ each (first-said r [] (All-head ItemSays _ _ said)) e
+  items-finds said (Visits (Takes {v = v} e)) = variable-names c task.environment v _ each (first-said v [] (All-head ItemSays _ _ said)) e
+  items-finds said (Visits (Puts {v = v} {a = a} e f)) = variable-names c task.environment v _ each (first-said v (a ∷ []) (All-head ItemSays _ _ said)) e
+  items-finds said (Visits (Waits {r = r} e)) = result-names c task.environment r _ each (first-said r [] (All-head ItemSays _ _ said)) e
+  items-finds said o = tt
 
--- the plan of a task
-plan-finds : (c : Configuration) (task : TaskState) → EachBound (ValueNames c) task.environment → All ItemSays task.items → FindsTarget c task (plan c.program task)
-plan-finds c task each said = plan-by (FindsTarget c task) c.program task tt tt (λ p going o. items-finds c task each said o)
+  plan-finds : All ItemSays task.items → FindsTarget c task (plan c.program task)
+  plan-finds said = plan-by (FindsTarget c task) c.program task tt tt (λ p going o. items-finds said o)
 
 -- a task that visits hasn't ended
 visit-unended : (c : Configuration) (task : TaskState) (asked : Act) (target : Target) (onward : Onward) → plan c.program task ≡ Visit asked target onward → task.ended ≡ false

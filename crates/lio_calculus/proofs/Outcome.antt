@@ -162,32 +162,14 @@ pub data Outcome (program : Program) (task : TaskState) : Simple → Plan → Ty
       → Outcome program task (line.Spawn t n p arguments)
       (Visit (act.Spawn (birth_of place vs task.clearance task.clearance turns (task.first + 1) cells)) (New task.first) (Spawn cells turns))
 
--- what is looked up
-seen-out : {X : Type 0} {program : Program} {task : TaskState} {s : Simple} (seen : Option X) (next : X → Plan)
-    → ((x : X) → seen ≡ Some x → Outcome program task s (next x)) → Outcome program task s (with_seen task seen next)
-seen-out None next fine = Mistyped
-seen-out (Some x) next fine = fine x refl
-
--- what a view without a kind shows
+-- a view without a kind shows a bare value
 seen-bare : (task : TaskState) (a : Operand) (plain : Plain) → seen_as Some task.environment a ≡ Some plain → bound task.environment a ≡ Some (Bare plain)
-seen-bare task a plain e = let seen = seen-plain Some task.environment a plain e in let is : seen.0 ≡ plain = inner seen.0 plain seen.2 in seen.1 ∙ ap (λ (p : Plain). Some (Bare p)) is
+seen-bare task a plain e =
+    let seen = seen-plain Some task.environment a plain e in
+    let is : seen.0 ≡ plain = inner seen.0 plain seen.2 in seen.1 ∙ ap (λ (p : Plain). Some (Bare p)) is
   where
     inner : (p q : Plain) → Some p ≡ Some q → p ≡ q
     inner p q h = cc
-
--- what a guard tests
-tested : {program : Program} {task : TaskState} {s : Simple} (asked : Act) (test : Test) (next : Label → Plan) → Asks program task s asked test
-    → ((current : Label) → verdict_of task test ≡ Go current → Outcome program task s (next current)) → Outcome program task s (with_verdict task asked (verdict_of task test) next)
-tested {program = program} {task = task} {s = s} asked test next asks fine = by (verdict_of task test) refl
-  where
-    by : (v : Verdict) → verdict_of task test ≡ v → Outcome program task s (with_verdict task asked v next)
-    by (Go current) e = fine current e
-    by (No kind) e = Refused asks e
-
-if-out : {program : Program} {task : TaskState} {s : Simple} (b : Bool) (yes_ no_ : Plan) → (b ≡ true → Outcome program task s yes_) → (b ≡ false → Outcome program task s no_)
-    → Outcome program task s (if b then yes_ else no_)
-if-out true yes_ no_ fine other = fine refl
-if-out false yes_ no_ fine other = other refl
 
 nat_le-tells : (m n : ℕ) → nat_le m n ≡ true → m ≤ n
 nat_le-tells m n e = grind (arith, nat_tests)
@@ -195,59 +177,74 @@ nat_le-tells m n e = grind (arith, nat_tests)
 nat_le-fails : (m n : ℕ) → nat_le m n ≡ false → n < m
 nat_le-fails m n e = grind (arith, nat_tests)
 
--- what needs numbers and turns
-cells-out : {program : Program} {task : TaskState} {s : Simple} (asked : Act) (test : Test) (count : ℕ) (p : Plan) → Asks program task s asked test
-    → (count ≤ task.cells → Outcome program task s p) → Outcome program task s (with_cells task asked count p)
-cells-out {task = task} asked test count p asks fine =
-    if-out (nat_le count task.cells) p _ (λ e. fine (nat_le-tells count task.cells e)) (λ e. LacksCells asks)
+-- the parts of a plan
+module _ {program : Program} {task : TaskState} {s : Simple} where
+  seen-out : {X : Type 0} (seen : Option X) (next : X → Plan) → ((x : X) → seen ≡ Some x → Outcome program task s (next x)) → Outcome program task s (with_seen task seen next)
+  seen-out None next fine = Mistyped
+  seen-out (Some x) next fine = fine x refl
 
-turns-out : {program : Program} {task : TaskState} {s : Simple} (asked : Act) (test : Test) (count : ℕ) (p : Plan) → Asks program task s asked test
-    → (count ≤ task.turns - 1 → Outcome program task s p) → Outcome program task s (with_turns task asked count p)
-turns-out {task = task} asked test count p asks fine =
-    if-out (nat_le count (task.turns - 1)) p _ (λ e. fine (nat_le-tells count (task.turns - 1) e)) (λ e. LacksTurns asks)
+  if-out : (b : Bool) (yes_ no_ : Plan) → (b ≡ true → Outcome program task s yes_) → (b ≡ false → Outcome program task s no_) → Outcome program task s (if b then yes_ else no_)
+  if-out true yes_ no_ fine other = fine refl
+  if-out false yes_ no_ fine other = other refl
 
--- what an operator gives
-computed1-out : {program : Program} {task : TaskState} {x : List ℕ} {o : One} {a : Operand} (value : Value) (made : Result Value FaultKind) → bound task.environment a ≡ Some value
-    → operate1 program.longest o value ≡ made → Outcome program task (line.LetOne x o a) (computed task x made)
-computed1-out value (Ok made) e f = Computes1 e f
-computed1-out value (Err kind) e f = Fails1 e f
+  tested : (asked : Act) (test : Test) (next : Label → Plan) → Asks program task s asked test
+      → ((current : Label) → verdict_of task test ≡ Go current → Outcome program task s (next current)) → Outcome program task s (with_verdict task asked (verdict_of task test) next)
+  tested asked test next asks fine = by (verdict_of task test) refl
+    where
+      by : (v : Verdict) → verdict_of task test ≡ v → Outcome program task s (with_verdict task asked v next)
+      by (Go current) e = fine current e
+      by (No kind) e = Refused asks e
 
-computed2-out : {program : Program} {task : TaskState} {x : List ℕ} {a : Operand} {o : Two} {b : Operand} (left right : Value) (made : Result Value FaultKind) → bound task.environment a ≡ Some left
-    → bound task.environment b ≡ Some right → operate2 program.longest o left right ≡ made → Outcome program task (line.LetTwo x a o b) (computed task x made)
-computed2-out left right (Ok made) e f g = Computes2 e f g
-computed2-out left right (Err kind) e f g = Fails2 e f g
+  cells-out : (asked : Act) (test : Test) (count : ℕ) (p : Plan) → Asks program task s asked test → (count ≤ task.cells → Outcome program task s p)
+      → Outcome program task s (with_cells task asked count p)
+  cells-out asked test count p asks fine = if-out (nat_le count task.cells) p _ (λ e. fine (nat_le-tells count task.cells e)) (λ e. LacksCells asks)
 
--- calls and returns
-calling-out : {program : Program} {task : TaskState} {x p : List ℕ} {arguments : List Operand} (vs : List Value) (procedure : Option Procedure) → all_bound task.environment arguments ≡ Some vs
-    → option_and_then (slice_get program.procedures) (procedure_at program p) ≡ procedure → Outcome program task (line.Call x p arguments) (calling task x vs procedure)
-calling-out vs None all found = Mistyped
-calling-out {task = task} vs (Some procedure) all found =
-    if-out (nat_le 64 (open_calls task.items)) _ _ (λ deep. IsTooDeep) (λ shallow. Calls all found (nat_le-fails 64 (open_calls task.items) shallow))
+  turns-out : (asked : Act) (test : Test) (count : ℕ) (p : Plan) → Asks program task s asked test → (count ≤ task.turns - 1 → Outcome program task s p)
+      → Outcome program task s (with_turns task asked count p)
+  turns-out asked test count p asks fine = if-out (nat_le count (task.turns - 1)) p _ (λ e. fine (nat_le-tells count (task.turns - 1) e)) (λ e. LacksTurns asks)
 
-returning-out : {program : Program} {task : TaskState} {a : Operand} (value : Value) → bound task.environment a ≡ Some value → Outcome program task (line.Return a) (returning task value)
-returning-out {task = task} (Bare plain) e = if-out (open_calls task.items == 0) _ _ (λ none. Finishes e) (λ some. Returns e)
-returning-out {task = task} (Sealed label content) e = if-out (open_calls task.items == 0) _ _ (λ none. Mistyped) (λ some. Returns e)
+  raising-out : {asked : Act} {kind : Kind} {onward : Onward} (o : Op) (handle : Handle) → Reaches task s o asked kind handle onward → Outcome program task s (raising task o s handle)
+  raising-out o handle r = tested (act.Raise o handle.label) (On o handle.label) _ (Raising r) (λ current e. IsRaised r e)
 
--- a raise before an access
-raising-out : {program : Program} {task : TaskState} {s : Simple} {asked : Act} {kind : Kind} {onward : Onward} (o : Op) (handle : Handle) → Reaches task s o asked kind handle onward
-    → Outcome program task s (raising task o s handle)
-raising-out o handle r = tested (act.Raise o handle.label) (On o handle.label) _ (Raising r) (λ current e. IsRaised r e)
+  new_variable-out : (x : List ℕ) (label : Label) (value : Option Value) → Asks program task s (act.NewVar label value) (On op.NewVar label)
+      → Outcome program task s (new_variable task x label value)
+  new_variable-out x label value asks =
+      tested (act.NewVar label value) (On op.NewVar label) _ asks
+      (λ current e. cells-out (act.NewVar label value) (On op.NewVar label) 1 _ asks (λ room. MakesVariable asks e room))
 
-new_variable-out : {program : Program} {task : TaskState} {s : Simple} (x : List ℕ) (label : Label) (value : Option Value) → Asks program task s (act.NewVar label value) (On op.NewVar label)
-    → Outcome program task s (new_variable task x label value)
-new_variable-out x label value asks =
-    tested (act.NewVar label value) (On op.NewVar label) _ asks (λ current e. cells-out (act.NewVar label value) (On op.NewVar label) 1 _ asks (λ room. MakesVariable asks e room))
+-- what an operator gives, calls and returns
+module _ (program : Program) (task : TaskState) where
+  computed1-out : (x : List ℕ) (o : One) (a : Operand) (value : Value) (made : Result Value FaultKind) → bound task.environment a ≡ Some value
+      → operate1 program.longest o value ≡ made → Outcome program task (line.LetOne x o a) (computed task x made)
+  computed1-out x o a value (Ok made) e f = Computes1 e f
+  computed1-out x o a value (Err kind) e f = Fails1 e f
+
+  computed2-out : (x : List ℕ) (a : Operand) (o : Two) (b : Operand) (left right : Value) (made : Result Value FaultKind) → bound task.environment a ≡ Some left
+      → bound task.environment b ≡ Some right → operate2 program.longest o left right ≡ made → Outcome program task (line.LetTwo x a o b) (computed task x made)
+  computed2-out x a o b left right (Ok made) e f g = Computes2 e f g
+  computed2-out x a o b left right (Err kind) e f g = Fails2 e f g
+
+  calling-out : (x p : List ℕ) (arguments : List Operand) (vs : List Value) (procedure : Option Procedure) → all_bound task.environment arguments ≡ Some vs
+      → option_and_then (slice_get program.procedures) (procedure_at program p) ≡ procedure → Outcome program task (line.Call x p arguments) (calling task x vs procedure)
+  calling-out x p arguments vs None all found = Mistyped
+  calling-out x p arguments vs (Some procedure) all found =
+      if-out (nat_le 64 (open_calls task.items)) _ _ (λ deep. IsTooDeep) (λ shallow. Calls all found (nat_le-fails 64 (open_calls task.items) shallow))
+
+  returning-out : (a : Operand) (value : Value) → bound task.environment a ≡ Some value → Outcome program task (line.Return a) (returning task value)
+  returning-out a (Bare plain) e = if-out (open_calls task.items == 0) _ _ (λ none. Finishes e) (λ some. Returns e)
+  returning-out a (Sealed label content) e = if-out (open_calls task.items == 0) _ _ (λ none. Mistyped) (λ some. Returns e)
 
 -- the plan of a statement that opens no block
 pub outcome : (program : Program) (task : TaskState) (s : Simple) → Outcome program task s (plan_simple program task s)
 unfolding plan_simple
 outcome program task (line.Let x a) = seen-out (bound task.environment a) _ (λ value e. Binds e)
-outcome program task (line.LetOne x o a) = seen-out (bound task.environment a) _ (λ value e. computed1-out value (operate1 program.longest o value) e refl)
+outcome program task (line.LetOne x o a) = seen-out (bound task.environment a) _ (λ value e. computed1-out program task x o a value (operate1 program.longest o value) e refl)
 outcome program task (line.LetTwo x a o b) =
-    seen-out (bound task.environment a) _ (λ left e. seen-out (bound task.environment b) _ (λ right f. computed2-out left right (operate2 program.longest o left right) e f refl))
+    seen-out (bound task.environment a) _ (λ left e. seen-out (bound task.environment b) _
+    (λ right f. computed2-out program task x a o b left right (operate2 program.longest o left right) e f refl))
 outcome program task (line.Call x p arguments) =
-    seen-out (all_bound task.environment arguments) _ (λ vs e. calling-out vs (option_and_then (slice_get program.procedures) (procedure_at program p)) e refl)
-outcome program task (line.Return a) = seen-out (bound task.environment a) _ (λ value e. returning-out value e)
+    seen-out (all_bound task.environment arguments) _ (λ vs e. calling-out program task x p arguments vs (option_and_then (slice_get program.procedures) (procedure_at program p)) e refl)
+outcome program task (line.Return a) = seen-out (bound task.environment a) _ (returning-out program task a)
 outcome program task line.Stop = Stops
 outcome program task (line.Throw a) = seen-out (seen_as Some task.environment a) _ (λ plain e. Throws (seen-bare task a plain e))
 outcome program task (line.Label x l a) =

@@ -46,38 +46,38 @@ seen-case : {X : Type 0} {program : Program} {task : TaskState} {item : Item} {i
 seen-case None next fine = IsMistyped
 seen-case (Some x) next fine = fine x refl
 
-if-case : (program : Program) (task : TaskState) (a : Operand) (block : Statements) (items : List Item) (flag : Bool) → ItemsCase program task (Do (statement.If a block) ∷ items) (choosing block statement.Nothing flag)
-if-case program task a block items true = Enters
-if-case program task a block items false = Skips
+module _ (program : Program) (task : TaskState) (items : List Item) where
+  if-case : (a : Operand) (block : Statements) (flag : Bool) → ItemsCase program task (Do (statement.If a block) ∷ items) (choosing block statement.Nothing flag)
+  if-case a block true = Enters
+  if-case a block false = Skips
 
-choosing-case : (program : Program) (task : TaskState) (a : Operand) (block other : Statements) (items : List Item) (flag : Bool) → ItemsCase program task (Do (statement.IfElse a block other) ∷ items) (choosing block other flag)
-choosing-case program task a block other items true = Chooses
-choosing-case program task a block other items false = ChoosesOther
+  choosing-case : (a : Operand) (block other : Statements) (flag : Bool) → ItemsCase program task (Do (statement.IfElse a block other) ∷ items) (choosing block other flag)
+  choosing-case a block other true = Chooses
+  choosing-case a block other false = ChoosesOther
 
-looping-case : (program : Program) (task : TaskState) (a : Operand) (block : Statements) (items : List Item) (flag : Bool) → ItemsCase program task (Do (statement.While a block) ∷ items) (looping a block flag)
-looping-case program task a block items true = Repeats
-looping-case program task a block items false = Passes
+  looping-case : (a : Operand) (block : Statements) (flag : Bool) → ItemsCase program task (Do (statement.While a block) ∷ items) (looping a block flag)
+  looping-case a block true = Repeats
+  looping-case a block false = Passes
 
-statement-case : (program : Program) (task : TaskState) (s : Statement) (items : List Item) → ItemsCase program task (Do s ∷ items) (plan_statement program task s)
-statement-case program task (statement.Do simple) items = Does (outcome program task simple)
-statement-case program task (statement.If a block) items = seen-case (seen_as flag_of task.environment a) _ (λ flag e. if-case program task a block items flag)
-statement-case program task (statement.IfElse a block other) items = seen-case (seen_as flag_of task.environment a) _ (λ flag e. choosing-case program task a block other items flag)
-statement-case program task (statement.While a block) items = seen-case (seen_as flag_of task.environment a) _ (λ flag e. looping-case program task a block items flag)
-statement-case program task (statement.Try block code payload handler) items = Tries
+  statement-case : (s : Statement) → ItemsCase program task (Do s ∷ items) (plan_statement program task s)
+  statement-case (statement.Do simple) = Does (outcome program task simple)
+  statement-case (statement.If a block) = seen-case (seen_as flag_of task.environment a) _ (λ flag e. if-case a block flag)
+  statement-case (statement.IfElse a block other) = seen-case (seen_as flag_of task.environment a) _ (λ flag e. choosing-case a block other flag)
+  statement-case (statement.While a block) = seen-case (seen_as flag_of task.environment a) _ (λ flag e. looping-case a block flag)
+  statement-case (statement.Try block code payload handler) = Tries
 
-access-case : (program : Program) (task : TaskState) (s : Simple) (items : List Item) → ItemsCase program task (Access s ∷ items) (plan_access task s)
-unfolding plan_access
-access-case program task (line.Read x r) items = seen-case (seen_as reference_of task.environment r) _ (λ handle e. Visits (Reads e))
-access-case program task (line.Take x v) items = seen-case (seen_as variable_of task.environment v) _ (λ handle e. Visits (Takes e))
-access-case program task (line.Put v a) items =
-    seen-case (seen_as variable_of task.environment v) _ (λ handle e. seen-case (bound task.environment a) _ (λ value f. Visits (Puts e f)))
-access-case program task (line.Wait x r) items = seen-case (seen_as result_of task.environment r) _ (λ handle e. Visits (Waits e))
-access-case program task s items = IsMistyped
+  access-case : (s : Simple) → ItemsCase program task (Access s ∷ items) (plan_access task s)
+  unfolding plan_access
+  access-case (line.Read x r) = seen-case (seen_as reference_of task.environment r) _ (λ handle e. Visits (Reads e))
+  access-case (line.Take x v) = seen-case (seen_as variable_of task.environment v) _ (λ handle e. Visits (Takes e))
+  access-case (line.Put v a) = seen-case (seen_as variable_of task.environment v) _ (λ handle e. seen-case (bound task.environment a) _ (λ value f. Visits (Puts e f)))
+  access-case (line.Wait x r) = seen-case (seen_as result_of task.environment r) _ (λ handle e. Visits (Waits e))
+  access-case s = IsMistyped
 
 pub items-case : (program : Program) (task : TaskState) (items : List Item) → ItemsCase program task items (plan_items program task items)
 items-case program task [] = Ends
-items-case program task (Do s ∷ items) = statement-case program task s items
-items-case program task (Access s ∷ items) = access-case program task s items
+items-case program task (Do s ∷ items) = statement-case program task items s
+items-case program task (Access s ∷ items) = access-case program task items s
 items-case program task (Mark code payload handler ∷ items) = Passes
 items-case program task (Back caller name ∷ items) = Leaves
 items-case program task (Fail fault ∷ items) = Fails

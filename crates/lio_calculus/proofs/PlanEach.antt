@@ -33,7 +33,7 @@ use Rattle.lio_calculus.specs.Task.{TaskState}
 use Rattle.lio_calculus.specs.Going.{Onward, Bind, Seal, Call, Return, Leave, Unlabel, Release, Throw, released}
 use Rattle.lio_calculus.specs.Plan.{Program, Plan, Over, Own, Visit, fault_at, plan}
 use Rattle.lio_calculus.specs.Sound.{EachBound, EachInItem, EachInTask, says, statement_says, ItemSays}
-use Rattle.lio_calculus.proofs.SoundLemmas.{first-said, rest-said, bound-each}
+use Rattle.lio_calculus.proofs.SoundLemmas.{first-said, rest-said, second-said, bound-each}
 use Rattle.lio_calculus.proofs.Outcome.{Puts, Test, On, Between, Free, verdict_of, Asks, Outcome}
 use Rattle.lio_calculus.proofs.Outcome as out
 use Rattle.lio_calculus.proofs.PlanCases.{ItemsCase, Ends, Does, IsMistyped, Visits, Leaves, Fails, plan-by}
@@ -120,17 +120,6 @@ test-unthrown task (On o target) kind e = fails-unthrown kind (refused_where_tes
 test-unthrown task (Between source target power) kind e = fails-unthrown kind (release_refused_where_test_fails task.label task.clearance source target power kind e)
 test-unthrown task Free kind e = absurd (cc)
 
--- what a statement asks for
-asks-each : (P : Value → Type 0) → IsClosed P → {program : Program} (task : TaskState) {s : Simple} {asked : Act} {test : Test} → EachBound P task.environment → IsTrue (says s) → Asks program task s asked test → EachInAct P asked
-asks-each P closed task each said (out.Referring {l = l} {a = a} e f) = bound-each P task.environment a _ closed.said each (first-said a [] (rest-said l (a ∷ []) said)) f
-asks-each P closed task each said (out.Filling {l = l} {a = a} e f) = bound-each P task.environment a _ closed.said each (first-said a [] (rest-said l (a ∷ []) said)) f
-asks-each P closed task each said (out.Writing {r = r} {a = a} e f) = bound-each P task.environment a _ closed.said each (first-said a [] (rest-said r (a ∷ []) said)) f
-asks-each P closed task each said (out.Forking {l = l} {t = t} {n = n} {arguments = arguments} e f) =
-    all_bound-each P closed task.environment arguments _ each (rest-said n arguments (rest-said t (n ∷ arguments) (rest-said l (t ∷ n ∷ arguments) said))) f
-asks-each P closed task each said (out.Spawning {t = t} {n = n} {arguments = arguments} e) =
-    all_bound-each P closed task.environment arguments _ each (rest-said n arguments (rest-said t (n ∷ arguments) said)) e
-asks-each P closed task each said asks = tt
-
 made-each : (P : Value → Type 0) → IsClosed P → (made : Value) (given : Result Value FaultKind) → given ≡ Ok made → IsPublic given → P made
 made-each P closed made (Ok (Bare plain)) e simple = let value : Value = Bare plain in let is : value ≡ made = cc in subst P is (closed.simple plain simple)
 made-each P closed made (Ok (Sealed label content)) e simple = absurd simple
@@ -140,49 +129,72 @@ failed-unthrown : (kind : FaultKind) (given : Result Value FaultKind) → given 
 failed-unthrown kind (Ok value) e public = absurd (cc)
 failed-unthrown kind (Err k) e public = let is : k ≡ kind = cc in subst IsUnthrown is public
 
--- the cases of a plan
-outcome-each : (P : Value → Type 0) → IsClosed P → (program : Program) (task : TaskState) {s : Simple} {p : Plan} → EachBound P task.environment → IsTrue (says s) → Outcome program task s p → EachInPlan P p
-outcome-each P closed program task each said out.Mistyped = (tt, closed.unthrown task.label (fault_at task BadType) tt)
-outcome-each P closed program task each said (out.Refused {test = test} {kind = kind} asks e) = (asks-each P closed task each said asks, closed.unthrown task.label (fault_at task kind) (test-unthrown task test kind e))
-outcome-each P closed program task each said (out.LacksCells asks) = (asks-each P closed task each said asks, closed.unthrown task.label _ tt)
-outcome-each P closed program task each said (out.LacksTurns asks) = (asks-each P closed task each said asks, closed.unthrown task.label _ tt)
-outcome-each P closed program task each said (out.Binds {a = a} e) = (tt, bound-each P task.environment a _ closed.said each (first-said a [] said) e)
-outcome-each P closed program task each said (out.Computes1 {o = o} {value = value} {made = made} e f) = (tt, made-each P closed made (operate1 program.longest o value) f (one_gives_simple program.longest o value))
-outcome-each P closed program task each said (out.Fails1 {o = o} {value = value} {kind = kind} e f) =
-    (tt, closed.unthrown task.label (fault_at task kind) (failed-unthrown kind (operate1 program.longest o value) f (one_gives_simple program.longest o value)))
-outcome-each P closed program task each said (out.Computes2 {o = o} {left = left} {right = right} {made = made} e f g) = (tt, made-each P closed made (operate2 program.longest o left right) g (two_give_simple program.longest o left right))
-outcome-each P closed program task each said (out.Fails2 {o = o} {left = left} {right = right} {kind = kind} e f g) =
-    (tt, closed.unthrown task.label (fault_at task kind) (failed-unthrown kind (operate2 program.longest o left right) g (two_give_simple program.longest o left right)))
-outcome-each P closed program task each said (out.Calls {arguments = arguments} {procedure = procedure} e f g) =
-    (tt, bind_all-each P [] procedure.parameters _ (All-nil _) (all_bound-each P closed task.environment arguments _ each said e))
-outcome-each P closed program task each said out.IsTooDeep = (tt, closed.unthrown task.label (fault_at task Depth) tt)
-outcome-each P closed program task each said (out.Returns {a = a} e) = (tt, bound-each P task.environment a _ closed.said each (first-said a [] said) e)
-outcome-each P closed program task each said (out.Finishes {a = a} {plain = plain} e) = (λ label. closed.seal label plain (bound-each P task.environment a _ closed.said each (first-said a [] said) e), tt)
-outcome-each P closed program task each said out.Stops = (λ label. closed.seal label unit (closed.said unit refl), tt)
-outcome-each P closed program task each said (out.Throws {a = a} {plain = plain} e) = (tt, closed.throws task.label task.label plain (bound-each P task.environment a _ closed.said each (first-said a [] said) e))
-outcome-each P closed program task each said (out.Seals {l = l} {a = a} e f) = (tt, bound-each P task.environment a _ closed.said each (first-said a [] (rest-said l (a ∷ []) said)) f)
-outcome-each P closed program task each said (out.Unlabels {a = a} {sealed = s} e f) = (tt, sealed-each P (bound task.environment a) s e (λ value g. bound-each P task.environment a value closed.said each (first-said a [] said) g))
-outcome-each P closed program task each said (out.Releases {a = a} {l = l} {p = p} {sealed = s} {target = target} asks e f) =
-    (tt, closed.again s.label target s.content (sealed-each P (bound task.environment a) s e (λ value g. bound-each P task.environment a value closed.said each (first-said a (l ∷ p ∷ []) said) g)))
-outcome-each P closed program task each said (out.MakesReference asks e room) = (asks-each P closed task each said asks, tt)
-outcome-each P closed program task each said (out.MakesVariable asks e room) = (asks-each P closed task each said asks, tt)
-outcome-each P closed program task each said (out.Writes {r = r} {a = a} e f g) = (bound-each P task.environment a _ closed.said each (first-said a [] (rest-said r (a ∷ []) said)) f, tt)
-outcome-each P closed program task each said (out.MakesChild asks e f room enough) = (asks-each P closed task each said asks, tt)
-outcome-each P closed program task each said (out.MakesOrphan asks e room enough) = (asks-each P closed task each said asks, tt)
-outcome-each P closed program task each said o = (tt, tt)
+-- what a task looks up whose values have it, and what it throws
+module _ (P : Value → Type 0) (closed : IsClosed P) (task : TaskState) (each : EachBound P task.environment) where
+  value-at : {value : Value} (a : Operand) → IsTrue (is_said a) → bound task.environment a ≡ Some value → P value
+  value-at a said e = bound-each P task.environment a _ closed.said each said e
 
-items-each : (P : Value → Type 0) → IsClosed P → (program : Program) (task : TaskState) {items : List Item} {p : Plan} → EachBound P task.environment → All (EachInItem P) items → All ItemSays items → ItemsCase program task items p → EachInPlan P p
-unfolding statement_says
-items-each P closed program task each all said Ends = (λ label. closed.seal label unit (closed.said unit refl), tt)
-items-each P closed program task each all said (Does o) = outcome-each P closed program task each (All-head ItemSays _ _ said) o
-items-each P closed program task each all said IsMistyped = (tt, closed.unthrown task.label (fault_at task BadType) tt)
-items-each P closed program task each all said (Visits (Puts {v = v} {a = a} e f)) = (bound-each P task.environment a _ closed.said each (first-said a [] (rest-said v (a ∷ []) (All-head ItemSays _ _ said))) f, tt)
-items-each P closed program task each all said (Visits r) = (tt, tt)
-items-each P closed program task each all said Leaves = (tt, All-head (EachInItem P) _ _ all)
-items-each P closed program task each all said (Fails {fault = fault}) = (λ label. closed.again fault.at label (Faulted fault) (All-head (EachInItem P) _ _ all), tt)
-items-each P closed program task each all said o = (tt, tt)
+  values-at : {vs : List Value} (operands : List Operand) → IsTrue (list_all is_said operands) → all_bound task.environment operands ≡ Some vs → All P vs
+  values-at operands said e = all_bound-each P closed task.environment operands _ each said e
+
+  sealed-at : (a : Operand) (s : Labelled) → IsTrue (is_said a) → option_and_then sealed_of (bound task.environment a) ≡ Some s → P (Sealed s.label s.content)
+  sealed-at a s said e = sealed-each P (bound task.environment a) s e (λ value f. value-at a said f)
+
+  thrown : (kind : FaultKind) → IsUnthrown kind → P (Sealed task.label (Faulted (fault_at task kind)))
+  thrown kind unthrown = closed.unthrown task.label (fault_at task kind) unthrown
+
+  asks-each : {program : Program} {s : Simple} {asked : Act} {test : Test} → IsTrue (says s) → Asks program task s asked test → EachInAct P asked
+  asks-each said (out.Referring {l = l} {a = a} e f) = value-at a (second-said l a [] said) f
+  asks-each said (out.Filling {l = l} {a = a} e f) = value-at a (second-said l a [] said) f
+  asks-each said (out.Writing {r = r} {a = a} e f) = value-at a (second-said r a [] said) f
+  asks-each said (out.Forking {l = l} {t = t} {n = n} {arguments = arguments} e f) =
+      values-at arguments (rest-said n arguments (rest-said t (n ∷ arguments) (rest-said l (t ∷ n ∷ arguments) said))) f
+  asks-each said (out.Spawning {t = t} {n = n} {arguments = arguments} e) =
+      values-at arguments (rest-said n arguments (rest-said t (n ∷ arguments) said)) e
+  asks-each said asks = tt
+
+  outcome-each : {s : Simple} {p : Plan} (program : Program) → IsTrue (says s) → Outcome program task s p → EachInPlan P p
+  outcome-each program said out.Mistyped = (tt, thrown BadType tt)
+  outcome-each program said (out.Refused {test = test} {kind = kind} asks e) = (asks-each said asks, thrown kind (test-unthrown task test kind e))
+  outcome-each program said (out.LacksCells asks) = (asks-each said asks, closed.unthrown task.label _ tt)
+  outcome-each program said (out.LacksTurns asks) = (asks-each said asks, closed.unthrown task.label _ tt)
+  outcome-each program said (out.Binds {a = a} e) = (tt, value-at a (first-said a [] said) e)
+  outcome-each program said (out.Computes1 {o = o} {value = value} {made = made} e f) = (tt, made-each P closed made (operate1 program.longest o value) f (one_gives_simple program.longest o value))
+  outcome-each program said (out.Fails1 {o = o} {value = value} {kind = kind} e f) =
+      (tt, thrown kind (failed-unthrown kind (operate1 program.longest o value) f (one_gives_simple program.longest o value)))
+  outcome-each program said (out.Computes2 {o = o} {left = left} {right = right} {made = made} e f g) = (tt, made-each P closed made (operate2 program.longest o left right) g (two_give_simple program.longest o left right))
+  outcome-each program said (out.Fails2 {o = o} {left = left} {right = right} {kind = kind} e f g) =
+      (tt, thrown kind (failed-unthrown kind (operate2 program.longest o left right) g (two_give_simple program.longest o left right)))
+  outcome-each program said (out.Calls {arguments = arguments} {procedure = procedure} e f g) =
+      (tt, bind_all-each P [] procedure.parameters _ (All-nil _) (values-at arguments said e))
+  outcome-each program said out.IsTooDeep = (tt, thrown Depth tt)
+  outcome-each program said (out.Returns {a = a} e) = (tt, value-at a (first-said a [] said) e)
+  outcome-each program said (out.Finishes {a = a} {plain = plain} e) = (λ label. closed.seal label plain (value-at a (first-said a [] said) e), tt)
+  outcome-each program said out.Stops = (λ label. closed.seal label unit (closed.said unit refl), tt)
+  outcome-each program said (out.Throws {a = a} {plain = plain} e) = (tt, closed.throws task.label task.label plain (value-at a (first-said a [] said) e))
+  outcome-each program said (out.Seals {l = l} {a = a} e f) = (tt, value-at a (second-said l a [] said) f)
+  outcome-each program said (out.Unlabels {a = a} {sealed = s} e f) = (tt, sealed-at a s (first-said a [] said) e)
+  outcome-each program said (out.Releases {a = a} {l = l} {p = p} {sealed = s} {target = target} asks e f) =
+      (tt, closed.again s.label target s.content (sealed-at a s (first-said a (l ∷ p ∷ []) said) e))
+  outcome-each program said (out.MakesReference asks e room) = (asks-each said asks, tt)
+  outcome-each program said (out.MakesVariable asks e room) = (asks-each said asks, tt)
+  outcome-each program said (out.Writes {r = r} {a = a} e f g) = (value-at a (second-said r a [] said) f, tt)
+  outcome-each program said (out.MakesChild asks e f room enough) = (asks-each said asks, tt)
+  outcome-each program said (out.MakesOrphan asks e room enough) = (asks-each said asks, tt)
+  outcome-each program said o = (tt, tt)
+
+  items-each : {items : List Item} {p : Plan} (program : Program) → All (EachInItem P) items → All ItemSays items → ItemsCase program task items p → EachInPlan P p
+  unfolding statement_says
+  items-each program all said Ends = (λ label. closed.seal label unit (closed.said unit refl), tt)
+  items-each program all said (Does o) = outcome-each program (All-head ItemSays _ _ said) o
+  items-each program all said IsMistyped = (tt, thrown BadType tt)
+  items-each program all said (Visits (Puts {v = v} {a = a} e f)) = (value-at a (second-said v a [] (All-head ItemSays _ _ said)) f, tt)
+  items-each program all said (Visits r) = (tt, tt)
+  items-each program all said Leaves = (tt, All-head (EachInItem P) _ _ all)
+  items-each program all said (Fails {fault = fault}) = (λ label. closed.again fault.at label (Faulted fault) (All-head (EachInItem P) _ _ all), tt)
+  items-each program all said o = (tt, tt)
 
 -- the plan of a task
 pub plan-each : (P : Value → Type 0) → IsClosed P → (program : Program) (task : TaskState) → EachInTask P task → All ItemSays task.items → EachInPlan P (plan program task)
 plan-each P closed program task each said =
-    plan-by (EachInPlan P) program task tt (λ label. closed.unthrown label (fault_at task NoTurns) tt, tt) (λ p going o. items-each P closed program task each.environment each.items said o)
+    plan-by (EachInPlan P) program task tt (λ label. closed.unthrown label (fault_at task NoTurns) tt, tt) (λ p going o. items-each P closed task each.environment program each.items said o)

@@ -156,46 +156,49 @@ asks-unended (out.Tainting e) = refl
 asks-unended asks = refl
 
 -- the cases of a plan
-outcome-kept : {s : Simple} {p : Plan} (program : Program) (task : TaskState) → IsTrue (flows task.label task.clearance) → IsTrue (says s) → All (λ (q : Procedure). IsTrue (block_says q.body)) program.procedures → Outcome program task s p → KeptPlan task p
-outcome-kept program task below said all (out.Refused asks e) = (kept task _ below refl refl tt, asks-unended asks, refl, refl)
-outcome-kept program task below said all (out.LacksCells asks) = (kept task _ below refl refl tt, asks-unended asks, refl, refl)
-outcome-kept program task below said all (out.LacksTurns asks) = (kept task _ below refl refl tt, asks-unended asks, refl, refl)
-outcome-kept program task below said all (out.Calls {p = name} e f shallow) = (kept task _ below refl refl (found-says program name _ all f, shallow), refl, refl, refl)
-outcome-kept program task below said all (out.Unlabels {current = current} e f) = (raised task _ current refl refl (label_flows_to_clearance op.Unlabel task.label task.clearance _ current below f) tt, refl, refl, refl)
-outcome-kept program task below said all (out.Taints {current = current} e f) = (raised task _ current refl refl (label_flows_to_clearance op.Taint task.label task.clearance _ current below f) tt, refl, refl, refl)
-outcome-kept program task below said all (out.Lowers e f) =
-    (record { label = current_flows_to_lowered task.label task.clearance _ _ f; lowered = lowered_flows_to_clearance task.label task.clearance _ _ f; suits = tt }, refl, refl, refl)
-outcome-kept program task below said all (out.IsRaised {o = o} {current = current} r e) =
-    (raised task _ current refl refl (label_flows_to_clearance o task.label task.clearance _ current below e) (access-raised task current r e, said), refl, refl, refl)
-outcome-kept program task below said all (out.MakesReference asks e room) = (kept task _ below refl refl room, (refl, (_, refl)))
-outcome-kept program task below said all (out.MakesVariable asks e room) = (kept task _ below refl refl room, (refl, (_, refl)))
-outcome-kept program task below said all (out.MakesChild {label = label} asks e f room enough) = (
-  kept task _ below refl refl room,
-  (refl, (record { first = refl; label = current_flows_to_written op.Fork task.label task.clearance label _ refl f; result = flow_is_reflexive label }, _, refl)),
-)
-outcome-kept program task below said all (out.MakesOrphan asks e room enough) =
-    (kept task _ below refl refl room, (refl, (record { first = refl; label = below; result = flow_is_reflexive task.clearance }, refl)))
-outcome-kept program task below said all (out.Writes e f g) = (kept task _ below refl refl tt, (refl, refl))
-outcome-kept program task below said all (out.Sends e f g) = (kept task _ below refl refl tt, (refl, refl))
-outcome-kept program task below said all o = (kept task _ below refl refl tt, refl, refl, refl)
+module _ (program : Program) (task : TaskState) (below : IsTrue (flows task.label task.clearance)) (all : All (λ (q : Procedure). IsTrue (block_says q.body)) program.procedures) where
+  outcome-kept : {s : Simple} {p : Plan} → IsTrue (says s) → Outcome program task s p → KeptPlan task p
+  outcome-kept said (out.Refused asks e) = (kept task _ below refl refl tt, asks-unended asks, refl, refl)
+  outcome-kept said (out.LacksCells asks) = (kept task _ below refl refl tt, asks-unended asks, refl, refl)
+  outcome-kept said (out.LacksTurns asks) = (kept task _ below refl refl tt, asks-unended asks, refl, refl)
+  outcome-kept said (out.Calls {p = name} e f shallow) = (kept task _ below refl refl (found-says program name _ all f, shallow), refl, refl, refl)
+  outcome-kept said (out.Unlabels {current = current} e f) = (raised task _ current refl refl (label_flows_to_clearance op.Unlabel task.label task.clearance _ current below f) tt, refl, refl, refl)
+  outcome-kept said (out.Taints {current = current} e f) = (raised task _ current refl refl (label_flows_to_clearance op.Taint task.label task.clearance _ current below f) tt, refl, refl, refl)
+  outcome-kept said (out.Lowers e f) =
+      (record { label = current_flows_to_lowered task.label task.clearance _ _ f; lowered = lowered_flows_to_clearance task.label task.clearance _ _ f; suits = tt }, refl, refl, refl)
+  outcome-kept said (out.IsRaised {o = o} {current = current} r e) =
+      (raised task _ current refl refl (label_flows_to_clearance o task.label task.clearance _ current below e) (access-raised task current r e, said), refl, refl, refl)
+  outcome-kept said (out.MakesReference asks e room) = (kept task _ below refl refl room, (refl, (_, refl)))
+  outcome-kept said (out.MakesVariable asks e room) = (kept task _ below refl refl room, (refl, (_, refl)))
+  outcome-kept said (out.MakesChild {label = label} asks e f room enough) = (
+    kept task _ below refl refl room,
+    (refl, (record { first = refl; label = current_flows_to_written op.Fork task.label task.clearance label _ refl f; result = flow_is_reflexive label }, _, refl)),
+  )
+  outcome-kept said (out.MakesOrphan asks e room enough) =
+      (kept task _ below refl refl room, (refl, (record { first = refl; label = below; result = flow_is_reflexive task.clearance }, refl)))
+  outcome-kept said (out.Writes e f g) = (kept task _ below refl refl tt, (refl, refl))
+  outcome-kept said (out.Sends e f g) = (kept task _ below refl refl tt, (refl, refl))
+  outcome-kept said o = (kept task _ below refl refl tt, refl, refl, refl)
 
-items-kept : {items : List Item} {p : Plan} (program : Program) (task : TaskState) → IsTrue (flows task.label task.clearance) → All ItemSays items → All (λ (q : Procedure). IsTrue (block_says q.body)) program.procedures → ItemsCase program task items p → KeptPlan task p
-unfolding statement_says block_says
-items-kept program task below said all (Does o) = outcome-kept program task below (All-head ItemSays _ _ said) all o
-items-kept program task below said all (Enters {a = a} {block = block}) = (kept task _ below refl refl (and_parts (is_said a) (block_says block) (All-head ItemSays _ _ said)).1, refl, refl, refl)
-items-kept program task below said all Skips = (kept task _ below refl refl refl, refl, refl, refl)
-items-kept program task below said all (Chooses {a = a} {block = block} {other = other}) =
-    let parts = and_parts (is_said a) (block_says block && block_says other) (All-head ItemSays _ _ said) in
-    (kept task _ below refl refl (and_parts (block_says block) (block_says other) parts.1).0, refl, refl, refl)
-items-kept program task below said all (ChoosesOther {a = a} {block = block} {other = other}) =
-    let parts = and_parts (is_said a) (block_says block && block_says other) (All-head ItemSays _ _ said) in
-    (kept task _ below refl refl (and_parts (block_says block) (block_says other) parts.1).1, refl, refl, refl)
-items-kept program task below said all (Repeats {a = a} {block = block}) = (kept task _ below refl refl (and_parts (is_said a) (block_says block) (All-head ItemSays _ _ said)), refl, refl, refl)
-items-kept program task below said all (Tries {block = block} {handler = handler}) = (kept task _ below refl refl (and_parts (block_says block) (block_says handler) (All-head ItemSays _ _ said)), refl, refl, refl)
-items-kept program task below said all (Visits (Reads e)) = (kept task _ below refl refl tt, (refl, refl))
-items-kept program task below said all (Visits r) = (kept task _ below refl refl tt, (refl, refl))
-items-kept program task below said all o = (kept task _ below refl refl tt, refl, refl, refl)
+  items-kept : {items : List Item} {p : Plan} → All ItemSays items → ItemsCase program task items p → KeptPlan task p
+  unfolding statement_says block_says
+  items-kept said (Does o) = outcome-kept (All-head ItemSays _ _ said) o
+  items-kept said (Enters {a = a} {block = block}) = (kept task _ below refl refl (and_parts (is_said a) (block_says block) (All-head ItemSays _ _ said)).1, refl, refl, refl)
+  items-kept said Skips = (kept task _ below refl refl refl, refl, refl, refl)
+  items-kept said (Chooses {a = a} {block = block} {other = other}) =
+      let parts = and_parts (is_said a) (block_says block && block_says other) (All-head ItemSays _ _ said) in
+      (kept task _ below refl refl (and_parts (block_says block) (block_says other) parts.1).0, refl, refl, refl)
+  items-kept said (ChoosesOther {a = a} {block = block} {other = other}) =
+      let parts = and_parts (is_said a) (block_says block && block_says other) (All-head ItemSays _ _ said) in
+      (kept task _ below refl refl (and_parts (block_says block) (block_says other) parts.1).1, refl, refl, refl)
+  items-kept said (Repeats {a = a} {block = block}) = (kept task _ below refl refl (and_parts (is_said a) (block_says block) (All-head ItemSays _ _ said)), refl, refl, refl)
+  items-kept said (Tries {block = block} {handler = handler}) = (kept task _ below refl refl (and_parts (block_says block) (block_says handler) (All-head ItemSays _ _ said)), refl, refl, refl)
+  items-kept said (Visits (Reads e)) = (kept task _ below refl refl tt, (refl, refl))
+  items-kept said (Visits r) = (kept task _ below refl refl tt, (refl, refl))
+  items-kept said o = (kept task _ below refl refl tt, refl, refl, refl)
 
 -- the plan of a task
-pub plan-kept : (program : Program) (task : TaskState) → IsTrue (flows task.label task.clearance) → All ItemSays task.items → All (λ (q : Procedure). IsTrue (block_says q.body)) program.procedures → KeptPlan task (plan program task)
-plan-kept program task below said all = plan-by (KeptPlan task) program task tt (kept task _ below refl refl tt, refl, refl, refl) (λ p going o. items-kept program task below said all o)
+pub plan-kept : (program : Program) (task : TaskState) → IsTrue (flows task.label task.clearance) → All ItemSays task.items
+    → All (λ (q : Procedure). IsTrue (block_says q.body)) program.procedures → KeptPlan task (plan program task)
+plan-kept program task below said all =
+    plan-by (KeptPlan task) program task tt (kept task _ below refl refl tt, refl, refl, refl) (λ p going o. items-kept program task below all said o)

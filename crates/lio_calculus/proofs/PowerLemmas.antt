@@ -207,26 +207,27 @@ power-among : (powers : List Priv) (plain : Plain) (power : Priv) → power_of p
 power-among powers (Power held) power e among = let is : held ≡ power = cc in subst (Contains powers) is among
 power-among powers plain power e among = absurd (cc)
 
-asks-released : (powers : List Priv) {program : Program} (task : TaskState) {s : Simple} {asked : Act} {test : Test} → EachBound (ValueIsAmong powers) task.environment → IsTrue (says s)
-    → Asks program task s asked test → ReleasesBy powers asked
-asks-released powers task each said (out.Releasing {a = a} {l = l} {p = p} {power = power} e f g) =
-    let seen = seen-plain power_of task.environment p power g in
-    power-among powers seen.0 power seen.2
-    (bound-each (ValueIsAmong powers) task.environment p (Bare seen.0) (among-said powers) each (first-said p [] (rest-said l (p ∷ []) (rest-said a (l ∷ p ∷ []) said))) seen.1)
-asks-released powers task each said asks = tt
+-- the cases of a plan
+module _ (powers : List Priv) (task : TaskState) (each : EachBound (ValueIsAmong powers) task.environment) where
+  asks-released : {program : Program} {s : Simple} {asked : Act} {test : Test} → IsTrue (says s) → Asks program task s asked test → ReleasesBy powers asked
+  asks-released said (out.Releasing {a = a} {l = l} {p = p} {power = power} e f g) =
+      let seen = seen-plain power_of task.environment p power g in
+      power-among powers seen.0 power seen.2
+      (bound-each (ValueIsAmong powers) task.environment p (Bare seen.0) (among-said powers) each (first-said p [] (rest-said l (p ∷ []) (rest-said a (l ∷ p ∷ []) said))) seen.1)
+  asks-released said asks = tt
 
-items-released : {program : Program} {items : List Item} {p : Plan} (powers : List Priv) (task : TaskState) → EachBound (ValueIsAmong powers) task.environment → All ItemSays items → ItemsCase program task items p → PlanReleases powers p
-unfolding statement_says
-items-released powers task each said (Does (out.Refused asks e)) = asks-released powers task each (All-head ItemSays _ _ said) asks
-items-released powers task each said (Does (out.LacksCells asks)) = asks-released powers task each (All-head ItemSays _ _ said) asks
-items-released powers task each said (Does (out.LacksTurns asks)) = asks-released powers task each (All-head ItemSays _ _ said) asks
-items-released powers task each said (Does (out.Releases asks e f)) = asks-released powers task each (All-head ItemSays _ _ said) asks
-items-released powers task each said (Visits (Reads e)) = tt
-items-released powers task each said (Visits r) = tt
-items-released powers task each said o = tt
+  items-released : {program : Program} {items : List Item} {p : Plan} → All ItemSays items → ItemsCase program task items p → PlanReleases powers p
+  unfolding statement_says
+  items-released said (Does (out.Refused asks e)) = asks-released (All-head ItemSays _ _ said) asks
+  items-released said (Does (out.LacksCells asks)) = asks-released (All-head ItemSays _ _ said) asks
+  items-released said (Does (out.LacksTurns asks)) = asks-released (All-head ItemSays _ _ said) asks
+  items-released said (Does (out.Releases asks e f)) = asks-released (All-head ItemSays _ _ said) asks
+  items-released said (Visits (Reads e)) = tt
+  items-released said (Visits r) = tt
+  items-released said o = tt
 
-plan-released : (powers : List Priv) (program : Program) (task : TaskState) → EachBound (ValueIsAmong powers) task.environment → All ItemSays task.items → PlanReleases powers (plan program task)
-plan-released powers program task each said = plan-by (PlanReleases powers) program task tt tt (λ p going o. items-released powers task each said o)
+  plan-released : (program : Program) → All ItemSays task.items → PlanReleases powers (plan program task)
+  plan-released program said = plan-by (PlanReleases powers) program task tt tt (λ p going o. items-released said o)
 
 move-released : (powers : List Priv) (c : Configuration) (p : Plan) (move : Move) → PlanReleases powers p → move_of (cell_at c) p ≡ Some move → ReleasesBy powers move.act
 move-released powers c Over move released moves = absurd (over-moves c move moves)
@@ -245,5 +246,5 @@ powers_are_given powers ticket c k turn sound among steps =
     let cells : (n : ℕ) → EachInCell P (cell_at (after c k p.task p.move) n) = after-each powers c k p.task p.move (λ n. record { state = among.nodes n; task = among.tasks n }) mine move in
     subst (MakesNoPower powers) p.made (record {
       after = record { tasks = λ n x is. (cells n).task x is; nodes = λ n. (cells n).state };
-      released = move-released powers c (plan c.program p.task) p.move (plan-released powers c.program p.task mine.environment said) p.moves;
+      released = move-released powers c (plan c.program p.task) p.move (plan-released powers p.task mine.environment c.program said) p.moves;
     })

@@ -38,12 +38,15 @@ same_label-same a b e =
     formulas : (x y : List (List ℕ)) → same_formula x y ≡ true → x ≡ y
     formulas x y same = (slice_eq-Decides (λ (p q : List ℕ). slice_eq-Decides Decides-eqb p q _ refl) x y (same_formula x y) refl).0 same
 
--- the first operand of a list is said, and so are those behind it
+-- the first operands of a list are said, and so are those behind the first
 pub first-said : (a : Operand) (operands : List Operand) → IsTrue (list_all is_said (a ∷ operands)) → IsTrue (is_said a)
 first-said a operands said = (and_parts (is_said a) (list_all is_said operands) said).0
 
 pub rest-said : (a : Operand) (operands : List Operand) → IsTrue (list_all is_said (a ∷ operands)) → IsTrue (list_all is_said operands)
 rest-said a operands said = (and_parts (is_said a) (list_all is_said operands) said).1
+
+pub second-said : (a b : Operand) (operands : List Operand) → IsTrue (list_all is_said (a ∷ b ∷ operands)) → IsTrue (is_said b)
+second-said a b operands said = first-said b operands (rest-said a (b ∷ operands) said)
 
 -- what a name is bound to has what each bound value has
 value_of-each : (P : Value → Type 0) (environment : Environment) (name : List ℕ) (value : Value) → EachBound P environment → value_of environment name ≡ Some value → P value

@@ -19,7 +19,7 @@ use Rattle.lio_calculus.specs.Task.{TaskState}
 use Rattle.lio_calculus.specs.Plan.{Program, Plan, plan}
 use Rattle.lio_calculus.specs.Step.{Configuration, cell_at, Move, move_of, Turn, step, turn_of, entry_of, after}
 use Rattle.lio_calculus.specs.Guarded.{IsShown, IsGuarded}
-use Rattle.lio_calculus.specs.Sound.{IsOpen, IsTaskOf, IsSound, ItemSays, says, statement_says, FrontIsRaised}
+use Rattle.lio_calculus.specs.Sound.{EachBound, ValueNames, IsOpen, IsTaskOf, IsSound, ItemSays, says, statement_says, FrontIsRaised}
 use Rattle.lio_calculus.proofs.SoundLemmas.{first-said, bound-each, said-open, reference-names, variable-names, result-names, channel-names}
 use Rattle.lio_calculus.proofs.GuardedLemmas.{GuardedBy, over-guarded, own-guarded, raise-guarded, visit-guarded, refused-guarded}
 use Rattle.lio_calculus.proofs.Outcome.{Reads, Takes, Puts, Waits, Test, Asks, Outcome}
@@ -40,32 +40,6 @@ asks-shown : {program : Program} {task : TaskState} {s : Simple} {asked : Act} {
 asks-shown (out.Releasing e f g) fault = refl
 asks-shown asks fault = tt
 
--- the cases of a plan
-outcome-guarded : (c : Configuration) (k : ℕ) (task : TaskState) {s : Simple} {p : Plan} → IsSound c → IsTaskOf c k task → IsTrue (says s) → Outcome c.program task s p → GuardedBy c k task p
-outcome-guarded c k task sound is said (out.Refused asks e) = refused-guarded c k task _ _ (asks-shown asks _)
-outcome-guarded c k task sound is said (out.LacksCells asks) = refused-guarded c k task _ _ (asks-shown asks _)
-outcome-guarded c k task sound is said (out.LacksTurns asks) = refused-guarded c k task _ _ (asks-shown asks _)
-outcome-guarded c k task sound is said (out.Unlabels e f) =
-    raise-guarded c k task _ _ _ (current_flows_to_label op.Unlabel task.label task.clearance _ _ f) (learnt_flows_to_label op.Unlabel task.label task.clearance _ _ refl f) tt
-outcome-guarded c k task sound is said (out.Taints e f) = raise-guarded c k task _ _ _ (current_flows_to_label op.Taint task.label task.clearance _ _ f) tt tt
-outcome-guarded c k task sound is said (out.IsRaised {o = o} r e) = raise-guarded c k task _ _ _ (current_flows_to_label o task.label task.clearance _ _ e) tt tt
-outcome-guarded c k task sound is said (out.Releases {a = a} {l = l} {p = p} {sealed = sealed} asks e f) =
-    own-guarded c k task _ _ _ refl refl (sealed-shown (bound task.environment a) sealed e
-    (λ value found. bound-each IsOpen task.environment a value said-open (sound.shown k task is).environment (first-said a (l ∷ p ∷ []) said) found))
-outcome-guarded c k task sound is said (out.MakesReference {x = x} {label = label} asks e room) =
-    visit-guarded c k task _ _ _ (new_reference-guarded c k task x label _ sound is room (current_flows_to_written op.NewRef task.label task.clearance label _ refl e))
-outcome-guarded c k task sound is said (out.MakesVariable {x = x} {label = label} asks e room) =
-    visit-guarded c k task _ _ _ (new_variable-guarded c k task x label _ sound is room (current_flows_to_written op.NewVar task.label task.clearance label _ refl e))
-outcome-guarded c k task sound is said (out.Writes {r = r} {a = a} e f g) =
-    visit-guarded c k task _ _ _ (write-guarded c k task _ _ sound is (reference-names c task.environment r _ (sound.names k task is).environment (first-said r (a ∷ []) said) e)
-    (current_flows_to_written op.Write task.label task.clearance _ _ refl g))
-outcome-guarded c k task sound is said (out.Sends {c = channel} {a = a} e f g) =
-    visit-guarded c k task _ _ _ (send-guarded c k task _ _ sound is (channel-names c task.environment channel _ (sound.names k task is).environment (first-said channel (a ∷ []) said) e)
-    (current_flows_to_written op.Send task.label task.clearance _ _ refl g))
-outcome-guarded c k task sound is said (out.MakesChild asks e f room enough) = visit-guarded c k task _ _ _ (fork-guarded c k task _ _ _ _ _ sound is (omega (arith, room)))
-outcome-guarded c k task sound is said (out.MakesOrphan asks e room enough) = visit-guarded c k task _ _ _ (spawn-guarded c k task _ _ _ sound is (omega (arith, room)))
-outcome-guarded c k task sound is said o = own-guarded c k task _ _ _ refl tt tt
-
 -- the handle of an access whose raise is done is the one that the raise learnt
 same-handle : {X : Type 0} {seen : Option X} {a b : X} → seen ≡ Some a → seen ≡ Some b → a ≡ b
 same-handle {a = a} {b = b} e f = inner (sym e ∙ f)
@@ -73,28 +47,58 @@ same-handle {a = a} {b = b} e f = inner (sym e ∙ f)
     inner : Some a ≡ Some b → a ≡ b
     inner g = cc
 
-items-guarded : (c : Configuration) (k : ℕ) (task : TaskState) {items : List Item} {p : Plan} → IsSound c → IsTaskOf c k task → task.ended ≡ false → All ItemSays items → FrontIsRaised task items → ItemsCase c.program task items p → GuardedBy c k task p
-unfolding statement_says
-items-guarded c k task sound is going said raised (Does o) = outcome-guarded c k task sound is (All-head ItemSays _ _ said) o
-items-guarded c k task sound is going said raised (Visits (Reads {r = r} e)) =
-    visit-guarded c k task _ _ _ (read-guarded c k task _ _ sound is (reference-names c task.environment r _ (sound.names k task is).environment (first-said r [] (All-head ItemSays _ _ said)) e)
-    (subst (λ (h : Handle). IsTrue (flows h.label task.label)) (same-handle raised.1 e) raised.2))
-items-guarded c k task sound is going said raised (Visits (Takes {v = v} e)) =
-    visit-guarded c k task _ _ _ (take-guarded c k task _ _ sound is (variable-names c task.environment v _ (sound.names k task is).environment (first-said v [] (All-head ItemSays _ _ said)) e)
-    (ap (λ (h : Handle). h.label) (same-handle e raised.1) ∙ raised.2))
-items-guarded c k task sound is going said raised (Visits (Puts {v = v} {a = a} e f)) =
-    visit-guarded c k task _ _ _ (put-guarded c k task _ _ sound is (variable-names c task.environment v _ (sound.names k task is).environment (first-said v (a ∷ []) (All-head ItemSays _ _ said)) e)
-    (ap (λ (h : Handle). h.label) (same-handle e raised.1) ∙ raised.2))
-items-guarded c k task sound is going said raised (Visits (Waits {r = r} e)) =
-    wait-guarded c k task _ _ sound is going (result-names c task.environment r _ (sound.names k task is).environment (first-said r [] (All-head ItemSays _ _ said)) e)
-    (subst (λ (h : Handle). IsTrue (flows h.label task.label)) (same-handle raised.1 e) raised.2)
-items-guarded c k task sound is going said raised o = own-guarded c k task _ _ _ refl tt tt
+-- the cases of a plan
+module _ (c : Configuration) (k : ℕ) (task : TaskState) (sound : IsSound c) (is : IsTaskOf c k task) where
+  names : EachBound (ValueNames c) task.environment
+  names = (sound.names k task is).environment
 
--- the plan of a task
-pub plan-guarded : (c : Configuration) (k : ℕ) (task : TaskState) → IsSound c → IsTaskOf c k task → GuardedBy c k task (plan c.program task)
-plan-guarded c k task sound is =
-    plan-by (GuardedBy c k task) c.program task (over-guarded c k task) (own-guarded c k task _ _ _ refl tt tt)
-    (λ p going o. items-guarded c k task sound is going (sound.literals k task is) (sound.accesses k task is).front o)
+  outcome-guarded : {s : Simple} {p : Plan} → IsTrue (says s) → Outcome c.program task s p → GuardedBy c k task p
+  outcome-guarded said (out.Refused asks e) = refused-guarded c k task _ _ (asks-shown asks _)
+  outcome-guarded said (out.LacksCells asks) = refused-guarded c k task _ _ (asks-shown asks _)
+  outcome-guarded said (out.LacksTurns asks) = refused-guarded c k task _ _ (asks-shown asks _)
+  outcome-guarded said (out.Unlabels e f) =
+      raise-guarded c k task _ _ _ (current_flows_to_label op.Unlabel task.label task.clearance _ _ f) (learnt_flows_to_label op.Unlabel task.label task.clearance _ _ refl f) tt
+  outcome-guarded said (out.Taints e f) = raise-guarded c k task _ _ _ (current_flows_to_label op.Taint task.label task.clearance _ _ f) tt tt
+  outcome-guarded said (out.IsRaised {o = o} r e) = raise-guarded c k task _ _ _ (current_flows_to_label o task.label task.clearance _ _ e) tt tt
+  outcome-guarded said (out.Releases {a = a} {l = l} {p = p} {sealed = sealed} asks e f) =
+      own-guarded c k task _ _ _ refl refl (sealed-shown (bound task.environment a) sealed e
+      (λ value found. bound-each IsOpen task.environment a value said-open (sound.shown k task is).environment (first-said a (l ∷ p ∷ []) said) found))
+  outcome-guarded said (out.MakesReference {x = x} {label = label} asks e room) =
+      visit-guarded c k task _ _ _ (new_reference-guarded c k task x label _ sound is room (current_flows_to_written op.NewRef task.label task.clearance label _ refl e))
+  outcome-guarded said (out.MakesVariable {x = x} {label = label} asks e room) =
+      visit-guarded c k task _ _ _ (new_variable-guarded c k task x label _ sound is room (current_flows_to_written op.NewVar task.label task.clearance label _ refl e))
+  outcome-guarded said (out.Writes {r = r} {a = a} e f g) =
+      visit-guarded c k task _ _ _ (write-guarded c k task _ _ sound is (reference-names c task.environment r _ names (first-said r (a ∷ []) said) e)
+      (current_flows_to_written op.Write task.label task.clearance _ _ refl g))
+  outcome-guarded said (out.Sends {c = channel} {a = a} e f g) =
+      visit-guarded c k task _ _ _ (send-guarded c k task _ _ sound is (channel-names c task.environment channel _ names (first-said channel (a ∷ []) said) e)
+      (current_flows_to_written op.Send task.label task.clearance _ _ refl g))
+  outcome-guarded said (out.MakesChild asks e f room enough) = visit-guarded c k task _ _ _ (fork-guarded c k task _ _ _ _ _ sound is (omega (arith, room)))
+  outcome-guarded said (out.MakesOrphan asks e room enough) = visit-guarded c k task _ _ _ (spawn-guarded c k task _ _ _ sound is (omega (arith, room)))
+  outcome-guarded said o = own-guarded c k task _ _ _ refl tt tt
+
+  items-guarded : {items : List Item} {p : Plan} → task.ended ≡ false → All ItemSays items → FrontIsRaised task items → ItemsCase c.program task items p → GuardedBy c k task p
+  unfolding statement_says
+  items-guarded going said raised (Does o) = outcome-guarded (All-head ItemSays _ _ said) o
+  items-guarded going said raised (Visits (Reads {r = r} e)) =
+      visit-guarded c k task _ _ _ (read-guarded c k task _ _ sound is (reference-names c task.environment r _ names (first-said r [] (All-head ItemSays _ _ said)) e)
+      (subst (λ (h : Handle). IsTrue (flows h.label task.label)) (same-handle raised.1 e) raised.2))
+  items-guarded going said raised (Visits (Takes {v = v} e)) =
+      visit-guarded c k task _ _ _ (take-guarded c k task _ _ sound is (variable-names c task.environment v _ names (first-said v [] (All-head ItemSays _ _ said)) e)
+      (ap (λ (h : Handle). h.label) (same-handle e raised.1) ∙ raised.2))
+  items-guarded going said raised (Visits (Puts {v = v} {a = a} e f)) =
+      visit-guarded c k task _ _ _ (put-guarded c k task _ _ sound is (variable-names c task.environment v _ names (first-said v (a ∷ []) (All-head ItemSays _ _ said)) e)
+      (ap (λ (h : Handle). h.label) (same-handle e raised.1) ∙ raised.2))
+  items-guarded going said raised (Visits (Waits {r = r} e)) =
+      wait-guarded c k task _ _ sound is going (result-names c task.environment r _ names (first-said r [] (All-head ItemSays _ _ said)) e)
+      (subst (λ (h : Handle). IsTrue (flows h.label task.label)) (same-handle raised.1 e) raised.2)
+  items-guarded going said raised o = own-guarded c k task _ _ _ refl tt tt
+
+  -- the plan of a task
+  pub plan-guarded : GuardedBy c k task (plan c.program task)
+  plan-guarded =
+      plan-by (GuardedBy c k task) c.program task (over-guarded c k task) (own-guarded c k task _ _ _ refl tt tt)
+      (λ p going o. items-guarded going (sound.literals k task is) (sound.accesses k task is).front o)
 
 -- a turn
 pub turn-guarded : (ticket : ℕ) (c : Configuration) (k : ℕ) (task : TaskState) (turn : Turn) → IsSound c → IsTaskOf c k task → step ticket c k ≡ Some turn → IsGuarded c k task (plan c.program task)
