@@ -7,7 +7,7 @@ use Rattle.lio_values.specs.declared.act.Act.{Act}
 use Rattle.lio_values.specs.declared.act.Act.TheVariants as act
 use Rattle.lio_values.specs.Erasure.{erase_act}
 use Rattle.lio_cells.specs.declared.state.State.{State}
-use Rattle.lio_cells.specs.declared.state.State.TheVariants.{Absent, Ref, Var, Chan, Job}
+use Rattle.lio_cells.specs.declared.state.State.TheVariants.{Absent, Var, Job}
 use Rattle.lio_cells.specs.State.{Kind, Reference, Variable, Channel, Result, is_absent, is_job, is_of, label_of, ready, state_after}
 use Rattle.lio_calculus.specs.Plan.{Program, Node}
 use Rattle.lio_calculus.specs.Hiding.{hide_asked}

@@ -1,25 +1,14 @@
 -- A plan seals a value only by an act that says so, and releases a content only by an act that does.
-use Rattle.std.proofs.Common.{◌≡◌, refl, ap, ◌==◌, Bool, true, false, if◌then◌else◌, List, [], ◌∷◌, Option, Some, None}
+use Rattle.std.proofs.Common.{◌≡◌, refl, ap, List}
 use Rattle.lio_labels.specs.declared.label.Label.{Label}
-use Rattle.lio_values.specs.declared.fault.FaultKind.TheVariants.{NoTurns}
 use Rattle.lio_values.specs.declared.value.Content.{Content}
-use Rattle.lio_values.specs.declared.value.Content.TheVariants.{Faulted}
-use Rattle.lio_values.specs.declared.value.Handle.{Handle}
-use Rattle.lio_values.specs.declared.value.Value.{Value}
 use Rattle.lio_values.specs.declared.act.Act.{Act}
 use Rattle.lio_values.specs.declared.act.Act.TheVariants as act
-use Rattle.lio_lines.specs.declared.line.Operand.{Operand}
-use Rattle.lio_lines.specs.declared.line.Simple.{Simple}
-use Rattle.lio_lines.specs.declared.line.Simple.TheVariants as line
-use Rattle.lio_syntax.specs.Statements.{Statement, Statements}
-use Rattle.lio_syntax.specs.Statements as statement
-use Rattle.lio_cells.specs.State.{Reference, Variable, Result as result}
-use Rattle.lio_control.specs.Items.{Item, Do, Access, Mark, Back, Fail}
-use Rattle.lio_calculus.specs.Operands.{bound, seen_as, flag_of, reference_of, variable_of, result_of}
+use Rattle.lio_control.specs.Items.{Item}
 use Rattle.lio_calculus.specs.Task.{TaskState}
-use Rattle.lio_calculus.specs.Going.{Onward, Advance, BindReply, Seal, Release}
+use Rattle.lio_calculus.specs.Going.{Onward, Seal, Release}
 use Rattle.lio_calculus.specs.Guarded.{IsReleaseOf}
-use Rattle.lio_calculus.specs.Plan.{Program, Plan, Over, Own, Visit, Node, fault_at, ending, with_seen, choosing, looping, plan_statement, plan_access, plan_items, plan}
+use Rattle.lio_calculus.specs.Plan.{Program, Plan, Over, Own, Visit, plan}
 use Rattle.lio_calculus.proofs.Outcome.{Reads}
 use Rattle.lio_calculus.proofs.Outcome as out
 use Rattle.lio_calculus.proofs.PlanCases.{ItemsCase, Does, Visits, plan-by}

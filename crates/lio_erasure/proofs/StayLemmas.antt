@@ -20,7 +20,7 @@ use Rattle.lio_control.specs.Items.{Item, Do, Mark, Back, rest_of}
 use Rattle.lio_control.specs.Hiding.{hide_environment}
 use Rattle.lio_control.proofs.HidingLemmas.{enter-hidden}
 use Rattle.lio_calculus.specs.Task.{TaskState}
-use Rattle.lio_calculus.specs.Going.{Onward, Advance, Bind, Seal, Enter, Repeat, Try, Call, Return, Leave, Raise, RaiseTo, Unlabel, Lower, Release, HoldReference, HoldVariable, Fork, Spawn, BindReply, Throw, End, binding, given, released, taking, newest, gone, gone_on}
+use Rattle.lio_calculus.specs.Going.{Onward, Bind, Seal, Enter, Repeat, Try, Call, Return, Leave, Unlabel, Release, HoldReference, HoldVariable, Fork, BindReply, Throw, binding, given, released, taking, newest, gone, gone_on}
 use Rattle.lio_calculus.specs.Erased.{hide_state}
 use Rattle.lio_calculus.specs.Guarded.{IsReleaseOf}
 use Rattle.lio_calculus.specs.Hiding.{hide_asked, hide_onward, hide_plan, hide_task}
