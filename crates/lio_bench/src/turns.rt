@@ -1,6 +1,6 @@
 //! Turns of a task that counts, in the calculus and in the erased calculus, repeated.
 ghost use Rattle.std.specs.Prelude.{◌≡◌, IfOk};
-ghost use Rattle.lio_wellformed.specs.WellFormed.{IsWellFormed};
+ghost use Rattle.lio_calculus.specs.Sound.{IsSound};
 ghost use Rattle.lio_config.specs.Configuration.{configuration_of};
 
 use lio_clauses::NoMemory;
@@ -76,7 +76,7 @@ struct Counting {
 
 /// The first configuration of a script that fits a policy without inputs.
 fn started(alloc: Global, policy: &Policy, script: &Script) -> Result<Config, CountFault>
-    ensures { IfOk result (λ config. IsWellFormed (configuration_of script.now config)) }
+    ensures { IfOk result (λ config. IsSound (configuration_of script.now config)) }
 {
     if fits(policy, script).is_some() || !policy.inputs.as_slice().is_empty() {
         return Err(CountFault::Unfit);
@@ -86,7 +86,7 @@ fn started(alloc: Global, policy: &Policy, script: &Script) -> Result<Config, Co
 
 /// The task before its first turn, under a policy.
 fn first_under(alloc: Global, policy: &Policy) -> Result<Counting, CountFault>
-    ensures { IfOk result (λ counting. IsWellFormed (configuration_of counting.script counting.config)) }
+    ensures { IfOk result (λ counting. IsSound (configuration_of counting.script counting.config)) }
 {
     let script = read_script(alloc, SCRIPT, &policy.names).map_err(CountFault::Script)?;
     match started(alloc, policy, &script) {
@@ -100,7 +100,7 @@ fn first_under(alloc: Global, policy: &Policy) -> Result<Counting, CountFault>
 
 /// The task before its first turn.
 fn first(alloc: Global) -> Result<Counting, CountFault>
-    ensures { IfOk result (λ counting. IsWellFormed (configuration_of counting.script counting.config)) }
+    ensures { IfOk result (λ counting. IsSound (configuration_of counting.script counting.config)) }
 {
     let policy = read_policy(alloc, POLICY).map_err(CountFault::Policy)?;
     let counting = first_under(alloc, &policy);
@@ -110,7 +110,7 @@ fn first(alloc: Global) -> Result<Counting, CountFault>
 
 /// So many turns of the task.
 fn steps(alloc: Global, config: &mut Config, script: &Script, times: u32) -> Result<(), StepFault>
-    requires { IsWellFormed (configuration_of script.now config.old) }
+    requires { IsSound (configuration_of script.now config.old) }
 {
     for ticket in 0..times {
         let entry = config.step(alloc, script, TASK, ticket as u64)?;
@@ -140,7 +140,7 @@ fn turns(alloc: Global, low: &mut Low, times: u32) -> Result<(), LowFault> {
 
 /// What everyone sees of a script's first configuration, which takes turns.
 fn seen_by_all(alloc: Global, counting: Counting) -> Result<Low, NoMemory>
-    requires { IsWellFormed (configuration_of counting.script counting.config) }
+    requires { IsSound (configuration_of counting.script counting.config) }
 {
     let Counting { script, config } = counting;
     let longest = config.longest;

@@ -5,5 +5,5 @@ pub mod PairLemmas
 pub mod LentLemmas
 pub mod TurnLemmas
 pub mod PreviewLemmas
-pub mod WellFormedLemmas
+pub mod SoundLemmas
 pub mod PartLemmas

@@ -12,8 +12,7 @@ use Rattle.lio_calculus.specs.Sound.{IsSound, IsTaskOf}
 use Rattle.lio_calculus.specs.Step.{Cell, Configuration, Move, Turn, actor_after, blank, can, cell_at, entry_of, met_after, move_of, number_of, step, turn_of, with_cell}
 use Rattle.lio_calculus.specs.Meeting.{MeetsNode}
 use Rattle.lio_calculus.proofs.MeetingLemmas.{visit_meets_node}
-use Rattle.lio_calculus.proofs.TurnParts.{made_of}
-use Rattle.lio_schedule.proofs.TurnLemmas.{step-none}
+use Rattle.lio_calculus.proofs.TurnParts.{made_of, parts}
 use Rattle.lio_task.specs.declared.next.Next.TheVariants as next
 use Rattle.lio_task.specs.Next.{next_of, resumed_by}
 use Rattle.lio_config.specs.Laws.{StepIsMadeOfParts, actor_cell}
@@ -28,11 +27,13 @@ step-of ticket c k task move is moves =
 
 -- who can't take a turn has no step, with any ticket
 no-step : (ticket : ℕ) (c : Configuration) (k : ℕ) → can c k ≡ false → step ticket c k ≡ None
-no-step ticket c k still = step-none 0 ticket c k (by (step 0 c k) still)
+no-step ticket c k still = by (step ticket c k) refl
   where
-    by : (t : Option Turn) → is_some t ≡ false → t ≡ None
-    by None e = refl
-    by (Some turn) e = absurd (true≢false e)
+    by : (t : Option Turn) → step ticket c k ≡ t → step ticket c k ≡ None
+    by None e = e
+    by (Some turn) e =
+        let p = parts ticket c k turn e in
+        absurd (true≢false (sym (ap is_some (step-of 0 c k p.task p.move p.is p.moves)) ∙ still))
 
 own-step : (ticket : ℕ) (c : Configuration) (k : ℕ) (task : TaskState) (asked : Act) (reply : Reply) → IsTaskOf c k task → next_of c.program task ≡ next.Own asked reply
     → step ticket c k ≡ Some (record {

@@ -32,6 +32,6 @@ pub record IsMadeOfParts (ticket : ℕ) (c : Configuration) (k : ℕ) (task : Ta
         next = with_cell (with_cell c n (met_after c.program task.label asked (cell_at c n))) k (actor_cell c k task asked (answer (cell_at c n).state asked));
       })
 
--- in a well-formed configuration
+-- in a sound configuration
 abbrev pub StepIsMadeOfParts : Type 0
 StepIsMadeOfParts = (ticket : ℕ) (c : Configuration) (k : ℕ) (task : TaskState) → IsSound c → IsTaskOf c k task → IsMadeOfParts ticket c k task

@@ -58,7 +58,6 @@ impl Config {
     ghost use Rattle.lio_values.specs.declared.act.Reply.TheVariants.{Done as done};
     ghost use Rattle.lio_calculus.specs.Sound.{IsSound};
     ghost use Rattle.lio_calculus.specs.Step.{can};
-    ghost use Rattle.lio_wellformed.specs.WellFormed.{IsWellFormed};
     ghost use Rattle.lio_config.specs.Configuration.{configuration_of, task_in};
     ghost use Rattle.lio_config.specs.Takes.{PlansOwn, PlansVisit, Stays, Steps};
 
@@ -138,8 +137,8 @@ impl Config {
         actor.turn_meeting(alloc, script, ticket, k, met, n, act, onward)
     }
 
-    /// Takes one small step: the turn of task `k`, whose entry has this ticket. A well-formed configuration stays well-formed, with all parts.
-    /// After a refusal it is as before.
+    /// Takes one small step: the turn of task `k`, whose entry has this ticket. The configuration
+    /// stays sound. After a refusal it is as before.
     pub fn step(
         &mut self,
         alloc: Global,
@@ -149,7 +148,7 @@ impl Config {
     ) -> Result<Entry, StepFault>
         requires { IsSound (configuration_of script.now self.old) }
         ensures ok { IfOk result (Steps (configuration_of script.now self.old) (configuration_of script.now self.new) k ticket) }
-        ensures well_formed { OnOk result (IsWellFormed (configuration_of script.now self.old) → IsWellFormed (configuration_of script.now self.new)) }
+        ensures sound { OnOk result (IsSound (configuration_of script.now self.new)) }
         ensures fault { IfErr result (Stays (configuration_of script.now self.old) k) }
         ensures err { OnErr result (configuration_of script.now self.new ≡ configuration_of script.now self.old) }
     {

@@ -75,10 +75,9 @@ impl Config {
         }
     }
 
-    /// Whether task `k` is there and can take a turn. It takes no memory.
+    /// Tells whether task `k` is there and can take a turn. It takes no memory.
     pub fn can_move(&self, script: &Script, k: u32) -> bool
-        requires { IsSound (configuration_of script.now self.now) }
-        ensures { result ≡ can (configuration_of script.now self.now) k }
+        ensures { let here = configuration_of script.now self.now in IsSound here → result ≡ can here k }
     {
         match self.task(k) {
             Some(task) => self.can_go_on(task, task.status(script)),

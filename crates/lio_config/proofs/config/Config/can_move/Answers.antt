@@ -6,8 +6,9 @@ use Rattle.lio_config.proofs.MoveLemmas.{no-task-still}
 use Rattle.lio_config.proofs.config.Config.can_move.Goals as goal
 
 pub returns-in-Some : goal.returns-in-Some
-returns-in-Some c = c.can_go_on.ensures c.args.script.now c.args.k c.requires (sym c.task.ensures ∙ ap option_copied c.in-Some.is) c.status.ensures
+returns-in-Some c = λ sound.
+    c.can_go_on.ensures c.args.script.now c.args.k sound (sym c.task.ensures ∙ ap option_copied c.in-Some.is) c.status.ensures
 
 pub returns-in-None : goal.returns-in-None
-returns-in-None c =
+returns-in-None c = λ sound.
     sym (no-task-still (configuration_of c.args.script.now c.args.self.now) c.args.k (no-task-cell c.args.script.now c.args.self.now c.args.k (sym c.task.ensures ∙ ap option_copied c.in-None.is)))

@@ -15,7 +15,7 @@ use Rattle.lio_config.specs.Configuration.{configuration_of}
 use Rattle.lio_config.proofs.HolderLemmas.{no-task-cell, task-cell}
 use Rattle.lio_task.proofs.PlannedLemmas.{turn_afforded}
 use Rattle.lio_config.proofs.MoveLemmas.{no-task-still, over-still}
-use Rattle.lio_config.proofs.WellFormedLemmas.{step-well_formed}
+use Rattle.lio_config.proofs.SoundLemmas.{step-sound}
 use Rattle.lio_config.proofs.config.Config.step.Goals as goal
 
 pub returns-in_default-clause-fault : goal.returns-in_default-clause-fault
@@ -95,27 +95,27 @@ pub visit-requires-clause-can : goal.visit-requires-clause-can
 visit-requires-clause-can c =
     sym (c.can_go_on.ensures c.args.script.now c.args.k c.requires (sym c.task.ensures ∙ ap option_copied c.in-Some.is) (c.status_by.ensures c.args.script.now c.front-front.ensures)) ∙ c.if-not-can_go_on.false
 
-pub returns-in-Ok-Control-clause-well_formed : goal.returns-in-Ok-Control-clause-well_formed
-returns-in-Ok-Control-clause-well_formed c =
+pub returns-in-Ok-Control-clause-sound : goal.returns-in-Ok-Control-clause-sound
+returns-in-Ok-Control-clause-sound c =
     let script = c.args.script.now in
-    step-well_formed (configuration_of script c.args.self.now) (configuration_of script c.own_step.new.self) c.args.k c.args.ticket c.own_step.result c.own_step.ensures.ok
+    step-sound (configuration_of script c.args.self.now) (configuration_of script c.own_step.new.self) c.args.k c.args.ticket c.own_step.result c.requires c.own_step.ensures.ok
 
-pub returns-in_ok-act-in-Ok-Ends-clause-well_formed : goal.returns-in_ok-act-in-Ok-Ends-clause-well_formed
-returns-in_ok-act-in-Ok-Ends-clause-well_formed c =
+pub returns-in_ok-act-in-Ok-Ends-clause-sound : goal.returns-in_ok-act-in-Ok-Ends-clause-sound
+returns-in_ok-act-in-Ok-Ends-clause-sound c =
     let script = c.args.script.now in
-    step-well_formed (configuration_of script c.args.self.now) (configuration_of script c.own.new.self) c.args.k c.args.ticket c.own.result c.own.ensures.ok
+    step-sound (configuration_of script c.args.self.now) (configuration_of script c.own.new.self) c.args.k c.args.ticket c.own.result c.requires c.own.ensures.ok
 
-pub returns-in-Ok-Turn-Step-clause-well_formed : goal.returns-in-Ok-Turn-Step-clause-well_formed
-returns-in-Ok-Turn-Step-clause-well_formed c =
+pub returns-in-Ok-Turn-Step-clause-sound : goal.returns-in-Ok-Turn-Step-clause-sound
+returns-in-Ok-Turn-Step-clause-sound c =
     let script = c.args.script.now in
-    step-well_formed (configuration_of script c.args.self.now) (configuration_of script c.own_step-in-Ok-Turn-Step.new.self) c.args.k c.args.ticket c.own_step-in-Ok-Turn-Step.result c.own_step-in-Ok-Turn-Step.ensures.ok
+    step-sound (configuration_of script c.args.self.now) (configuration_of script c.own_step-in-Ok-Turn-Step.new.self) c.args.k c.args.ticket c.own_step-in-Ok-Turn-Step.result c.requires c.own_step-in-Ok-Turn-Step.ensures.ok
 
-pub returns-in-Ok-Turn-Own-clause-well_formed : goal.returns-in-Ok-Turn-Own-clause-well_formed
-returns-in-Ok-Turn-Own-clause-well_formed c =
+pub returns-in-Ok-Turn-Own-clause-sound : goal.returns-in-Ok-Turn-Own-clause-sound
+returns-in-Ok-Turn-Own-clause-sound c =
     let script = c.args.script.now in
-    step-well_formed (configuration_of script c.args.self.now) (configuration_of script c.own-in-Ok-Turn-Own.new.self) c.args.k c.args.ticket c.own-in-Ok-Turn-Own.result c.own-in-Ok-Turn-Own.ensures.ok
+    step-sound (configuration_of script c.args.self.now) (configuration_of script c.own-in-Ok-Turn-Own.new.self) c.args.k c.args.ticket c.own-in-Ok-Turn-Own.result c.requires c.own-in-Ok-Turn-Own.ensures.ok
 
-pub returns-in-Ok-Turn-Visit-clause-well_formed : goal.returns-in-Ok-Turn-Visit-clause-well_formed
-returns-in-Ok-Turn-Visit-clause-well_formed c =
+pub returns-in-Ok-Turn-Visit-clause-sound : goal.returns-in-Ok-Turn-Visit-clause-sound
+returns-in-Ok-Turn-Visit-clause-sound c =
     let script = c.args.script.now in
-    step-well_formed (configuration_of script c.args.self.now) (configuration_of script c.visit.new.self) c.args.k c.args.ticket c.visit.result c.visit.ensures.ok
+    step-sound (configuration_of script c.args.self.now) (configuration_of script c.visit.new.self) c.args.k c.args.ticket c.visit.result c.requires c.visit.ensures.ok
