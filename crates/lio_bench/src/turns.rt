@@ -9,8 +9,9 @@ use lio_draft::PolicyFault;
 use lio_erasure::{Low, LowFault, erase_config};
 use lio_labels::Label;
 use lio_policy::{Policy, read_policy};
-use lio_start::{fits, start};
+use lio_start::{Job, fits, start};
 use lio_syntax::{Script, ScriptFault, read_script};
+use lio_values::List;
 use lio_view::Contents;
 use std::alloc::Global;
 
@@ -74,38 +75,31 @@ struct Counting {
     config: Config,
 }
 
-/// The first configuration of a script that fits a policy without inputs.
-fn started(alloc: Global, policy: &Policy, script: &Script) -> Result<Config, CountFault>
-    ensures { IfOk result (λ config. IsSound (configuration_of script.now config)) }
-{
-    if fits(policy, script).is_some() || !policy.inputs.as_slice().is_empty() {
+/// Makes the job of a policy without inputs.
+fn job_of(alloc: Global, policy: Policy) -> Result<Job, CountFault> {
+    let script = read_script(alloc, SCRIPT, &policy.names).map_err(CountFault::Script)?;
+    if fits(&policy, &script).is_some() || !policy.inputs.as_slice().is_empty() {
         return Err(CountFault::Unfit);
     }
-    Ok(start(alloc, policy, script, &[])?)
+    Ok(Job::of(policy, script, List::new(alloc)))
 }
 
-/// The task before its first turn, under a policy.
-fn first_under(alloc: Global, policy: &Policy) -> Result<Counting, CountFault>
+/// Gives the task before its first turn.
+fn started(alloc: Global, job: &Job) -> Result<Counting, NoMemory>
     ensures { IfOk result (λ counting. IsSound (configuration_of counting.script counting.config)) }
 {
-    let script = read_script(alloc, SCRIPT, &policy.names).map_err(CountFault::Script)?;
-    match started(alloc, policy, &script) {
-        Ok(config) => Ok(Counting { script, config }),
-        Err(fault) => {
-            drop(script);
-            Err(fault)
-        }
-    }
+    let script = job.script().copy(alloc)?;
+    let config = start(alloc, job)?;
+    Ok(Counting { script, config })
 }
 
-/// The task before its first turn.
+/// Gives the task before its first turn.
 fn first(alloc: Global) -> Result<Counting, CountFault>
     ensures { IfOk result (λ counting. IsSound (configuration_of counting.script counting.config)) }
 {
     let policy = read_policy(alloc, POLICY).map_err(CountFault::Policy)?;
-    let counting = first_under(alloc, &policy);
-    drop(policy);
-    counting
+    let job = job_of(alloc, policy)?;
+    Ok(started(alloc, &job)?)
 }
 
 /// So many turns of the task.

@@ -5,20 +5,11 @@ use Rattle.lio_outside.specs.FileMap.{FileMap}
 use Rattle.lio_outside.specs.Count.{Rose}
 use Rattle.lio_outside.proofs.CountLemmas.{Rose-in_part, IsMissing-in_part}
 use Rattle.lio_values.specs.declared.entry.Entry.{Entry}
-use Rattle.lio_labels.specs.declared.label.Label.{Label}
-use Rattle.lio_start.specs.Start.{start_of}
-use Rattle.lio_config.specs.Configuration.{configuration_of}
-use Rattle.lio_powers.specs.Given.{powers_of}
-use Rattle.lio_powers.specs.Laws.{ReleasesByPowers}
-use Rattle.lio_run.specs.declared.by_rounds.Ran.{Ran}
-use Rattle.lio_calculus.specs.Laws.{RunSeenAs}
-use Rattle.lio_run.specs.Runs.{IsByRounds, IsCompleteRun, SeesChannels, ran_of}
-use Rattle.lio_main.specs.declared.job.Job.{Job}
+use Rattle.lio_start.specs.declared.job.Job.{Job}
 use Rattle.lio_status.specs.declared.status.HostStatus.{HostStatus}
 use Rattle.lio_status.specs.declared.status.HostStatus.TheVariants.{Done, BadWords, Missing, ReadFault, BadPolicy, BadScript, BadStart, WriteFault, NoMemory, Clash}
 use Rattle.lio_main.specs.Command.{Command, command_of}
 use Rattle.lio_main.specs.Preparing.{IsPrepared, PrepareSays}
-use Rattle.lio_main.specs.Headline.{IsRunOf, first_of}
 use Rattle.lio_main.specs.Verdict.{Fetched, found, prepared, verdict}
 use Rattle.lio_main.specs.Answers.{Call, IsVerdict, NothingDone, Refuses, RunsJob, Says, SaysNoMemory, WritesFirst, Follows, answer_of}
 
@@ -111,26 +102,6 @@ bad_words call status says = (words-bad call status says, only-bad_words call st
 pub says-same : (call : Call) (status got : HostStatus) → got ≡ status → Says call status → Says call got
 says-same call status got is says = subst (λ (s : HostStatus). Says call s) (sym is) says
 
--- a journal is a run of what the call is to do, and by rounds
-pub record HasRan (job : Job) (journal : List Entry) : Type 0 where
-  pub is_run : IsRunOf job journal
-  pub by_rounds : IsByRounds (first_of job) (record { entries = journal; last = is_run.last })
-
--- what is run of the texts of inputs is what is run of the call's inputs
-pub run-of : (job : Job) (texts : List (List ℕ)) (ran : Ran) → texts ≡ job.inputs → IsCompleteRun (start_of job.policy job.script texts) (ran_of job.script ran)
-    → ((observer : Label) → RunSeenAs observer (start_of job.policy job.script texts) (ran_of job.script ran)) → IsByRounds (start_of job.policy job.script texts) (ran_of job.script ran)
-    → ((observer : Label) → SeesChannels observer job.policy ran.journal) → ReleasesByPowers (powers_of job.policy) (ran_of job.script ran) → HasRan job ran.journal
-run-of job texts ran same is seen rounds channels powers = record {
-  is_run = record {
-    last = configuration_of job.script ran.config;
-    is_run = subst (λ (xs : List (List ℕ)). IsCompleteRun (start_of job.policy job.script xs) (ran_of job.script ran)) same is;
-    seen = λ observer. subst (λ (xs : List (List ℕ)). RunSeenAs observer (start_of job.policy job.script xs) (ran_of job.script ran)) same (seen observer);
-    channels = channels;
-    powers = powers;
-  };
-  by_rounds = subst (λ (xs : List (List ℕ)). IsByRounds (start_of job.policy job.script xs) (ran_of job.script ran)) same rounds;
-}
-
 -- what an answer says of a call stays so where more faults are counted
 abbrev later : Call → ℕ → Call
 later call faults = record call { faults_after = faults }
@@ -142,7 +113,7 @@ refuses-later : (call : Call) (faults : ℕ) (status : HostStatus) → Refuses c
 refuses-later call faults status refuses = record { verdict = refuses.verdict; nothing = nothing-later call faults refuses.nothing }
 
 runs-later : (call : Call) (faults : ℕ) (job : Job) (journal : List Entry) → RunsJob call job journal → RunsJob (later call faults) job journal
-runs-later call faults job journal runs = record { verdict = runs.verdict; is_run = runs.is_run; by_rounds = runs.by_rounds }
+runs-later call faults job journal runs = record { verdict = runs.verdict; last = runs.last; is_run = runs.is_run; by_rounds = runs.by_rounds }
 
 rose-later : (call : Call) (faults : ℕ) → call.faults_before ≤ call.faults_after → call.faults_after ≤ faults → Rose call.faults_before call.faults_after → Rose call.faults_before faults
 rose-later call faults first second rose = Rose-in_part call.faults_before call.faults_before call.faults_after faults (omega arith) first second rose

@@ -6,15 +6,17 @@ use Rattle.lio_outside.specs.Fetch.{IsMissing}
 use Rattle.lio_outside.specs.Count.{Rose}
 use Rattle.lio_front.specs.Laws.{HoldsEachChannel}
 use Rattle.lio_front.specs.Outputs.{kept, outputs, KeepsFirst, StopsAt}
-use Rattle.lio_main.specs.declared.job.Job.{Job}
+use Rattle.lio_calculus.specs.Step.{Configuration}
+use Rattle.lio_start.specs.Job.{first_of}
+use Rattle.lio_start.specs.declared.job.Job.{Job}
 use Rattle.lio_status.specs.declared.status.HostStatus.{HostStatus}
 use Rattle.lio_status.specs.declared.status.HostStatus.TheVariants.{Done, BadWords, Missing, ReadFault, BadPolicy, BadScript, BadStart, WriteFault, NoMemory, Clash}
 use Rattle.lio_status.specs.ExitStatus.{exit_status}
 use Rattle.lio_main.specs.Command.{Command, command_of}
 use Rattle.lio_main.specs.Preparing.{ReadsFile}
 use Rattle.lio_main.specs.Verdict.{Fetched, found, verdict}
+use Rattle.lio_run.specs.Headline.{IsRunOf}
 use Rattle.lio_run.specs.Runs.{IsByRounds}
-use Rattle.lio_main.specs.Headline.{IsRunOf, first_of}
 
 -- a call of the host: its words, what the store told of its files and how many faults it had counted, before and after
 -- the call, and the journal of the answer
@@ -45,8 +47,9 @@ pub record Refuses (call : Call) (status : HostStatus) : Type 0 where
 -- the journal is a complete run of what the verdict says, of which each observer sees what the erased calculus gives; and it is by rounds
 pub record RunsJob (call : Call) (job : Job) (journal : List Entry) : Type 0 where
   pub verdict : IsVerdict call.told_before call.words (Ok job)
-  pub is_run : IsRunOf job journal
-  pub by_rounds : IsByRounds (first_of job) (record { entries = journal; last = is_run.last })
+  pub last : Configuration
+  pub is_run : IsRunOf job (record { entries = journal; last = last })
+  pub by_rounds : IsByRounds (first_of job) (record { entries = journal; last = last })
 
 -- BadWords: the words name no policy and script
 pub record SaysBadWords (call : Call) : Type 0 where

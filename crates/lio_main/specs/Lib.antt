@@ -1,5 +1,4 @@
 pub mod Command
 pub mod Verdict
-pub mod Headline
 pub mod Answers
 pub mod Preparing

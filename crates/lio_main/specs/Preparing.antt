@@ -9,7 +9,7 @@ use Rattle.lio_front.specs.declared.loading.Front.{Front}
 use Rattle.lio_front.specs.Causes.{IsLoaded, InputsSay, IsRead, ReadsInput}
 use Rattle.lio_front.specs.Clash.{clash}
 use Rattle.lio_main.specs.declared.command.Command as declared_command
-use Rattle.lio_main.specs.declared.job.Job.{Job}
+use Rattle.lio_start.specs.declared.job.Job.{Job}
 use Rattle.lio_status.specs.declared.status.HostStatus.{HostStatus}
 use Rattle.lio_status.specs.declared.status.HostStatus.TheVariants.{Missing, ReadFault, BadPolicy, BadScript, BadStart, NoMemory, Clash}
 use Rattle.lio_main.specs.Command.{Command}

@@ -6,7 +6,7 @@ use Rattle.lio_front.specs.declared.loading.Front.{Front}
 use Rattle.lio_front.specs.Steps.{◌>>=◌, or_refused, unless, told_as}
 use Rattle.lio_front.specs.Loading.{loaded, texts_of, most_policy_bytes, most_script_bytes}
 use Rattle.lio_front.specs.Clash.{clash}
-use Rattle.lio_main.specs.declared.job.Job.{Job}
+use Rattle.lio_start.specs.declared.job.Job.{Job}
 use Rattle.lio_status.specs.declared.status.HostStatus.{HostStatus}
 use Rattle.lio_status.specs.declared.status.HostStatus.TheVariants.{BadWords, Clash}
 use Rattle.lio_status.specs.StatusOf.{status_of}

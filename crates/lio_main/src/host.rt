@@ -5,12 +5,11 @@ ghost use Rattle.lio_main.specs.Command.{command_of, bytes_of_words};
 ghost use Rattle.lio_main.specs.Answers.{Says, Follows};
 
 use crate::command::read_command;
-use crate::job::{Job, prepare};
+use crate::job::prepare;
 use lio_clauses::NoMemory;
 use lio_events::Journal;
 use lio_front::{OutFault, write_out};
 use lio_outside::Store;
-use lio_policy::laws::policy_keeps_rules;
 use lio_run::{Ran, run};
 use lio_status::HostStatus;
 use std::alloc::Global;
@@ -48,27 +47,20 @@ fn answer<S: Store>(alloc: Global, words: &[String], store: &mut S) -> Outcome
     let Some(command) = read_command(words) else {
         return refused(alloc, HostStatus::BadWords);
     };
-    let Job {
-        policy,
-        script,
-        inputs,
-    } = match prepare(alloc, store, command) {
+    let job = match prepare(alloc, store, command) {
         Ok(job) => job,
         Err(status) => return refused(alloc, status),
     };
-    policy_keeps_rules(&policy);
-    let ran = run(alloc, &policy, script, inputs.as_slice());
-    drop(inputs);
-    let Ran { journal, config } = match ran {
+    let Ran { journal, config } = match run(alloc, &job) {
         Ok(ran) => ran,
         Err(NoMemory) => {
-            drop(policy);
+            drop(job);
             return refused(alloc, HostStatus::NoMemory);
         }
     };
     drop(config);
-    let written = write_out(alloc, store, &policy, &journal);
-    drop(policy);
+    let written = write_out(alloc, store, job.policy(), &journal);
+    drop(job);
     match written {
         Ok(()) => Outcome {
             status: HostStatus::Done,

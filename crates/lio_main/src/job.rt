@@ -1,28 +1,18 @@
 //! What a call is to run: the policy, the script and the inputs that its words name.
 
 ghost use Rattle.std.specs.Prelude.{◌≡◌, ◌≤◌, Ok, IfOk, IfErr, None, length};
-ghost use Rattle.lio_syntax.specs.Verdict.{IsOver};
-ghost use Rattle.lio_start.specs.Fits.{fits};
 ghost use Rattle.lio_front.specs.Causes.{AreInputs};
 ghost use Rattle.lio_front.specs.Clash.{clash};
 ghost use Rattle.lio_main.specs.Preparing.{named, IsPrepared, PrepareSays, TakingSays};
 
 use crate::command::Command;
-use lio_front::{clash as find_clash, load, load_inputs};
+use lio_front::{Front, clash as find_clash, load, load_inputs};
 use lio_outside::Store;
 use lio_policy::Policy;
+use lio_start::Job;
 use lio_status::HostStatus;
-use lio_syntax::Script;
 use lio_values::{List, Text};
 use std::alloc::Global;
-
-/// A script, the policy under which it runs, and the texts of the policy's inputs.
-#[derive(Drop)]
-pub struct Job {
-    pub policy: Policy,
-    pub script: Script,
-    pub inputs: List<Text>,
-}
 
 /// Sees that no file that is written is taken, and fetches the inputs. The store's files stay.
 fn take_inputs<S: Store>(
@@ -55,23 +45,11 @@ pub fn prepare<S: Store>(
     ensures files { S.holds store.new ≡ S.holds store.old }
     ensures count { S.faults store.old ≤ S.faults store.new }
     ensures ok { IfOk result (λ job. IsPrepared (S.holds store.old) (named command.entry) (Ok job)) }
-    ensures fits { IfOk result (λ job. fits job.policy.tasks job.script ≡ None) }
-    ensures over { IfOk result (λ job. IsOver job.policy.names job.script) }
-    ensures inputs { IfOk result (λ job. length job.inputs ≡ length job.policy.inputs) }
     ensures err { IfErr result (PrepareSays (S.holds store.old) (named command.entry) (S.faults store.old) (S.faults store.new)) }
 {
     let policy_file = command.policy.as_bytes();
     let script_file = command.script.as_bytes();
-    let front = load(alloc, store, policy_file, script_file)?;
-    match take_inputs(alloc, store, policy_file, script_file, &front.policy) {
-        Ok(inputs) => Ok(Job {
-            policy: front.policy,
-            script: front.script,
-            inputs,
-        }),
-        Err(status) => {
-            drop(front);
-            Err(status)
-        }
-    }
+    let Front { policy, script } = load(alloc, store, policy_file, script_file)?;
+    let inputs = take_inputs(alloc, store, policy_file, script_file, &policy)?;
+    Ok(Job::of(policy, script, inputs))
 }

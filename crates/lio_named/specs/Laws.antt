@@ -18,7 +18,7 @@ pub record IsTurnNamed (names : List (List ℕ)) (turn : Turn) : Type 0 where
   pub entry : IsPrintable names turn.entry
   pub next : NamesOnly names turn.next
 
--- a turn of a configuration that names only principals that have names, well-formed or not
+-- a turn of a configuration that names only principals that have names, sound or not
 abbrev pub TurnNamesOnly : Type 0
 TurnNamesOnly = (names : List (List ℕ)) (ticket : ℕ) (c : Configuration) (k : ℕ) (turn : Turn)
     → NamesOnly names c → step ticket c k ≡ Some turn → IsTurnNamed names turn

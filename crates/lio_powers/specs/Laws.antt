@@ -16,7 +16,7 @@ pub record ReleasesByPowers (powers : List Priv) (ran : Ran) : Type 0 where
   pub entries : All (IsReleasedBy powers) ran.entries
   pub last : PowersAreAmong powers ran.last
 
--- where each privilege in a well-formed configuration is among some, a run from it releases by these alone
+-- where each privilege in a sound configuration is among some, a run from it releases by these alone
 abbrev pub RunReleasesByPowers : Type 0
 RunReleasesByPowers = (powers : List Priv) (ticket : ℕ) (c : Configuration) (ks : List ℕ) (ran : Ran)
     → IsSound c → PowersAreAmong powers c → run ticket c ks ≡ Some ran → ReleasesByPowers powers ran

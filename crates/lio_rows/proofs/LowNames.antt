@@ -7,12 +7,9 @@ use Rattle.lio_values.specs.declared.entry.Entry.{Entry}
 use Rattle.lio_events.specs.Named.{IsContentNamed}
 use Rattle.lio_events.specs.Printable.{IsPrintable}
 use Rattle.lio_syntax.specs.Statements.{Procedure}
-use Rattle.lio_syntax.specs.Verdict.{IsOver}
 use Rattle.lio_calculus.specs.Step.{Configuration}
 use Rattle.lio_calculus.specs.Erased.{LowTurn, erase}
-use Rattle.lio_policy.specs.Policy.{PolicyParts, IsPolicy}
-use Rattle.lio_start.specs.Laws.{SaysLiterals}
-use Rattle.lio_start.specs.Start.{start_of}
+use Rattle.lio_start.specs.Job.{IsJob, JobParts, first_of}
 use Rattle.lio_start.proofs.LawLemmas.{start_is_sound}
 use Rattle.lio_named.specs.Configuration.{NamesOnly}
 use Rattle.lio_named.proofs.LowTurns.{erased_names_only, low_turn_names_only}
@@ -23,21 +20,21 @@ use Rattle.lio_erasure.specs.Low.{IsSeenOfSound, low_configuration_of}
 use Rattle.lio_erasure.specs.LowParts.{ErasedState}
 use Rattle.lio_erasure.specs.Turn.{TakesTurn}
 
--- what an equal observer sees of the first configuration, with an equal length
-pub seen_by : (policy : PolicyParts) (script : List Procedure) (texts : List (List ℕ)) (observer other : Label) (longest : ℕ) (seen : List (Option Holder)) → longest ≡ policy.longest → other ≡ observer
-    → low_configuration_of script policy.longest seen ≡ erase observer (start_of policy script texts) → low_configuration_of script longest seen ≡ erase other (start_of policy script texts)
-seen_by policy script texts observer other longest seen same equal e =
-    ap (λ (n : ℕ). low_configuration_of script n seen) same ∙ e ∙ ap (λ (label : Label). erase label (start_of policy script texts)) (sym equal)
+-- what an observer sees of the first configuration, with an equal script and an equal length
+pub seen_by : (job : JobParts) (script : List Procedure) (observer : Label) (longest : ℕ) (seen : List (Option Holder)) → script ≡ job.script → longest ≡ job.policy.longest
+    → low_configuration_of job.script job.policy.longest seen ≡ erase observer (first_of job) → low_configuration_of script longest seen ≡ erase observer (first_of job)
+seen_by job script observer longest seen same equal e =
+    ap (λ (s : List Procedure). low_configuration_of s longest seen) same ∙ ap (λ (n : ℕ). low_configuration_of job.script n seen) equal ∙ e
 
 -- what an observer sees of the first configuration
-pub seen_is_of_sound : (policy : PolicyParts) (script : List Procedure) (texts : List (List ℕ)) (observer : Label) (seen : Configuration) → IsPolicy policy → SaysLiterals script
-    → seen ≡ erase observer (start_of policy script texts) → IsSeenOfSound observer seen
-seen_is_of_sound policy script texts observer seen is said e = record { whole = start_of policy script texts; sound = start_is_sound policy script texts is said; seen = e }
+pub seen_is_of_sound : (job : JobParts) (observer : Label) (seen : Configuration) → IsJob job → seen ≡ erase observer (first_of job) → IsSeenOfSound observer seen
+seen_is_of_sound job observer seen is e =
+    record { whole = first_of job; sound = start_is_sound job.policy job.script job.inputs is.policy is.literals; seen = e }
 
-pub seen_names_only : (policy : PolicyParts) (script : List Procedure) (texts : List (List ℕ)) (observer : Label) (seen : Configuration) → IsPolicy policy → IsOver policy.names script
-    → seen ≡ erase observer (start_of policy script texts) → NamesOnly policy.names seen
-seen_names_only policy script texts observer seen is over e =
-    subst (NamesOnly policy.names) (sym e) (erased_names_only policy.names observer (start_of policy script texts) (start_names_only policy script texts is over))
+pub seen_names_only : (job : JobParts) (observer : Label) (seen : Configuration) → IsJob job → seen ≡ erase observer (first_of job) → NamesOnly job.policy.names seen
+seen_names_only job observer seen is e =
+    subst (NamesOnly job.policy.names) (sym e)
+    (erased_names_only job.policy.names observer (first_of job) (start_names_only job.policy job.script job.inputs is.policy is.over))
 
 -- what is answered where a task is asked for a turn: its entry can be printed, and what it leaves names only principals that have names
 pub record IsTakenNamed (names : List (List ℕ)) (state : ErasedState) (contents : List Content) (result : Result Entry LowFault) : Type 0 where

@@ -1,18 +1,16 @@
 //! Commands on turns of the erased calculus.
-ghost use Rattle.std.specs.Prelude.{◌≡◌, All, IfOk, None, length};
+ghost use Rattle.std.specs.Prelude.{◌≡◌, All, IfOk};
 ghost use Rattle.lio_events.specs.Named.{IsContentNamed};
 ghost use Rattle.lio_events.specs.Printable.{IsPrintable};
 ghost use Rattle.lio_calculus.specs.Erased.{erase};
 ghost use Rattle.lio_config.specs.Configuration.{configuration_of};
-ghost use Rattle.lio_start.specs.Fits.{fits};
-ghost use Rattle.lio_start.specs.Start.{start_of};
-ghost use Rattle.lio_syntax.specs.Verdict.{IsOver};
+ghost use Rattle.lio_start.specs.Job.{first_of};
 ghost use Rattle.lio_named.specs.Configuration.{NamesOnly};
 ghost use Rattle.lio_erasure.specs.Low.{LeavesOutBlanks, low_configuration_of};
 ghost use Rattle.lio_erasure.specs.LowParts.{low_of};
 
 use crate::refusal::{Answered, Refusal};
-use crate::runs::{Source, prepared, read_viewer, released};
+use crate::runs::{Source, read_viewer, released};
 use crate::turns::push_refused;
 use lio_clauses::{Names, NoMemory};
 use lio_commands::Answer;
@@ -21,11 +19,8 @@ use lio_erasure::{Low, LowConfig, LowFault, erase_config};
 use lio_events::print_entry;
 use lio_fields::read_numbers;
 use lio_labels::Label;
-use lio_policy::Policy;
-use lio_policy::laws::policy_keeps_rules;
-use lio_start::start;
-use lio_syntax::Script;
-use lio_values::{Entry, Text};
+use lio_start::{Job, start};
+use lio_values::Entry;
 use lio_view::Contents;
 use std::alloc::{AllocError, Global};
 use std::fmt::Write;
@@ -58,71 +53,36 @@ pub fn answer(alloc: Global, word: &str, fields: &[Vec<u8>]) -> Answered {
     }
 }
 
-/// A copy of the first configuration.
-fn copied_start(
-    alloc: Global,
-    policy: &Policy,
-    script: &Script,
-    texts: &[Text],
-) -> Result<Config, NoMemory>
-    requires fits { fits policy.now.tasks script.now ≡ None }
-    requires inputs { length texts.now ≡ length policy.now.inputs }
-    ensures { IfOk result (λ config. configuration_of script.now config ≡ start_of policy.now script.now texts.now) }
+/// Copies the first configuration.
+fn copied_start(alloc: Global, job: &Job) -> Result<Config, NoMemory>
+    ensures { IfOk result (λ config. configuration_of job.now.script config ≡ first_of job.now) }
 {
-    let config = start(alloc, policy, script, texts)?;
+    let config = start(alloc, job)?;
     let copy = config.copy(alloc);
     drop(config);
     copy
 }
 
-/// What an observer sees of the first configuration.
-fn seen_start(
-    alloc: Global,
-    policy: &Policy,
-    script: &Script,
-    texts: &[Text],
-    observer: &Label,
-) -> Result<LowConfig, NoMemory>
-    requires fits { fits policy.now.tasks script.now ≡ None }
-    requires inputs { length texts.now ≡ length policy.now.inputs }
-    ensures seen { IfOk result (λ seen. low_configuration_of script.now policy.now.longest seen ≡ erase observer.now (start_of policy.now script.now texts.now)) }
+/// Gives what an observer sees of the first configuration.
+fn seen_start(alloc: Global, job: &Job, observer: &Label) -> Result<LowConfig, NoMemory>
+    ensures seen { IfOk result (λ seen. low_configuration_of job.now.script job.now.policy.longest seen ≡ erase observer.now (first_of job.now)) }
     ensures kept { IfOk result LeavesOutBlanks }
 {
-    let config = copied_start(alloc, policy, script, texts)?;
+    let config = copied_start(alloc, job)?;
     let seen = erase_config(alloc, &config, observer);
     drop(config);
     seen
 }
 
-/// The erased calculus, from what an observer sees of the first configuration.
-fn low_start(
-    alloc: Global,
-    policy: &Policy,
-    script: Script,
-    texts: &[Text],
-    observer: &Label,
-) -> Result<Low, NoMemory>
-    requires fits { fits policy.now.tasks script ≡ None }
-    requires over { IsOver policy.now.names script }
-    requires inputs { length texts.now ≡ length policy.now.inputs }
-    ensures { IfOk result (λ low. NamesOnly policy.now.names (low_of low).configuration) }
+/// Gives the erased calculus, from what an observer sees of the first configuration.
+fn low_start(alloc: Global, job: &Job, observer: &Label) -> Result<Low, NoMemory>
+    ensures { IfOk result (λ low. NamesOnly job.now.policy.names (low_of low).configuration) }
 {
-    policy_keeps_rules(policy);
-    let _ = script.lines();
-    match seen_start(alloc, policy, &script, texts, observer) {
-        Ok(seen) => match observer.copy(alloc) {
-            Ok(observer) => Ok(Low::new(seen, observer, script, policy.longest)),
-            Err(error) => {
-                drop(seen);
-                drop(script);
-                Err(error)
-            }
-        },
-        Err(error) => {
-            drop(script);
-            Err(error)
-        }
-    }
+    let policy = job.policy();
+    let script = job.script().copy(alloc)?;
+    let observer = observer.copy(alloc)?;
+    let seen = seen_start(alloc, job, &observer)?;
+    Ok(Low::new(seen, observer, script, policy.longest))
 }
 
 /// The turn of a task. It names only principals that have names.
@@ -216,50 +176,29 @@ fn cells(
     Ok(kept(alloc, low.config().as_slice())?)
 }
 
-/// The contents that an observer is told: those that the run by rounds releases to it, or none.
-fn told(
-    alloc: Global,
-    policy: &Policy,
-    observer: &Label,
-    source: Source<'_>,
-    asked: Asked,
-) -> Result<Contents, Refusal>
-    ensures { IfOk result (All (IsContentNamed policy.now.names)) }
+/// Gives the contents that an observer is told: those that the run by rounds releases to it, or none.
+fn told(alloc: Global, job: &Job, observer: &Label, asked: Asked) -> Result<Contents, Refusal>
+    ensures { IfOk result (All (IsContentNamed job.now.policy.names)) }
 {
     match asked {
         Asked::TurnsUntold => Ok(Contents::new(alloc)),
-        Asked::Turns | Asked::Cells => released(alloc, policy, observer, source),
+        Asked::Turns | Asked::Cells => released(alloc, job, observer),
     }
 }
 
-/// The erased calculus at the start of the run.
-fn begun(
-    alloc: Global,
-    policy: &Policy,
-    observer: &Label,
-    source: Source<'_>,
-) -> Result<Low, Refusal>
-    ensures { IfOk result (λ low. NamesOnly policy.now.names (low_of low).configuration) }
-{
-    let (script, texts) = prepared(alloc, policy, source)?;
-    let low = low_start(alloc, policy, script, texts.as_slice(), observer);
-    drop(texts);
-    Ok(low?)
-}
-
-/// What is asked after turns of tasks from the start of the run, with these contents.
+/// Gives what is asked after turns of tasks from the start of the run, with these contents.
 fn asked_with(
     alloc: Global,
-    policy: &Policy,
+    job: &Job,
     observer: &Label,
     contents: &mut Contents,
     schedule: &[u32],
-    source: Source<'_>,
     asked: Asked,
 ) -> Result<Vec<u8>, Refusal>
-    requires { All (IsContentNamed policy.now.names) contents.old }
+    requires { All (IsContentNamed job.now.policy.names) contents.old }
 {
-    let mut low = begun(alloc, policy, observer, source)?;
+    let mut low = low_start(alloc, job, observer)?;
+    let policy = job.policy();
     let text = match asked {
         Asked::Cells => cells(alloc, &mut low, contents, schedule),
         Asked::Turns | Asked::TurnsUntold => {
@@ -270,25 +209,17 @@ fn asked_with(
     text
 }
 
-/// What is asked after turns of tasks from the start of the run, with the contents that the observer is told.
+/// Gives what is asked after turns of tasks from the start of the run, with the contents that the
+/// observer is told.
 fn asked_of(
     alloc: Global,
-    policy: &Policy,
+    job: &Job,
     observer: &Label,
     schedule: &[u32],
-    source: Source<'_>,
     asked: Asked,
 ) -> Result<Answer, Refusal> {
-    let mut contents = told(alloc, policy, observer, source, asked)?;
-    let text = asked_with(
-        alloc,
-        policy,
-        observer,
-        &mut contents,
-        schedule,
-        source,
-        asked,
-    );
+    let mut contents = told(alloc, job, observer, asked)?;
+    let text = asked_with(alloc, job, observer, &mut contents, schedule, asked);
     drop(contents);
     Ok(Answer::Text(text?))
 }
@@ -304,13 +235,6 @@ fn low(
     source: Source<'_>,
 ) -> Result<Answer, Refusal> {
     let schedule = read_numbers(alloc, actors)?;
-    let seen = read_viewer(alloc, label, json)?;
-    asked_of(
-        alloc,
-        &seen.policy,
-        &seen.observer,
-        schedule.as_slice(),
-        source,
-        asked,
-    )
+    let it = read_viewer(alloc, label, json, source)?;
+    asked_of(alloc, &it.job, &it.observer, schedule.as_slice(), asked)
 }

@@ -12,9 +12,9 @@ use lio_events::{Journal, print_content, print_journal};
 use lio_labels::Label;
 use lio_policy::{Policy, read_policy};
 use lio_run::{Ran, run};
-use lio_start::fits;
+use lio_start::{Job, fits};
 use lio_syntax::{Script, read_script};
-use lio_values::{Act, Content, Entry, Text};
+use lio_values::{Act, Content, Entry, List, Text};
 use lio_view::{Contents, releases, view};
 use std::alloc::{AllocError, Global};
 
@@ -42,28 +42,28 @@ pub fn answer(alloc: Global, names: &Names, word: &str, fields: &[Vec<u8>]) -> A
     }
 }
 
-/// The texts of inputs.
-fn texts_of(alloc: Global, inputs: &[Vec<u8>]) -> Result<Vec<Text>, NoMemory> {
-    let mut texts = Vec::new(alloc);
+/// Gives the texts of inputs.
+fn texts_of(alloc: Global, inputs: &[Vec<u8>]) -> Result<List<Text>, NoMemory> {
+    let mut texts = List::new(alloc);
     for input in inputs {
         texts.push(Text::of(alloc, input)?)?;
     }
     Ok(texts)
 }
 
-/// The texts of a policy's inputs.
-fn inputs_of(alloc: Global, policy: &Policy, inputs: &[Vec<u8>]) -> Result<Vec<Text>, Refusal>
-    ensures { IfOk result (λ texts. length texts.items ≡ length policy.now.inputs) }
+/// Gives the texts of a policy's inputs.
+fn inputs_of(alloc: Global, policy: &Policy, inputs: &[Vec<u8>]) -> Result<List<Text>, Refusal>
+    ensures { IfOk result (λ texts. length texts ≡ length policy.now.inputs) }
 {
     let texts = texts_of(alloc, inputs)?;
-    if texts.len() == policy.inputs.as_slice().len() {
+    if texts.as_slice().len() == policy.inputs.as_slice().len() {
         Ok(texts)
     } else {
         Err(Refusal::Inputs)
     }
 }
 
-/// A script that fits a policy.
+/// Reads a script that fits a policy.
 fn script_of(alloc: Global, policy: &Policy, script: &[u8]) -> Result<Script, Refusal>
     ensures fits { IfOk result (λ script. fits policy.now.tasks script ≡ None) }
     ensures over { IfOk result (IsOver policy.now.names) }
@@ -78,41 +78,32 @@ fn script_of(alloc: Global, policy: &Policy, script: &[u8]) -> Result<Script, Re
     }
 }
 
-/// A script that fits a policy, and the texts of the policy's inputs.
-pub fn prepared(
-    alloc: Global,
-    policy: &Policy,
-    source: Source<'_>,
-) -> Result<(Script, Vec<Text>), Refusal>
-    ensures fits { IfOk result (λ it. fits policy.now.tasks it.0 ≡ None) }
-    ensures over { IfOk result (λ it. IsOver policy.now.names it.0) }
-    ensures inputs { IfOk result (λ it. length it.1.items ≡ length policy.now.inputs) }
-{
-    let script = script_of(alloc, policy, source.script)?;
-    match inputs_of(alloc, policy, source.inputs) {
-        Ok(texts) => Ok((script, texts)),
-        Err(refusal) => {
-            drop(script);
-            Err(refusal)
-        }
-    }
+/// Reads what is run under a policy.
+fn job_of(alloc: Global, policy: Policy, source: Source<'_>) -> Result<Job, Refusal> {
+    let script = script_of(alloc, &policy, source.script)?;
+    let inputs = inputs_of(alloc, &policy, source.inputs)?;
+    Ok(Job::of(policy, script, inputs))
 }
 
-/// The journal of the run by rounds of a script under a policy.
-fn journal_of(alloc: Global, policy: &Policy, source: Source<'_>) -> Result<Journal, Refusal>
-    ensures { IfOk result (λ journal. All (IsPrintable policy.now.names) journal) }
+/// Reads a policy, and what is run under it.
+pub fn read_job(alloc: Global, json: &[u8], source: Source<'_>) -> Result<Job, Refusal> {
+    let policy = read_policy(alloc, json)?;
+    job_of(alloc, policy, source)
+}
+
+/// Gives the journal of the run by rounds of a job.
+fn journal_of(alloc: Global, job: &Job) -> Result<Journal, Refusal>
+    ensures { IfOk result (λ journal. All (IsPrintable job.now.policy.names) journal) }
 {
-    let (script, texts) = prepared(alloc, policy, source)?;
-    let ran = run(alloc, policy, script, texts.as_slice());
-    drop(texts);
-    let Ran { journal, config } = ran?;
+    let Ran { journal, config } = run(alloc, job)?;
     drop(config);
     Ok(journal)
 }
 
-/// The history of a run.
-fn history_of(alloc: Global, policy: &Policy, source: Source<'_>) -> Result<Answer, Refusal> {
-    let journal = journal_of(alloc, policy, source)?;
+/// Gives the history of a run.
+fn history_of(alloc: Global, job: &Job) -> Result<Answer, Refusal> {
+    let journal = journal_of(alloc, job)?;
+    let policy = job.policy();
     let text = print_journal(alloc, &journal, true, &policy.names);
     drop(journal);
     Ok(Answer::Text(text?))
@@ -120,30 +111,31 @@ fn history_of(alloc: Global, policy: &Policy, source: Source<'_>) -> Result<Answ
 
 /// `run JSON SCRIPT INPUT ..`: the history of the run.
 fn history(alloc: Global, json: &[u8], source: Source<'_>) -> Result<Answer, Refusal> {
-    let policy = read_policy(alloc, json)?;
-    history_of(alloc, &policy, source)
+    let job = read_job(alloc, json, source)?;
+    history_of(alloc, &job)
 }
 
-/// A policy, and the label of an observer over its principals.
+/// What is run, and the label of an observer over the principals of its policy.
 #[derive(Drop)]
 pub struct Viewer {
-    pub policy: Policy,
+    pub job: Job,
     pub observer: Label,
 }
 
-/// The policy of a text, and the label of a text over its principals.
-pub fn read_viewer(alloc: Global, label: &[u8], json: &[u8]) -> Result<Viewer, Refusal> {
+/// Reads a policy, the label of an observer over its principals, and what is run under the policy.
+pub fn read_viewer(
+    alloc: Global,
+    label: &[u8],
+    json: &[u8],
+    source: Source<'_>,
+) -> Result<Viewer, Refusal> {
     let policy = read_policy(alloc, json)?;
-    match Label::read(alloc, label, &policy.names) {
-        Ok(observer) => Ok(Viewer { policy, observer }),
-        Err(fault) => {
-            drop(policy);
-            Err(Refusal::from(fault))
-        }
-    }
+    let observer = Label::read(alloc, label, &policy.names)?;
+    let job = job_of(alloc, policy, source)?;
+    Ok(Viewer { job, observer })
 }
 
-/// The view of a journal, as text.
+/// Gives the view of a journal, as text.
 fn view_of(
     alloc: Global,
     journal: &Journal,
@@ -156,14 +148,10 @@ fn view_of(
     print_journal(alloc, &seen, false, names)
 }
 
-/// The view of a run at an observer's label.
-fn seen_of(
-    alloc: Global,
-    policy: &Policy,
-    observer: &Label,
-    source: Source<'_>,
-) -> Result<Answer, Refusal> {
-    let journal = journal_of(alloc, policy, source)?;
+/// Gives the view of a run at an observer's label.
+fn seen_of(alloc: Global, job: &Job, observer: &Label) -> Result<Answer, Refusal> {
+    let journal = journal_of(alloc, job)?;
+    let policy = job.policy();
     let text = view_of(alloc, &journal, observer, &policy.names);
     drop(journal);
     Ok(Answer::Text(text?))
@@ -171,8 +159,8 @@ fn seen_of(
 
 /// `view LABEL JSON SCRIPT INPUT ..`: the view of the run at the label.
 fn seen(alloc: Global, label: &[u8], json: &[u8], source: Source<'_>) -> Result<Answer, Refusal> {
-    let it = read_viewer(alloc, label, json)?;
-    seen_of(alloc, &it.policy, &it.observer, source)
+    let it = read_viewer(alloc, label, json, source)?;
+    seen_of(alloc, &it.job, &it.observer)
 }
 
 /// The lines of contents.
@@ -187,29 +175,20 @@ fn lines_of(alloc: Global, contents: &[Content], names: &Names) -> Result<Vec<u8
     Ok(text)
 }
 
-/// The contents that the run by rounds releases to an observer.
-pub fn released(
-    alloc: Global,
-    policy: &Policy,
-    observer: &Label,
-    source: Source<'_>,
-) -> Result<Contents, Refusal>
-    ensures { IfOk result (All (IsContentNamed policy.now.names)) }
+/// Gives the contents that the run by rounds releases to an observer.
+pub fn released(alloc: Global, job: &Job, observer: &Label) -> Result<Contents, Refusal>
+    ensures { IfOk result (All (IsContentNamed job.now.policy.names)) }
 {
-    let journal = journal_of(alloc, policy, source)?;
+    let journal = journal_of(alloc, job)?;
     let contents = releases(alloc, &journal, observer);
     drop(journal);
     Ok(contents?)
 }
 
-/// The contents that a run releases to an observer, as text.
-fn told_of(
-    alloc: Global,
-    policy: &Policy,
-    observer: &Label,
-    source: Source<'_>,
-) -> Result<Answer, Refusal> {
-    let contents = released(alloc, policy, observer, source)?;
+/// Gives the contents that a run releases to an observer, as text.
+fn told_of(alloc: Global, job: &Job, observer: &Label) -> Result<Answer, Refusal> {
+    let contents = released(alloc, job, observer)?;
+    let policy = job.policy();
     let text = lines_of(alloc, contents.as_slice(), &policy.names);
     drop(contents);
     Ok(Answer::Text(text?))
@@ -217,8 +196,8 @@ fn told_of(
 
 /// `releases LABEL JSON SCRIPT INPUT ..`: the contents that the run releases to the label.
 fn told(alloc: Global, label: &[u8], json: &[u8], source: Source<'_>) -> Result<Answer, Refusal> {
-    let it = read_viewer(alloc, label, json)?;
-    told_of(alloc, &it.policy, &it.observer, source)
+    let it = read_viewer(alloc, label, json, source)?;
+    told_of(alloc, &it.job, &it.observer)
 }
 
 /// The names of principals as a policy lists them.
@@ -273,13 +252,10 @@ fn last_ended(alloc: Global, journal: &Journal, names: &Names) -> Result<Answer,
     }
 }
 
-/// The content with which a script ends the one task of a policy.
-fn ended_by(alloc: Global, policy: &Policy, script: &[u8]) -> Result<Answer, Refusal> {
-    let source = Source {
-        script,
-        inputs: &[],
-    };
-    let journal = journal_of(alloc, policy, source)?;
+/// Gives the content with which the last turn of a job's run ends a task.
+fn ended_by(alloc: Global, job: &Job) -> Result<Answer, Refusal> {
+    let journal = journal_of(alloc, job)?;
+    let policy = job.policy();
     last_ended(alloc, &journal, &policy.names)
 }
 
@@ -290,5 +266,10 @@ fn eval(alloc: Global, names: &Names, expression: &[u8]) -> Result<Answer, Refus
     }
     let script = task_script(alloc, expression)?;
     let policy = task_policy(alloc, names)?;
-    ended_by(alloc, &policy, script.as_slice())
+    let source = Source {
+        script: script.as_slice(),
+        inputs: &[],
+    };
+    let job = job_of(alloc, policy, source)?;
+    ended_by(alloc, &job)
 }

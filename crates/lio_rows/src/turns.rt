@@ -3,12 +3,12 @@ ghost use Rattle.std.specs.Prelude.{All, IfOk};
 ghost use Rattle.lio_events.specs.Printable.{IsPrintable};
 
 use crate::refusal::{Answered, Refusal};
-use crate::runs::{Source, prepared};
+use crate::runs::{Source, read_job};
 use lio_commands::Answer;
 use lio_events::{Journal, print_journal};
 use lio_fields::read_numbers;
-use lio_policy::{Policy, read_policy};
 use lio_run::{Ran, Scheduled, run_by_schedule};
+use lio_start::Job;
 use std::alloc::{AllocError, Global};
 
 /// What a command on turns answers, if the word and the number of fields are those of one.
@@ -38,19 +38,11 @@ struct Taken {
     taken: Vec<bool>,
 }
 
-/// The turns of the tasks of a schedule, of a script under a policy.
-fn turns_of(
-    alloc: Global,
-    policy: &Policy,
-    source: Source<'_>,
-    schedule: &[u32],
-) -> Result<Taken, Refusal>
-    ensures { IfOk result (λ taken. All (IsPrintable policy.now.names) taken.journal) }
+/// Takes the turns of the tasks of a schedule.
+fn turns_of(alloc: Global, job: &Job, schedule: &[u32]) -> Result<Taken, Refusal>
+    ensures { IfOk result (λ taken. All (IsPrintable job.now.policy.names) taken.journal) }
 {
-    let (script, texts) = prepared(alloc, policy, source)?;
-    let scheduled = run_by_schedule(alloc, policy, script, texts.as_slice(), schedule);
-    drop(texts);
-    let Scheduled { ran, taken } = scheduled?;
+    let Scheduled { ran, taken } = run_by_schedule(alloc, job, schedule)?;
     let Ran { journal, config } = ran;
     drop(config);
     Ok(Taken { journal, taken })
@@ -76,14 +68,10 @@ fn lines(
     Ok(text)
 }
 
-/// The turns of the tasks of a schedule, each told by its entry, or as `still` where the task can't take it.
-fn told(
-    alloc: Global,
-    policy: &Policy,
-    source: Source<'_>,
-    schedule: &[u32],
-) -> Result<Answer, Refusal> {
-    let Taken { journal, taken } = turns_of(alloc, policy, source, schedule)?;
+/// Tells the turns of the tasks of a schedule, each by its entry, or as `still` where the task can't take it.
+fn told(alloc: Global, job: &Job, schedule: &[u32]) -> Result<Answer, Refusal> {
+    let Taken { journal, taken } = turns_of(alloc, job, schedule)?;
+    let policy = job.policy();
     let history = print_journal(alloc, &journal, true, &policy.names);
     drop(journal);
     let history = history?;
@@ -94,6 +82,6 @@ fn told(
 /// `turns ACTORS JSON SCRIPT INPUT ..`: the turns of these tasks one after another, each told by its entry, or as `still` where the task can't take it.
 fn turns(alloc: Global, actors: &[u8], json: &[u8], source: Source<'_>) -> Result<Answer, Refusal> {
     let schedule = read_numbers(alloc, actors)?;
-    let policy = read_policy(alloc, json)?;
-    told(alloc, &policy, source, schedule.as_slice())
+    let job = read_job(alloc, json, source)?;
+    told(alloc, &job, schedule.as_slice())
 }

@@ -14,14 +14,14 @@ use Rattle.lio_run.specs.Laws.{IsRunOver, OtherInputsChangeNothing}
 use Rattle.lio_run.proofs.RunLemmas.{channels-seen}
 
 -- the run of the rounds
-run-by-rounds : (policy : PolicyParts) (script : List Procedure) (texts : List (List ℕ)) (ran : Ran) → IsRunOver policy script texts ran
+rounds-run : (policy : PolicyParts) (script : List Procedure) (texts : List (List ℕ)) (ran : Ran) → IsRunOver policy script texts ran
     → run 0 (start_of policy script texts) (rounds (start_of policy script texts)) ≡ Some ran
-run-by-rounds policy script texts ran is = subst (λ (ks : List ℕ). run 0 (start_of policy script texts) ks ≡ Some ran) is.by_rounds.order is.complete.is_run
+rounds-run policy script texts ran is = subst (λ (ks : List ℕ). run 0 (start_of policy script texts) ks ≡ Some ran) is.by_rounds.order is.complete.is_run
 
 pub other_inputs_change_nothing : OtherInputsChangeNothing
 other_inputs_change_nothing observer policy script ones twos one two is are texts released =
-    let runs = run-by-rounds policy script ones one is in
-    let goes = run-by-rounds policy script twos two are in
+    let runs = rounds-run policy script ones one is in
+    let goes = rounds-run policy script twos two are in
     let alike : LookAlike observer one two =
     rounds_look_alike observer (start_of policy script ones) (start_of policy script twos) one two is.complete.first.sound are.complete.first.sound runs goes
     (starts_look_alike observer policy script ones twos texts) released in

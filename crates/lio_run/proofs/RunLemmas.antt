@@ -1,31 +1,26 @@
 -- What a complete run by rounds shows.
-use Rattle.std.proofs.Common.{◌≡◌, ◌∙◌, ap, sym, subst, ℕ, ◌+◌, List, [], ◌∷◌, All, Some}
-use Rattle.std.specs.Prelude.{Result, Ok, Err, IfOk}
+use Rattle.std.proofs.Common.{◌≡◌, ◌∙◌, ap, sym, subst, ℕ, ◌+◌, List, [], ◌∷◌, Some}
 use Rattle.lio_labels.specs.declared.label.Label.{Label}
-use Rattle.lio_clauses.specs.declared.faults.NoMemory.{NoMemory}
 use Rattle.lio_syntax.specs.Statements.{Procedure}
 use Rattle.lio_calculus.specs.Step.{Cell, Configuration}
 use Rattle.lio_calculus.specs.Run as calculus
 use Rattle.lio_calculus.specs.Sound.{IsSound}
 use Rattle.lio_calculus.specs.Laws.{RunSeenAs}
+use Rattle.lio_calculus.proofs.EnabledLemmas.{seen_task_is_enabled_below}
 use Rattle.lio_calculus.proofs.LawLemmas.{run_is_erased_run}
 use Rattle.lio_calculus.proofs.LocalityLemmas.{step_changes_two_cells}
 use Rattle.lio_machine.proofs.RunLemmas.{first, run-nothing}
 use Rattle.lio_schedule.specs.Rounds.{rounds}
 use Rattle.lio_schedule.proofs.LowEndLemmas.{rounds_are_erased_rounds}
-use Rattle.lio_events.specs.Printable.{IsPrintable}
-use Rattle.lio_syntax.specs.Verdict.{IsOver}
-use Rattle.lio_policy.specs.Policy.{PolicyParts, IsPolicy}
+use Rattle.lio_policy.specs.Policy.{PolicyParts}
+use Rattle.lio_start.specs.Job.{IsJob, JobParts, first_of}
 use Rattle.lio_start.specs.Start.{start_of}
-use Rattle.lio_start.specs.Laws.{SaysLiterals}
-use Rattle.lio_start.proofs.LawLemmas.{cells_stand_in_order}
-use Rattle.lio_powers.specs.Given.{powers_of}
-use Rattle.lio_powers.specs.Laws.{ReleasesByPowers}
+use Rattle.lio_start.proofs.LawLemmas.{cells_stand_in_order, start_is_sound}
 use Rattle.lio_powers.proofs.LawLemmas.{releases_are_of_policy}
 use Rattle.lio_view.proofs.ChannelLemmas.{sends_are_seen}
 use Rattle.lio_named.proofs.Starts.{runs_are_printable}
-use Rattle.lio_run.specs.declared.by_rounds.Ran.{Ran}
-use Rattle.lio_run.specs.Runs.{IsByRounds, IsCompleteRun, RunsRounds, SeesChannels, actors, ran_of}
+use Rattle.lio_run.specs.Headline.{IsRunOf, KeepsToPolicy}
+use Rattle.lio_run.specs.Runs.{IsByRounds, IsCompleteRun, RunsRounds, SeesChannels, actors}
 
 -- the actors of a run's journal are those that it was to run
 run-actors : (ticket : ℕ) (c : Configuration) (ks : List ℕ) (ran : calculus.Ran) → calculus.run ticket c ks ≡ Some ran → actors ran.entries ≡ ks
@@ -48,27 +43,6 @@ rounds-complete c ran is = record {
   last = is.last;
 }
 
-pub run-complete : (script : List Procedure) (c : Configuration) (result : Result Ran NoMemory) → IfOk result (λ ran. RunsRounds c (ran_of script ran)) → IfOk result (λ ran. IsCompleteRun c (ran_of script ran))
-run-complete script c (Ok ran) is = rounds-complete c (ran_of script ran) is
-run-complete script c (Err error) is = is
-
-pub run-seen : (script : List Procedure) (c : Configuration) (result : Result Ran NoMemory) → IfOk result (λ ran. RunsRounds c (ran_of script ran)) → IfOk result (λ ran. (observer : Label) → RunSeenAs observer c (ran_of script ran))
-run-seen script c (Ok ran) is = λ observer. run_is_erased_run observer c (rounds c) (ran_of script ran) is.first.sound is.is_run
-run-seen script c (Err error) is = is
-
-pub run-rounds : (script : List Procedure) (c : Configuration) (result : Result Ran NoMemory) → IfOk result (λ ran. RunsRounds c (ran_of script ran)) → IfOk result (λ ran. IsByRounds c (ran_of script ran))
-run-rounds script c (Ok ran) is = record {
-  order = run-actors 0 c (rounds c) (ran_of script ran) is.is_run;
-  seen = λ observer. rounds_are_erased_rounds observer c (ran_of script ran) is.first.sound is.is_run;
-}
-run-rounds script c (Err error) is = is
-
--- each principal that its journal names is one of the policy's
-pub run-printable : (policy : PolicyParts) (script : List Procedure) (texts : List (List ℕ)) (result : Result Ran NoMemory) → IsPolicy policy → IsOver policy.names script
-    → IfOk result (λ ran. RunsRounds (start_of policy script texts) (ran_of script ran)) → IfOk result (λ ran. All (IsPrintable policy.names) ran.journal)
-run-printable policy script texts (Ok ran) keeps over is = runs_are_printable policy script texts (rounds (start_of policy script texts)) (ran_of script ran) keeps over is.is_run
-run-printable policy script texts (Err error) keeps over is = is
-
 -- an observer sees all that is sent to each channel below it
 pub channels-seen : (policy : PolicyParts) (script : List Procedure) (texts : List (List ℕ)) (ks : List ℕ) (ran : calculus.Ran) → IsSound (start_of policy script texts)
     → calculus.run 0 (start_of policy script texts) ks ≡ Some ran → (observer : Label) → SeesChannels observer policy ran.entries
@@ -76,13 +50,30 @@ channels-seen policy script texts ks ran sound runs observer number channel at b
     sends_are_seen observer channel.label [] number 0 0 (start_of policy script texts) ks ran sound
     (ap (λ (cell : Cell). cell.state) ((cells_stand_in_order policy script texts).channels number channel at)) below runs
 
-pub run-channels : (policy : PolicyParts) (script : List Procedure) (texts : List (List ℕ)) (result : Result Ran NoMemory)
-    → IfOk result (λ ran. RunsRounds (start_of policy script texts) (ran_of script ran)) → IfOk result (λ ran. (observer : Label) → SeesChannels observer policy ran.journal)
-run-channels policy script texts (Ok ran) is = channels-seen policy script texts (rounds (start_of policy script texts)) (ran_of script ran) is.first.sound is.is_run
-run-channels policy script texts (Err error) is = is
+-- a run of a job keeps to its policy
+pub keeps-to_policy : (job : JobParts) (ks : List ℕ) (ran : calculus.Ran) → IsJob job → calculus.run 0 (first_of job) ks ≡ Some ran → KeepsToPolicy job ran
+keeps-to_policy job ks ran is runs =
+    let c : Configuration = first_of job in
+    let sound : IsSound c = start_is_sound job.policy job.script job.inputs is.policy is.literals in
+    let seen : (observer : Label) → RunSeenAs observer c ran = λ observer. run_is_erased_run observer c ks ran sound runs in
+    record {
+      seen = seen;
+      enabled = λ observer k. seen_task_is_enabled_below observer ran.last k (seen observer).sound;
+      channels = channels-seen job.policy job.script job.inputs ks ran sound runs;
+      powers = releases_are_of_policy job.policy job.script job.inputs 0 ks ran is.policy is.literals runs;
+      printable = runs_are_printable job.policy job.script job.inputs ks ran is.policy is.over runs;
+    }
 
--- each release is by a privilege of the policy
-pub run-powers : (policy : PolicyParts) (script : List Procedure) (texts : List (List ℕ)) (result : Result Ran NoMemory) → IsPolicy policy → SaysLiterals script
-    → IfOk result (λ ran. RunsRounds (start_of policy script texts) (ran_of script ran)) → IfOk result (λ ran. ReleasesByPowers (powers_of policy) (ran_of script ran))
-run-powers policy script texts (Ok ran) keeps says is = releases_are_of_policy policy script texts 0 (rounds (start_of policy script texts)) (ran_of script ran) keeps says is.is_run
-run-powers policy script texts (Err error) keeps says is = is
+-- the run of the rounds of a job is a complete run of it
+pub run-of_job : (job : JobParts) (ran : calculus.Ran) → IsJob job → RunsRounds (first_of job) ran → IsRunOf job ran
+run-of_job job ran is runs = record {
+  is_run = rounds-complete (first_of job) ran runs;
+  keeps = keeps-to_policy job (rounds (first_of job)) ran is runs.is_run;
+}
+
+-- and it is by rounds
+pub run-by_rounds : (c : Configuration) (ran : calculus.Ran) → RunsRounds c ran → IsByRounds c ran
+run-by_rounds c ran runs = record {
+  order = run-actors 0 c (rounds c) ran runs.is_run;
+  seen = λ observer. rounds_are_erased_rounds observer c ran runs.first.sound runs.is_run;
+}

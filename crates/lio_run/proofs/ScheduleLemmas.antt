@@ -1,32 +1,21 @@
 -- Runs by schedules.
-use Rattle.std.proofs.Common.{◌≡◌, ◌∙◌, refl, sym, ap, subst, ℕ, ◌+◌, Bool, true, false, true≢false, List, [], ◌∷◌, ◌++◌, length, length-append, append_assoc, append-nil, Option, Some, None, is_some, All}
+use Rattle.std.proofs.Common.{◌≡◌, ◌∙◌, refl, sym, ap, subst, ℕ, ◌+◌, Bool, true, false, true≢false, List, [], ◌∷◌, ◌++◌, length, length-append, append_assoc, append-nil, Option, Some, None, is_some}
 use Rattle.std.specs.Prelude.{Result, Ok, Err, IfOk}
 use Rattle.std.specs.Option.{option_map_or}
 use Rattle.lio_clauses.specs.declared.faults.NoMemory.{NoMemory}
-use Rattle.lio_labels.specs.declared.label.Label.{Label}
 use Rattle.lio_values.specs.declared.entry.Entry.{Entry}
-use Rattle.lio_events.specs.Printable.{IsPrintable}
 use Rattle.lio_syntax.specs.Statements.{Procedure}
-use Rattle.lio_syntax.specs.Verdict.{IsOver}
-use Rattle.lio_policy.specs.Policy.{PolicyParts, IsPolicy}
-use Rattle.lio_start.specs.Start.{start_of}
-use Rattle.lio_start.specs.Laws.{SaysLiterals}
-use Rattle.lio_start.proofs.LawLemmas.{start_is_sound}
+use Rattle.lio_start.specs.Job.{IsJob, JobParts, first_of}
 use Rattle.lio_calculus.specs.Step.{Configuration, Turn, can, step}
 use Rattle.lio_calculus.specs.Run.{Ran, run}
-use Rattle.lio_calculus.specs.Laws.{RunSeenAs}
-use Rattle.lio_calculus.proofs.LawLemmas.{run_is_erased_run}
 use Rattle.lio_schedule.proofs.TurnLemmas.{step-ticket, with_ticket}
 use Rattle.lio_machine.specs.MachineState.{HasTaken, MachineState}
 use Rattle.lio_machine.proofs.RunLemmas.{run-nothing, run-step}
-use Rattle.lio_named.proofs.Starts.{runs_are_printable}
-use Rattle.lio_powers.specs.Given.{powers_of}
-use Rattle.lio_powers.specs.Laws.{ReleasesByPowers}
-use Rattle.lio_powers.proofs.LawLemmas.{releases_are_of_policy}
 use Rattle.lio_run.specs.declared.by_schedule.Scheduled.{Scheduled}
-use Rattle.lio_run.specs.Runs.{SeesChannels, ran_of}
+use Rattle.lio_run.specs.Headline.{KeepsToPolicy}
+use Rattle.lio_run.specs.Runs.{ran_of}
 use Rattle.lio_run.specs.Schedule.{HasGoneOn, ScheduledRun, behind, by_schedule, passed_over, scheduled_of, takers}
-use Rattle.lio_run.proofs.RunLemmas.{channels-seen}
+use Rattle.lio_run.proofs.RunLemmas.{keeps-to_policy}
 
 -- a run by a schedule, over a task that can't take its turn and over one that does
 by-still : (ticket : ℕ) (c : Configuration) (k : ℕ) (ks : List ℕ) → step ticket c k ≡ None → by_schedule ticket c (k ∷ ks) ≡ passed_over (by_schedule ticket c ks)
@@ -140,34 +129,11 @@ schedule-is-run c script schedule (Ok scheduled) is =
     ap (λ (s : ScheduledRun). run 0 c (takers schedule s.taken)) is ∙ scheduled-run c script schedule scheduled is
 schedule-is-run c script schedule (Err error) is = is
 
-pub schedule-channels : (policy : PolicyParts) (script : List Procedure) (texts : List (List ℕ)) (schedule : List ℕ) (result : Result Scheduled NoMemory) → IsPolicy policy → SaysLiterals script
-    → IfOk result (λ scheduled. scheduled_of script scheduled ≡ by_schedule 0 (start_of policy script texts) schedule)
-    → IfOk result (λ scheduled. (observer : Label) → SeesChannels observer policy scheduled.ran.journal)
-schedule-channels policy script texts schedule (Ok scheduled) keeps says is =
-    channels-seen policy script texts (takers schedule (by_schedule 0 (start_of policy script texts) schedule).taken) (ran_of script scheduled.ran)
-    (start_is_sound policy script texts keeps says) (scheduled-run (start_of policy script texts) script schedule scheduled is)
-schedule-channels policy script texts schedule (Err error) keeps says is = is
-
-pub schedule-powers : (policy : PolicyParts) (script : List Procedure) (texts : List (List ℕ)) (schedule : List ℕ) (result : Result Scheduled NoMemory) → IsPolicy policy → SaysLiterals script
-    → IfOk result (λ scheduled. scheduled_of script scheduled ≡ by_schedule 0 (start_of policy script texts) schedule)
-    → IfOk result (λ scheduled. ReleasesByPowers (powers_of policy) (ran_of script scheduled.ran))
-schedule-powers policy script texts schedule (Ok scheduled) keeps says is =
-    releases_are_of_policy policy script texts 0 (takers schedule (by_schedule 0 (start_of policy script texts) schedule).taken) (ran_of script scheduled.ran) keeps says
-    (scheduled-run (start_of policy script texts) script schedule scheduled is)
-schedule-powers policy script texts schedule (Err error) keeps says is = is
-
-pub schedule-seen : (policy : PolicyParts) (script : List Procedure) (texts : List (List ℕ)) (schedule : List ℕ) (result : Result Scheduled NoMemory) → IsPolicy policy → SaysLiterals script
-    → IfOk result (λ scheduled. scheduled_of script scheduled ≡ by_schedule 0 (start_of policy script texts) schedule)
-    → IfOk result (λ scheduled. (observer : Label) → RunSeenAs observer (start_of policy script texts) (ran_of script scheduled.ran))
-schedule-seen policy script texts schedule (Ok scheduled) keeps says is =
-    λ observer. run_is_erased_run observer (start_of policy script texts) (takers schedule (by_schedule 0 (start_of policy script texts) schedule).taken) (ran_of script scheduled.ran)
-    (start_is_sound policy script texts keeps says) (scheduled-run (start_of policy script texts) script schedule scheduled is)
-schedule-seen policy script texts schedule (Err error) keeps says is = is
-
-pub schedule-printable : (policy : PolicyParts) (script : List Procedure) (texts : List (List ℕ)) (schedule : List ℕ) (result : Result Scheduled NoMemory) → IsPolicy policy → IsOver policy.names script
-    → IfOk result (λ scheduled. scheduled_of script scheduled ≡ by_schedule 0 (start_of policy script texts) schedule)
-    → IfOk result (λ scheduled. All (IsPrintable policy.names) scheduled.ran.journal)
-schedule-printable policy script texts schedule (Ok scheduled) keeps over is =
-    runs_are_printable policy script texts (takers schedule (by_schedule 0 (start_of policy script texts) schedule).taken) (ran_of script scheduled.ran) keeps over
-    (scheduled-run (start_of policy script texts) script schedule scheduled is)
-schedule-printable policy script texts schedule (Err error) keeps over is = is
+-- and the run keeps to the policy
+pub schedule-keeps : (job : JobParts) (schedule : List ℕ) (result : Result Scheduled NoMemory) → IsJob job
+    → IfOk result (λ scheduled. scheduled_of job.script scheduled ≡ by_schedule 0 (first_of job) schedule)
+    → IfOk result (λ scheduled. KeepsToPolicy job (ran_of job.script scheduled.ran))
+schedule-keeps job schedule (Ok scheduled) keeps is =
+    keeps-to_policy job (takers schedule (by_schedule 0 (first_of job) schedule).taken) (ran_of job.script scheduled.ran) keeps
+    (scheduled-run (first_of job) job.script schedule scheduled is)
+schedule-keeps job schedule (Err error) keeps is = is

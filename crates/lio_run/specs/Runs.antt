@@ -24,7 +24,7 @@ ran_of script ran = record { entries = ran.journal; last = configuration_of scri
 abbrev pub actors : List Entry → List ℕ
 actors entries = map (λ entry. entry.actor) entries
 
--- A complete run: the turns of those who took them, with tickets from 0, after which no task can take one; the first and the last configuration are well-formed, with all parts.
+-- A complete run: the turns of those who took them, with tickets from 0, after which no task can take one; the first and the last configuration are well-formed.
 pub record IsCompleteRun (c : Configuration) (ran : calculus.Ran) : Type 0 where
   pub is_run : run 0 c (actors ran.entries) ≡ Some ran
   pub complete : IsComplete ran.last

@@ -1,4 +1,4 @@
-//! Runs: a policy and a script, with the texts of the inputs, run by rounds to the end, or by a schedule of the caller's.
+//! Runs: a job, run by rounds to the end, or by a schedule of the caller's.
 #![tactic(auto)]
 
 mod by_rounds;

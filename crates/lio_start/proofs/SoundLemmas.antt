@@ -1,4 +1,4 @@
--- Each first configuration is well-formed, part by part.
+-- Each first configuration is sound, part by part.
 use Rattle.std.proofs.Common.{◌≡◌, ◌∙◌, refl, sym, ap, subst, ℕ, zero, suc, ◌+◌, ◌<◌, ◌⊎◌, inl, inr, Bool, true, false, ◌&&◌, IsTrue, List, [], ◌∷◌, length, map, All, Option, Some, None, is_some, arith}
 use Rattle.std.specs.Prelude.{option_and_then, option_map, nat_le, slice_get, slice_index_or}
 use Rattle.std.proofs.lemmas.Bool.{leb-true, cases_order}
@@ -126,7 +126,7 @@ body-says script name said = by_number (number_of script name)
     by_number None = refl
     by_number (Some n) = by_procedure n (slice_get script n) refl
 
--- each task is as a well-formed configuration has it
+-- each task is as a sound configuration has it
 task-fine : (policy : PolicyParts) (script : List Procedure) (inputs : List (List ℕ)) (place : ℕ) (entry : TaskEntry) → IsPolicy policy → SaysLiterals script → slice_get policy.tasks place ≡ Some entry
     → Fine (start_of policy script inputs) (job_cell script (inputs_of policy inputs) (ranges_from policy + cells_before policy.tasks place) entry).state
     (task_of script (inputs_of policy inputs) (ranges_from policy + cells_before policy.tasks place) entry)

@@ -1,4 +1,4 @@
--- Each first configuration is well-formed with all its parts: its calls fit, and its turns are the policy's.
+-- Each first configuration is well-formed: its calls fit, and its turns are the policy's.
 use Rattle.std.proofs.Common.{◌≡◌, refl, subst, ℕ, ◌+◌, List, [], ◌∷◌, ◌++◌, map, All, arith}
 use Rattle.std.specs.Prelude.{replicate, sum_by}
 use Rattle.std.proofs.lemmas.List.Elements.{All-nil}

@@ -47,11 +47,11 @@ SaysLiterals script = All (λ procedure. IsTrue (block_says procedure.body)) scr
 abbrev pub LiteralsAreSaid : Type 0
 LiteralsAreSaid = (script : List Procedure) → kept.SaysLiterals (script_lines script) → SaysLiterals script
 
--- the first configuration of a policy and a script is well-formed, whatever the inputs are
+-- the first configuration of a policy and a script is sound, whatever the inputs are
 abbrev pub StartIsSound : Type 0
 StartIsSound = (policy : PolicyParts) (script : List Procedure) (inputs : List (List ℕ)) → IsPolicy policy → SaysLiterals script → IsSound (start_of policy script inputs)
 
--- and so it is with all its parts, where the script's lines break no rule
+-- and it is well-formed, where the script's lines break no rule
 abbrev pub StartIsWellFormed : Type 0
 StartIsWellFormed = (policy : PolicyParts) (script : List Procedure) (inputs : List (List ℕ)) → IsPolicy policy → SaysLiterals script → kept.KeepsRules (script_lines script) → IsWellFormed (start_of policy script inputs)
 

@@ -19,12 +19,12 @@ pub fn literals_are_said()
     ensures { LiteralsAreSaid }
 {}
 
-/// Each first configuration is well-formed.
+/// Each first configuration is sound.
 pub fn start_is_sound()
     ensures { StartIsSound }
 {}
 
-/// With all its parts, where the script's lines break no rule.
+/// And it is well-formed, where the script's lines break no rule.
 pub fn start_is_well_formed()
     ensures { StartIsWellFormed }
 {}

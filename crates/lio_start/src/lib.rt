@@ -1,5 +1,5 @@
-//! The start of a policy's tasks in a script: which of them can't begin, and the first configuration, with the laws of its definition, first of all that it is
-//! well-formed.
+//! The start of a policy's tasks in a script: which of them can't begin, what is run (a job), and its first
+//! configuration, with the laws of its definition, first of all that it is sound and well-formed.
 #![tactic(auto)]
 
 mod beginning;
@@ -8,8 +8,10 @@ mod fault;
 mod fitting;
 mod holders;
 mod inputs;
+mod job;
 pub mod laws;
 
 pub use configuration::start;
 pub use fault::StartFault;
 pub use fitting::fits;
+pub use job::Job;

@@ -32,7 +32,7 @@ TurnKeepsWellFormed = (ticket : ℕ) (c : Configuration) (k : ℕ) (task : TaskS
 abbrev pub RunKeepsWellFormed : Type 0
 RunKeepsWellFormed = (ticket : ℕ) (c : Configuration) (ks : List ℕ) (ran : Ran) → IsWellFormed c → run ticket c ks ≡ Some ran → IsWellFormed ran.last
 
--- in every configuration calls that fit go on to fit, well-formed or not
+-- in every configuration calls that fit go on to fit, sound or not
 abbrev pub TurnKeepsCalls : Type 0
 TurnKeepsCalls = (ticket : ℕ) (c : Configuration) (k : ℕ) (turn : Turn) → CallsFit c → step ticket c k ≡ Some turn → CallsFit turn.next
 

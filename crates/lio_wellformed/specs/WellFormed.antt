@@ -6,7 +6,7 @@ use Rattle.lio_calculus.specs.Sound.{IsSound}
 use Rattle.lio_wellformed.specs.Calls.{CallsFit}
 use Rattle.lio_wellformed.specs.Turns.{TurnsAreFew}
 
--- A configuration is well-formed with all its parts.
+-- A configuration is well-formed. That its labels are canonical is kept by their type.
 pub record IsWellFormed (c : Configuration) : Type 0 where
   -- the parts that noninterference stands on
   pub sound : IsSound c

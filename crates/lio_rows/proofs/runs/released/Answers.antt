@@ -5,5 +5,5 @@ use Rattle.lio_rows.proofs.runs.released.Goals as goal
 
 pub returns : goal.returns
 returns c =
-    let names = c.args.policy.now.names in
+    let names = c.args.job.now.policy.names in
     subst (All (IsContentNamed names)) (sym c.in_ok-contents.ensures) (releases_are_named names c.args.observer.now c.in_ok-journal.journal c.in_ok-journal.ensures)
