@@ -44,7 +44,7 @@ impl Machine {
     ghost use Rattle.lio_config.specs.Takes.{Stays};
     ghost use Rattle.lio_machine.specs.MachineState.{HasBegun, HasRun, HasTaken, HasWalked};
     ghost use Rattle.lio_machine.specs.MachineParts.{machine_of};
-    ghost use Rattle.lio_machine.specs.Laws.{IsSeenAsErased};
+    ghost use Rattle.lio_machine.specs.Laws.{HasRunSeen};
 
     /// A machine that has taken no turn, of a well-formed configuration.
     pub fn new(alloc: Global, config: Config, script: Script) -> Result<Machine, NoMemory>
@@ -188,12 +188,13 @@ impl Machine {
         self.run_rounds(alloc)
     }
 
-    /// The journal of the turns taken, and the configuration after them. Each observer sees of both what the erased calculus gives.
+    /// Gives the journal of the turns taken, and the configuration after them. Each observer sees of
+    /// both what the erased calculus gives.
     pub fn finish(self) -> (Journal, Config)
         ensures journal { result.0 ≡ (machine_of self).entries }
         ensures configuration { configuration_of (machine_of self).script result.1 ≡ (machine_of self).configuration }
         ensures well_formed { IsWellFormed (machine_of self).configuration }
-        ensures seen { IsSeenAsErased (machine_of self) }
+        ensures seen { HasRunSeen (machine_of self) }
     {
         (Journal::of(self.entries), self.config)
     }

@@ -1,6 +1,10 @@
-use Rattle.lio_machine.specs.MachineParts.{machine_of}
-use Rattle.lio_machine.proofs.SeenLemmas.{seen_as_erased}
+use Rattle.std.proofs.Common.{subst}
+use Rattle.lio_machine.specs.Laws.{HasRunSeen}
+use Rattle.lio_machine.specs.MachineParts.{MachineParts, machine_of}
+use Rattle.lio_machine.proofs.SeenLemmas.{has_run-seen}
 use Rattle.lio_machine.proofs.machine.Machine.finish.Goals as goal
 
 pub returns-clause-seen : goal.returns-clause-seen
-returns-clause-seen c = seen_as_erased (machine_of c.args.self)
+returns-clause-seen c =
+    subst (λ (m : MachineParts). HasRunSeen (machine_of m)) c.self.view_is
+    (has_run-seen (machine_of (record { script = c.self.inside.script; config = c.self.inside.config; entries = c.self.inside.entries.items; order = c.self.inside.order.items })) c.self.invariant.ran)
