@@ -7,5 +7,4 @@ pub mod Tasks
 pub mod Nodes
 pub mod Turns
 pub mod Literals
-pub mod Starts
 pub mod LowTurns

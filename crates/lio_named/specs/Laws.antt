@@ -4,13 +4,9 @@ use Rattle.lio_labels.specs.declared.label.Label.{Label}
 use Rattle.lio_values.specs.declared.value.Content.{Content}
 use Rattle.lio_events.specs.Named.{IsContentNamed}
 use Rattle.lio_events.specs.Printable.{IsPrintable}
-use Rattle.lio_syntax.specs.Statements.{Procedure}
-use Rattle.lio_syntax.specs.Verdict.{IsOver}
 use Rattle.lio_calculus.specs.Step.{Configuration, Turn, step}
 use Rattle.lio_calculus.specs.Erased.{LowTurn, erase, low}
 use Rattle.lio_calculus.specs.Run.{Ran, run}
-use Rattle.lio_policy.specs.Policy.{PolicyParts, IsPolicy}
-use Rattle.lio_start.specs.Start.{start_of}
 use Rattle.lio_named.specs.Configuration.{NamesOnly}
 
 -- what a turn shows can be printed, and the configuration after it names only principals that have names
@@ -47,13 +43,3 @@ pub record IsLowTurnNamed (names : List (List ℕ)) (turn : LowTurn) : Type 0 wh
 abbrev pub LowTurnNamesOnly : Type 0
 LowTurnNamesOnly = (names : List (List ℕ)) (observer : Label) (ticket : ℕ) (c : Configuration) (k : ℕ) (contents : List Content) (turn : LowTurn)
     → NamesOnly names c → All (IsContentNamed names) contents → low observer ticket c k contents ≡ Some turn → IsLowTurnNamed names turn
-
--- the first configuration of a policy and a script over its principals, over any texts of the inputs
-abbrev pub StartNamesOnly : Type 0
-StartNamesOnly = (policy : PolicyParts) (script : List Procedure) (texts : List (List ℕ))
-    → IsPolicy policy → IsOver policy.names script → NamesOnly policy.names (start_of policy script texts)
-
--- each entry of a run from there can be printed over the policy's principals
-abbrev pub RunsArePrintable : Type 0
-RunsArePrintable = (policy : PolicyParts) (script : List Procedure) (texts : List (List ℕ)) (ks : List ℕ) (ran : Ran)
-    → IsPolicy policy → IsOver policy.names script → run 0 (start_of policy script texts) ks ≡ Some ran → All (IsPrintable policy.names) ran.entries

@@ -9,11 +9,9 @@ use Rattle.lio_calculus.specs.Powers.{PowersAreAmong}
 use Rattle.lio_calculus.proofs.StepKept.{turn-kept}
 use Rattle.lio_calculus.proofs.PowerLemmas.{powers_are_given}
 use Rattle.lio_calculus.proofs.TurnParts.{parts}
-use Rattle.lio_start.proofs.LawLemmas.{start_is_sound}
-use Rattle.lio_powers.specs.Given.{powers_of, IsReleasedBy}
-use Rattle.lio_powers.specs.Laws.{ReleasesByPowers, RunReleasesByPowers, ReleasesAreOfPolicy}
+use Rattle.lio_powers.specs.Given.{IsReleasedBy}
+use Rattle.lio_powers.specs.Laws.{ReleasesByPowers, RunReleasesByPowers}
 use Rattle.lio_powers.proofs.FlowLemmas.{turn-flows}
-use Rattle.lio_powers.proofs.StartLemmas.{start-among}
 
 pub run_releases_by_powers : RunReleasesByPowers
 unfolding run
@@ -42,7 +40,3 @@ run_releases_by_powers powers ticket c (k ∷ ks) ran sound among runs =
     by : (t : Option Turn) → step ticket c k ≡ t → Others → option_and_then (λ (turn : Turn). option_map (ran_after turn.entry) (run (ticket + 1) turn.next ks)) t ≡ Some ran → ReleasesByPowers powers ran
     by None steps others got = absurd (cc)
     by (Some turn) steps others got = then_ others turn (run (ticket + 1) turn.next ks) steps refl got
-
-pub releases_are_of_policy : ReleasesAreOfPolicy
-releases_are_of_policy policy script texts ticket ks ran is said runs =
-    run_releases_by_powers (powers_of policy) ticket _ ks ran (start_is_sound policy script texts is said) (start-among policy script texts) runs

@@ -1,31 +1,12 @@
--- The privileges that a policy gives, and releases by some privileges.
-use Rattle.std.specs.Prelude.{◌≡◌, IsTrue, List, [], ◌∷◌}
-use Rattle.std.specs.List.{flat_map}
+-- Releases by some privileges.
+use Rattle.std.specs.Prelude.{◌≡◌, IsTrue, List}
 use Rattle.lio_labels.specs.declared.privilege.Priv.{Priv}
 use Rattle.lio_labels.specs.Privilege.{flows_with}
-use Rattle.lio_values.specs.declared.value.Plain.TheVariants.{Power}
 use Rattle.lio_values.specs.declared.act.Act.{Act}
 use Rattle.lio_values.specs.declared.act.Act.TheVariants.{Step, Seal, Raise, Lower, Release, NewRef, NewVar, Fork, Spawn, Read, Write, Take, Put, Wait, Send, Ended}
 use Rattle.lio_values.specs.declared.act.Reply.TheVariants.{Done}
 use Rattle.lio_values.specs.declared.entry.Entry.{Entry}
 use Rattle.lio_calculus.specs.Powers.{ReleasesBy}
-use Rattle.lio_policy.specs.Policy.{PolicyParts}
-use Rattle.lio_policy.specs.declared.policy.TaskEntry.{TaskEntry}
-use Rattle.lio_policy.specs.declared.policy.Arg.{Arg}
-use Rattle.lio_policy.specs.declared.policy.Arg.TheVariants.{Fixed}
-
--- the privilege that an argument is, if it is one
-abbrev pub power_in : Arg → List Priv
-power_in (Fixed (Power power)) = power ∷ []
-power_in argument = []
-
--- the privileges among the arguments of a task
-abbrev pub task_powers : TaskEntry → List Priv
-task_powers task = flat_map power_in task.args
-
--- the privileges that a policy gives its tasks
-abbrev pub powers_of : PolicyParts → List Priv
-powers_of policy = flat_map task_powers policy.tasks
 
 -- the source of a release flows to its target with its privilege
 abbrev pub FlowsByPower : Act → Type 0

@@ -16,9 +16,9 @@ use Rattle.lio_policy.specs.Policy.{PolicyParts}
 use Rattle.lio_start.specs.Job.{IsJob, JobParts, first_of}
 use Rattle.lio_start.specs.Start.{start_of}
 use Rattle.lio_start.proofs.LawLemmas.{cells_stand_in_order, start_is_sound}
-use Rattle.lio_powers.proofs.LawLemmas.{releases_are_of_policy}
+use Rattle.lio_start.proofs.NameLemmas.{runs_are_printable}
+use Rattle.lio_start.proofs.PowerLemmas.{releases_are_of_policy}
 use Rattle.lio_view.proofs.ChannelLemmas.{sends_are_seen}
-use Rattle.lio_named.proofs.Starts.{runs_are_printable}
 use Rattle.lio_run.specs.Headline.{IsRunOf, KeepsToPolicy}
 use Rattle.lio_run.specs.Runs.{IsByRounds, IsCompleteRun, RunsRounds, SeesChannels, actors}
 

@@ -6,3 +6,5 @@ pub mod WellFormedLemmas
 pub mod AlikeLemmas
 pub mod LawLemmas
 pub mod MakingLemmas
+pub mod PowerLemmas
+pub mod NameLemmas

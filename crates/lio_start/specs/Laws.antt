@@ -2,6 +2,7 @@
 use Rattle.std.specs.Prelude.{◌≡◌, ◌↔◌, ◌≤◌, ◌+◌, ℕ, List, [], All, IsTrue, Some, None, take, map, slice_get, length}
 use Rattle.lio_labels.specs.declared.label.Label.{Label}
 use Rattle.lio_labels.specs.Flow.{flows}
+use Rattle.lio_events.specs.Printable.{IsPrintable}
 use Rattle.lio_values.specs.declared.value.Plain.TheVariants.{Bytes}
 use Rattle.lio_values.specs.declared.value.Plain.{Plain}
 use Rattle.lio_values.specs.declared.value.Content.TheVariants.{Kept, Faulted, Hidden}
@@ -9,6 +10,7 @@ use Rattle.lio_values.specs.declared.value.Value.{Value}
 use Rattle.lio_values.specs.declared.value.Value.TheVariants.{Bare, Sealed}
 use Rattle.lio_syntax.specs.Statements.{Procedure}
 use Rattle.lio_syntax.specs.Lines.{script_lines}
+use Rattle.lio_syntax.specs.Verdict.{IsOver}
 use Rattle.lio_syntax.specs.Kept as kept
 use Rattle.lio_control.specs.Environment.{bind_all}
 use Rattle.lio_control.specs.Items.{enter}
@@ -16,12 +18,16 @@ use Rattle.lio_calculus.specs.Task.{TaskState}
 use Rattle.lio_calculus.specs.Step.{blank, cell_at}
 use Rattle.lio_calculus.specs.Sound.{block_says, EachBound, IsTaskOf, IsSound}
 use Rattle.lio_calculus.specs.Erased.{erase}
+use Rattle.lio_calculus.specs.Run.{Ran, run}
 use Rattle.lio_wellformed.specs.WellFormed.{IsWellFormed}
+use Rattle.lio_powers.specs.Laws.{ReleasesByPowers}
+use Rattle.lio_named.specs.Configuration.{NamesOnly}
 use Rattle.lio_policy.specs.Policy.{PolicyParts, IsPolicy}
 use Rattle.lio_policy.specs.declared.policy.FileEntry.{FileEntry}
 use Rattle.lio_policy.specs.declared.policy.TaskEntry.{TaskEntry}
 use Rattle.lio_start.specs.declared.fault.StartFault.{StartFault}
 use Rattle.lio_start.specs.Fits.{Fits, fault_of, fits, procedure_of}
+use Rattle.lio_start.specs.Powers.{powers_of}
 use Rattle.lio_start.specs.Start.{inputs_of, argument_of, channel_cell, job_cell, cells_in_all, ranges_from, start_of}
 
 -- nothing is wrong exactly where each task fits
@@ -108,3 +114,18 @@ pub record AreAlike (observer : Label) (inputs : List FileEntry) (ones twos : Li
 abbrev pub StartsLookAlike : Type 0
 StartsLookAlike = (observer : Label) (policy : PolicyParts) (script : List Procedure) (ones twos : List (List ℕ))
     → AreAlike observer policy.inputs ones twos → erase observer (start_of policy script ones) ≡ erase observer (start_of policy script twos)
+
+-- whatever a script says and whatever the inputs are, each release of a policy's run is by a privilege that the policy gives a task
+abbrev pub ReleasesAreOfPolicy : Type 0
+ReleasesAreOfPolicy = (policy : PolicyParts) (script : List Procedure) (texts : List (List ℕ)) (ticket : ℕ) (ks : List ℕ) (ran : Ran)
+    → IsPolicy policy → SaysLiterals script → run ticket (start_of policy script texts) ks ≡ Some ran → ReleasesByPowers (powers_of policy) ran
+
+-- the first configuration of a policy and a script over its principals, over any texts of the inputs
+abbrev pub StartNamesOnly : Type 0
+StartNamesOnly = (policy : PolicyParts) (script : List Procedure) (texts : List (List ℕ))
+    → IsPolicy policy → IsOver policy.names script → NamesOnly policy.names (start_of policy script texts)
+
+-- each entry of a run from there can be printed over the policy's principals
+abbrev pub RunsArePrintable : Type 0
+RunsArePrintable = (policy : PolicyParts) (script : List Procedure) (texts : List (List ℕ)) (ks : List ℕ) (ran : Ran)
+    → IsPolicy policy → IsOver policy.names script → run 0 (start_of policy script texts) ks ≡ Some ran → All (IsPrintable policy.names) ran.entries

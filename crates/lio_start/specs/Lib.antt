@@ -1,5 +1,6 @@
 pub mod Fits
 pub mod Start
+pub mod Powers
 pub mod Making
 pub mod Laws
 pub mod Job

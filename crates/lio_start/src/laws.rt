@@ -1,5 +1,5 @@
 //! The laws of the start. Each function does nothing: its contract is the law.
-ghost use Rattle.lio_start.specs.Laws.{CellsStandInOrder, EachTaskBegins, EachTaskFits, FaultIsOfFirst, LiteralsAreSaid, StartIsSound, StartIsWellFormed, StartsLookAlike, TextsAreShort};
+ghost use Rattle.lio_start.specs.Laws.{CellsStandInOrder, EachTaskBegins, EachTaskFits, FaultIsOfFirst, LiteralsAreSaid, ReleasesAreOfPolicy, RunsArePrintable, StartIsSound, StartIsWellFormed, StartNamesOnly, StartsLookAlike, TextsAreShort};
 
 /// Nothing is wrong exactly where each task can begin.
 #[tactic(auto, using(crate::proofs::LawLemmas::each_task_fits))]
@@ -49,4 +49,19 @@ pub fn texts_are_short()
 #[tactic(auto, using(crate::proofs::AlikeLemmas::starts_look_alike))]
 pub fn starts_look_alike()
     ensures { StartsLookAlike }
+{}
+
+/// Each release of a policy's run is by a privilege that the policy gives a task.
+pub fn releases_are_of_policy()
+    ensures { ReleasesAreOfPolicy }
+{}
+
+/// The first configuration of a policy and a script over its principals names only these, whatever the inputs are.
+pub fn start_names_only()
+    ensures { StartNamesOnly }
+{}
+
+/// The journal of a policy's run can be printed over the policy's principals.
+pub fn runs_are_printable()
+    ensures { RunsArePrintable }
 {}

@@ -24,7 +24,10 @@ use Rattle.lio_policy.specs.declared.policy.Arg.TheVariants.{Input, Fixed}
 use Rattle.lio_start.specs.Fits.{procedure_of}
 use Rattle.lio_start.specs.Start.{content_by, input_content, sealed_inputs, inputs_of, argument_of, task_of, start_of}
 use Rattle.lio_start.proofs.PlaceLemmas.{Stands, Channel as channel, Task as job, Nothing as nothing, stands, begun}
-use Rattle.lio_powers.specs.Given.{power_in, task_powers, powers_of}
+use Rattle.lio_powers.proofs.LawLemmas.{run_releases_by_powers}
+use Rattle.lio_start.specs.Laws.{ReleasesAreOfPolicy}
+use Rattle.lio_start.specs.Powers.{power_in, task_powers, powers_of}
+use Rattle.lio_start.proofs.LawLemmas.{start_is_sound}
 
 -- what one element of a list gives is among what all of them give
 flat_map-has : {X A : Type 0} (f : X → List A) (xs : List X) (i : ℕ) (x : X) (a : A) → slice_get xs i ≡ Some x → Contains (f x) a → Contains (flat_map f xs) a
@@ -102,3 +105,8 @@ start-among policy script texts = record {
       subst (EachInTask (ValueIsAmong (powers_of policy))) b.is (task-among policy script texts _ b.job.place b.job.entry b.job.is);
   nodes = node-among (powers_of policy) policy script texts;
 }
+
+-- so each release is by one of them
+pub releases_are_of_policy : ReleasesAreOfPolicy
+releases_are_of_policy policy script texts ticket ks ran is said runs =
+    run_releases_by_powers (powers_of policy) ticket _ ks ran (start_is_sound policy script texts is said) (start-among policy script texts) runs

@@ -26,7 +26,7 @@ use Rattle.lio_start.specs.Start.{content_by, input_content, sealed_inputs, inpu
 use Rattle.lio_start.proofs.PlaceLemmas.{Stands, Channel as channel, Task as job, Nothing as nothing, stands, begun}
 use Rattle.lio_named.specs.Script.{IsScriptNamed}
 use Rattle.lio_named.specs.Configuration.{IsTaskNamed, IsStateNamed}
-use Rattle.lio_named.specs.Laws.{StartNamesOnly, RunsArePrintable}
+use Rattle.lio_start.specs.Laws.{StartNamesOnly, RunsArePrintable}
 use Rattle.lio_named.proofs.Plans.{found_named}
 use Rattle.lio_named.proofs.Tasks.{enter_named}
 use Rattle.lio_named.proofs.Turns.{run_names_only}
