@@ -1,11 +1,14 @@
 -- Runs by a schedule: the tasks that are to take a turn, in order. One that can't take its turn is passed over.
-use Rattle.std.specs.Prelude.{◌≡◌, ℕ, ◌+◌, Bool, true, false, List, [], ◌∷◌, if◌then◌else◌}
+use Rattle.std.specs.Prelude.{◌≡◌, ℕ, ◌+◌, Bool, true, false, List, [], ◌∷◌, Some, if◌then◌else◌}
 use Rattle.std.specs.Option.{option_map_or}
 use Rattle.lio_values.specs.declared.entry.Entry.{Entry}
 use Rattle.lio_syntax.specs.Statements.{Procedure}
+use Rattle.lio_calculus.specs.Run.{run}
 use Rattle.lio_calculus.specs.Step.{Configuration, can, step}
 use Rattle.lio_config.specs.Configuration.{configuration_of}
 use Rattle.lio_machine.specs.MachineState.{HasTaken, MachineState}
+use Rattle.lio_start.specs.Job.{JobParts, first_of}
+use Rattle.lio_run.specs.Runs.{ran_of}
 use Rattle.lio_run.specs.declared.by_schedule.Scheduled.{Scheduled}
 
 -- what a run by a schedule gives: its journal, its last configuration, and of each task of the schedule whether it took its turn
@@ -42,3 +45,11 @@ unfoldable pub takers : List ℕ → List Bool → List ℕ
 takers [] taken = []
 takers (k ∷ ks) [] = []
 takers (k ∷ ks) (moved ∷ taken) = if moved then k ∷ takers ks taken else takers ks taken
+
+-- what the code's run by a schedule gave is the run of the job by the schedule
+abbrev pub IsBySchedule : JobParts → List ℕ → Scheduled → Type 0
+IsBySchedule job schedule scheduled = scheduled_of job.script scheduled ≡ by_schedule 0 (first_of job) schedule
+
+-- the tasks that took their turns have run, from the first configuration of the job
+abbrev pub TakersHaveRun : JobParts → List ℕ → Scheduled → Type 0
+TakersHaveRun job schedule scheduled = run 0 (first_of job) (takers schedule scheduled.taken.items) ≡ Some (ran_of job.script scheduled.ran)

@@ -20,7 +20,7 @@ pub struct Ran {
 
 /// Runs a job by rounds to the end.
 fn run_to_the_end(alloc: Global, job: &Job) -> Result<Ran, NoMemory>
-    ensures rounds { IfOk result (λ ran. RunsRounds (first_of job.now) (ran_of job.now.script ran)) }
+    ensures rounds { IfOk result (λ it. RunsRounds (first_of job.now) (ran_of job.now.script it)) }
     ensures job { IsJob job.now }
 {
     let script = job.script().copy(alloc)?;
@@ -33,8 +33,8 @@ fn run_to_the_end(alloc: Global, job: &Job) -> Result<Ran, NoMemory>
 
 /// Runs a job by rounds from its first configuration, until no task can take a turn.
 pub fn run(alloc: Global, job: &Job) -> Result<Ran, NoMemory>
-    ensures run { IfOk result (λ ran. IsRunOf job.now (ran_of job.now.script ran)) }
-    ensures rounds { IfOk result (λ ran. IsByRounds (first_of job.now) (ran_of job.now.script ran)) }
+    ensures run { IfOk result (λ it. IsRunOf job.now (ran_of job.now.script it)) }
+    ensures rounds { IfOk result (λ it. IsByRounds (first_of job.now) (ran_of job.now.script it)) }
 {
     run_to_the_end(alloc, job)
 }

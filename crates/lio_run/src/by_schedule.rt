@@ -1,12 +1,11 @@
 //! A run in an order that the caller chooses.
-ghost use Rattle.std.specs.Prelude.{◌≡◌, IfOk, Some};
+ghost use Rattle.std.specs.Prelude.{IfOk};
 ghost use Rattle.lio_wellformed.specs.WellFormed.{IsWellFormed};
-ghost use Rattle.lio_start.specs.Job.{IsJob, first_of};
-ghost use Rattle.lio_calculus.specs.Run as calculus;
+ghost use Rattle.lio_start.specs.Job.{IsJob};
 ghost use Rattle.lio_machine.specs.MachineParts.{machine_of};
 ghost use Rattle.lio_run.specs.Headline.{KeepsToPolicy};
 ghost use Rattle.lio_run.specs.Runs.{ran_of};
-ghost use Rattle.lio_run.specs.Schedule.{HasGoneOn, by_schedule, scheduled_of, takers};
+ghost use Rattle.lio_run.specs.Schedule.{HasGoneOn, IsBySchedule, TakersHaveRun};
 
 use crate::by_rounds::Ran;
 use lio_clauses::NoMemory;
@@ -14,7 +13,8 @@ use lio_machine::{Machine, TurnFault};
 use lio_start::{Job, start};
 use std::alloc::Global;
 
-/// What a run by a schedule gives: the run, and of each task of the schedule whether it took its turn.
+/// What a run by a schedule gives: the run, and of each task of the schedule whether it took its
+/// turn.
 #[derive(Drop)]
 pub struct Scheduled {
     pub ran: Ran,
@@ -37,8 +37,8 @@ fn take(alloc: Global, machine: &mut Machine, k: u32) -> Result<bool, NoMemory>
 
 /// Takes the turns of the tasks of a schedule one after another, from the first configuration.
 fn run_schedule(alloc: Global, job: &Job, schedule: &[u32]) -> Result<Scheduled, NoMemory>
-    ensures run { IfOk result (λ scheduled. scheduled_of job.now.script scheduled ≡ by_schedule 0 (first_of job.now) schedule.now) }
-    ensures well_formed { IfOk result (λ scheduled. IsWellFormed (ran_of job.now.script scheduled.ran).last) }
+    ensures run { IfOk result (IsBySchedule job.now schedule.now) }
+    ensures well_formed { IfOk result (λ it. IsWellFormed (ran_of job.now.script it.ran).last) }
     ensures job { IsJob job.now }
 {
     let script = job.script().copy(alloc)?;
@@ -56,17 +56,18 @@ fn run_schedule(alloc: Global, job: &Job, schedule: &[u32]) -> Result<Scheduled,
     })
 }
 
-/// Runs a job from its first configuration: each task of the schedule in order takes a turn, unless it
-/// can't. Those who take theirs have run, and whatever the schedule is, the run keeps to the policy.
+/// Runs a job from its first configuration: each task of the schedule in order takes a turn, unless
+/// it can't. Those who take theirs have run, and whatever the schedule is, the run keeps to the
+/// policy.
 pub fn run_by_schedule(
     alloc: Global,
     job: &Job,
     schedule: &[u32],
 ) -> Result<Scheduled, NoMemory>
-    ensures run { IfOk result (λ scheduled. scheduled_of job.now.script scheduled ≡ by_schedule 0 (first_of job.now) schedule.now) }
-    ensures is_run { IfOk result (λ scheduled. calculus.run 0 (first_of job.now) (takers schedule.now scheduled.taken.items) ≡ Some (ran_of job.now.script scheduled.ran)) }
-    ensures keeps { IfOk result (λ scheduled. KeepsToPolicy job.now (ran_of job.now.script scheduled.ran)) }
-    ensures well_formed { IfOk result (λ scheduled. IsWellFormed (ran_of job.now.script scheduled.ran).last) }
+    ensures run { IfOk result (IsBySchedule job.now schedule.now) }
+    ensures is_run { IfOk result (TakersHaveRun job.now schedule.now) }
+    ensures keeps { IfOk result (λ it. KeepsToPolicy job.now (ran_of job.now.script it.ran)) }
+    ensures well_formed { IfOk result (λ it. IsWellFormed (ran_of job.now.script it.ran).last) }
 {
     run_schedule(alloc, job, schedule)
 }
