@@ -77,7 +77,10 @@ struct Counting {
 
 /// Makes the job of a policy without inputs.
 fn job_of(alloc: Global, policy: Policy) -> Result<Job, CountFault> {
-    let script = read_script(alloc, SCRIPT, &policy.names).map_err(CountFault::Script)?;
+    let script = match read_script(alloc, SCRIPT, &policy.names) {
+        Ok(script) => script,
+        Err(fault) => return Err(CountFault::Script(fault)),
+    };
     if fits(&policy, &script).is_some() || !policy.inputs.as_slice().is_empty() {
         return Err(CountFault::Unfit);
     }
