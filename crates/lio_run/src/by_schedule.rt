@@ -59,11 +59,7 @@ fn run_schedule(alloc: Global, job: &Job, schedule: &[u32]) -> Result<Scheduled,
 /// Runs a job from its first configuration: each task of the schedule in order takes a turn, unless
 /// it can't. Those who take theirs have run, and whatever the schedule is, the run keeps to the
 /// policy.
-pub fn run_by_schedule(
-    alloc: Global,
-    job: &Job,
-    schedule: &[u32],
-) -> Result<Scheduled, NoMemory>
+pub fn run_by_schedule(alloc: Global, job: &Job, schedule: &[u32]) -> Result<Scheduled, NoMemory>
     ensures run { IfOk result (IsBySchedule job.now schedule.now) }
     ensures is_run { IfOk result (TakersHaveRun job.now schedule.now) }
     ensures keeps { IfOk result (λ it. KeepsToPolicy job.now (ran_of job.now.script it.ran)) }

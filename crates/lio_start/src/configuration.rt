@@ -22,7 +22,12 @@ pub fn start(alloc: Global, job: &Job) -> Result<Config, NoMemory>
     let channels = policy.channels.as_slice();
     let tasks = policy.tasks.as_slice();
     let first = (channels.len() + tasks.len()) as u32;
-    let inputs = sealed_inputs(alloc, policy.longest, policy.inputs.as_slice(), job.inputs())?;
+    let inputs = sealed_inputs(
+        alloc,
+        policy.longest,
+        policy.inputs.as_slice(),
+        job.inputs(),
+    )?;
     let mut holders = Vec::new(alloc);
     add_channels(alloc, channels, &mut holders)?;
     add_jobs(alloc, script, &inputs, first, tasks, &mut holders)?;
