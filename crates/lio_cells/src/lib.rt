@@ -1,5 +1,5 @@
-//! Nodes: references, blocking variables, channels and the results of tasks, with what acts make of them.
-//! Source: the concurrent calculus of LIO, ICFP 2012.
+//! Nodes: references, blocking variables, channels and the results of tasks, with what acts make of
+//! them. Source: the concurrent calculus of LIO, ICFP 2012.
 #![tactic(auto)]
 
 mod node;

@@ -19,7 +19,8 @@ use std::mem;
 pub struct Node {
     state: State,
     room: Room,
-    // First bytes of what a channel has received, in a text of their own, which the next bytes are put after.
+    // First bytes of what a channel has received, in a text of their own, which the next bytes are
+    // put after.
     spare: Text,
 }
 
@@ -91,9 +92,11 @@ impl Node {
         reply::answer(alloc, &self.state, act)
     }
 
-    /// Takes the memory that the act needs in this node. After a refusal the node keeps nothing ready. The state is as before.
+    /// Takes the memory that the act needs in this node. After a refusal the node keeps nothing
+    /// ready. The state is as before.
     pub fn reserve(&mut self, alloc: Global, act: &Act) -> Result<(), NoMemory>
-        ensures ok { OnOk result (self.new ≡ record { state = self.old.state; room = room_for self.old.state act.now }) }
+        ensures ok { OnOk result (self.new
+            ≡ record { state = self.old.state; room = room_for self.old.state act.now }) }
         ensures err { OnErr result (self.new ≡ node_of self.old.state) }
     {
         drop(mem::replace(&mut self.room, Room::Nothing));

@@ -1,6 +1,7 @@
 //! What a node is, and which acts it is ready for.
 ghost use Rattle.std.specs.Prelude.{◌≡◌, is_some};
-ghost use Rattle.lio_cells.specs.State.{full_with, grants, is_absent, is_channel, is_empty, is_job, is_reference, is_variable, ready, result_of};
+ghost use Rattle.lio_cells.specs.State.{full_with, grants, is_absent, is_channel, is_empty, is_job};
+ghost use Rattle.lio_cells.specs.State.{is_reference, is_variable, ready, result_of};
 
 use crate::state::State;
 use crate::wish::Wish;

@@ -33,7 +33,8 @@ fn answer_read(alloc: Global, state: &State) -> Result<Reply, NoMemory>
 
 /// What a variable holds, where it is a full one.
 fn answer_take(alloc: Global, state: &State) -> Result<Reply, NoMemory>
-    ensures { IfOk result (λ reply. reply ≡ option_map_or Reply.Got (full_with state.now) Reply.Done) }
+    ensures { IfOk result
+        (λ reply. reply ≡ option_map_or Reply.Got (full_with state.now) Reply.Done) }
 {
     match state {
         State::Var(_, Some(value)) => answer_held(alloc, value),
@@ -47,7 +48,8 @@ fn answer_take(alloc: Global, state: &State) -> Result<Reply, NoMemory>
 
 /// What a task ended with, where it has.
 fn answer_wait(alloc: Global, state: &State) -> Result<Reply, NoMemory>
-    ensures { IfOk result (λ reply. reply ≡ option_map_or Reply.Told (result_of state.now) Reply.Done) }
+    ensures { IfOk result
+        (λ reply. reply ≡ option_map_or Reply.Told (result_of state.now) Reply.Done) }
 {
     match state {
         State::Job(_, Some(content)) => Ok(Reply::Told(Held::new(alloc, content.copy(alloc)?)?)),

@@ -25,7 +25,8 @@ fn room_to_hold(alloc: Global, value: &Value) -> Result<Room, NoMemory>
 
 /// For a reference, a copy of the value that is written.
 fn room_to_write(alloc: Global, state: &State, value: &Value) -> Result<Room, NoMemory>
-    ensures { IfOk result (λ room. room ≡ (if is_reference state.now then Room.Holds value.now else Room.Nothing)) }
+    ensures { IfOk result
+        (λ room. room ≡ (if is_reference state.now then Room.Holds value.now else Room.Nothing)) }
 {
     if is_reference(state) {
         room_to_hold(alloc, value)
@@ -47,7 +48,8 @@ fn room_to_take(state: &State) -> Room
 
 /// For a variable, a copy of the value that is put.
 fn room_to_put(alloc: Global, state: &State, value: &Value) -> Result<Room, NoMemory>
-    ensures { IfOk result (λ room. room ≡ (if is_variable state.now then Room.Holds value.now else Room.Nothing)) }
+    ensures { IfOk result
+        (λ room. room ≡ (if is_variable state.now then Room.Holds value.now else Room.Nothing)) }
 {
     if is_variable(state) {
         room_to_hold(alloc, value)
@@ -56,8 +58,8 @@ fn room_to_put(alloc: Global, state: &State, value: &Value) -> Result<Room, NoMe
     }
 }
 
-/// The bytes that a channel has received, and then the text. They are put after those that `spare` has of them already, so that the
-/// room for many sends costs no more than their bytes.
+/// The bytes that a channel has received, and then the text. They are put after those that `spare`
+/// has of them already, so that the room for many sends costs no more than their bytes.
 fn continued(
     alloc: Global,
     spare: &mut Text,
@@ -102,7 +104,8 @@ fn room_for_reference(
     label: &Label,
     value: &Value,
 ) -> Result<Room, NoMemory>
-    ensures { IfOk result (λ room. room ≡ (if is_absent state.now then Room.Becomes (State.Ref label.now value.now) else Room.Nothing)) }
+    ensures { IfOk result (λ room. room ≡ (if is_absent
+        state.now then Room.Becomes (State.Ref label.now value.now) else Room.Nothing)) }
 {
     if is_absent(state) {
         match copy_reference(alloc, label, value) {
@@ -121,7 +124,8 @@ fn room_for_variable(
     label: &Label,
     value: &Option<Value>,
 ) -> Result<Room, NoMemory>
-    ensures { IfOk result (λ room. room ≡ (if is_absent state.now then Room.Becomes (State.Var label.now value.now) else Room.Nothing)) }
+    ensures { IfOk result (λ room. room ≡ (if is_absent
+        state.now then Room.Becomes (State.Var label.now value.now) else Room.Nothing)) }
 {
     if is_absent(state) {
         match copy_variable(alloc, label, value) {
@@ -135,7 +139,8 @@ fn room_for_variable(
 
 /// Where nothing is, a job with a copy of its result's label.
 fn room_for_job(alloc: Global, state: &State, birth: &Birth) -> Result<Room, NoMemory>
-    ensures { IfOk result (λ room. room ≡ (if is_absent state.now then Room.Becomes (State.Job birth.now.result None) else Room.Nothing)) }
+    ensures { IfOk result (λ room. room ≡ (if is_absent
+        state.now then Room.Becomes (State.Job birth.now.result None) else Room.Nothing)) }
 {
     if is_absent(state) {
         Ok(Room::Becomes(State::Job(birth.result.copy(alloc)?, None)))
@@ -146,7 +151,8 @@ fn room_for_job(alloc: Global, state: &State, birth: &Birth) -> Result<Room, NoM
 
 /// For a job, a copy of the content that its task ends with.
 fn room_to_end(alloc: Global, state: &State, content: &Content) -> Result<Room, NoMemory>
-    ensures { IfOk result (λ room. room ≡ (if is_job state.now then Room.Ends content.now else Room.Nothing)) }
+    ensures { IfOk result
+        (λ room. room ≡ (if is_job state.now then Room.Ends content.now else Room.Nothing)) }
 {
     if is_job(state) {
         match content.copy(alloc) {
@@ -158,7 +164,8 @@ fn room_to_end(alloc: Global, state: &State, content: &Content) -> Result<Room, 
     }
 }
 
-/// The room for an act in a node of this state. `spare` has first bytes of what a channel has received, before and after.
+/// The room for an act in a node of this state. `spare` has first bytes of what a channel has
+/// received, before and after.
 #[tactic(auto, unfolding(crate::specs::Room::room_for))]
 pub fn room_for(alloc: Global, state: &State, spare: &mut Text, act: &Act) -> Result<Room, NoMemory>
     requires { Begins spare.old (bytes_of state.now) }

@@ -152,3 +152,36 @@ conjunction_is_named names A B h k = named-both names A B (λ who. sat who A && 
 pub disjunction_is_named : DisjunctionIsNamed
 unfolding or
 disjunction_is_named names A B h k = named-both names A B (λ who. sat who A || sat who B) h k
+
+-- all of them, for the functions whose contracts they are
+pub ruleset laws = (
+  implication_is_tested,
+  implication_is_reflexive,
+  implication_is_transitive,
+  implication_is_antisymmetric,
+  implication_is_by_clauses,
+  falsity_is_least,
+  truth_is_greatest,
+  canonical_form_is_unique,
+  canonical_form_is_canonical,
+  canonical_form_means_the_same,
+  canonical_form_of_canonical,
+  conjunction_is_canonical,
+  conjunction_means_both,
+  disjunction_is_canonical,
+  disjunction_means_either,
+  conjunction_implies_left,
+  conjunction_implies_right,
+  conjunction_is_greatest,
+  left_implies_disjunction,
+  right_implies_disjunction,
+  disjunction_is_least,
+  conjunction_is_commutative,
+  conjunction_is_associative,
+  conjunction_is_idempotent,
+  disjunction_is_commutative,
+  disjunction_is_associative,
+  disjunction_is_idempotent,
+  conjunction_is_named,
+  disjunction_is_named,
+)

@@ -17,7 +17,7 @@ use Rattle.lio_clauses.specs.Grammar as grammar
 use Rattle.lio_clauses.specs.Grammar.{ClauseTree, FormulaTree, name_tokens, repetition, clause_tokens, clause_value, formula_tokens, formula_value, Derives, DerivesTwo}
 use Rattle.lio_clauses.specs.Width.{IsWide}
 use Rattle.lio_clauses.proofs.Members.{In, All-In}
-use Rattle.lio_clauses.proofs.GrammarLemmas.{derived_is_read, derived_two_are_read}
+use Rattle.lio_clauses.proofs.GrammarLemmas.{read_is_derived, derived_is_read, read_two_are_derived, derived_two_are_read}
 use Rattle.lio_clauses.proofs.Forms.{canonical-itself, canonical-only}
 use Rattle.lio_clauses.proofs.Orders.{in_order-head}
 use Rattle.lio_clauses.proofs.Subsets.{within}
@@ -300,3 +300,6 @@ pub reads_kept : (names : List (List ℕ)) (masks : List ℕ) (A : List (List �
 reads_kept names masks A known canon same few named =
     let short : length A ≤ 64 = subst (λ (A : List (List ℕ)). length A ≤ 64) same (simp length-map few) in
     reads_printed names A known canon (λ wide. omega (arith, short, wide)) named
+
+-- the laws of the text of formulas, for the functions whose contracts they are
+pub ruleset laws = (read_is_derived, read_two_are_derived, reads_printed, reads_two_printed)

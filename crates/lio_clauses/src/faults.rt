@@ -1,4 +1,5 @@
-//! What the calls of this crate answer in place of a result. Want of memory converts to each of them by `?`.
+//! What the calls of this crate answer in place of a result. Want of memory converts to each of
+//! them by `?`.
 use std::alloc::{AllocError, AllocFailed};
 use thiserror::Error;
 
@@ -41,7 +42,8 @@ pub enum NameFault {
     /// The name is there already, with this number.
     #[error("the name is there already, with number {0}")]
     Again(u32),
-    /// The byte at this place may not stand there. It is 0 for the empty name, and 32 for a name that is too long.
+    /// The byte at this place may not stand there. It is 0 for the empty name, and 32 for a name
+    /// that is too long.
     #[error("the name has a wrong byte at place {0}")]
     BadName(u32),
     /// 64 names are there.

@@ -1,5 +1,6 @@
 //! Formulas over principals, always in canonical form.
-ghost use Rattle.std.specs.Prelude.{◌≡◌, ◌≢◌, ℕ, ◌^◌, ◌<◌, ◌≤◌, ◌↔◌, ◌++◌, ◌&&◌, ◌||◌, Bool, List, [], ◌∷◌, length, map, IsTrue, IsOk, IfOk, nat_eq};
+ghost use Rattle.std.specs.Prelude.{◌≡◌, ◌≢◌, ℕ, ◌^◌, ◌<◌, ◌≤◌, ◌↔◌, ◌++◌, ◌&&◌, ◌||◌, Bool, List};
+ghost use Rattle.std.specs.Prelude.{[], ◌∷◌, length, map, IsTrue, IsOk, IfOk, nat_eq};
 ghost use Rattle.std.specs.List.{All};
 ghost use Rattle.std.specs.Cmp.{nat_eq_equiv, partial_equiv_from_equiv};
 ghost use Rattle.std.specs.Cmp.Lexicographic.{pointwise, lists_equiv};
@@ -29,10 +30,12 @@ enum Clauses {
     Many(Arc<Vec<u64>>),
 }
 
-/// A conjunction of at most 64 clauses, each a disjunction of principals, in canonical form: no clause contains
-/// another, and the clauses stand in lexicographic order. Without a clause it is True, with the empty one False.
+/// A conjunction of at most 64 clauses, each a disjunction of principals, in canonical form: no
+/// clause contains another, and the clauses stand in lexicographic order. Without a clause it is
+/// True, with the empty one False.
 ///
-/// A formula has 16 bytes. Of at most one clause it takes no memory, and of more its copies share theirs.
+/// A formula has 16 bytes. Of at most one clause it takes no memory, and of more its copies share
+/// theirs.
 #[derive(Debug, Drop)]
 pub struct Formula {
     kept: Clauses,
@@ -90,7 +93,8 @@ impl Formula {
     /// The canonical form of the conjunction of clauses; bit n of a clause stands for principal n.
     pub fn of_clauses(alloc: Global, clauses: &[u64]) -> Result<Formula, FormFault>
         ensures ok { IfOk result (λ f. f ≡ canonical (map principals clauses.now)) }
-        ensures sets { IfOk result (λ f. (who : ℕ → Bool) → sat who f ≡ sat who (map principals clauses.now)) }
+        ensures sets { IfOk result
+            (λ f. (who : ℕ → Bool) → sat who f ≡ sat who (map principals clauses.now)) }
         ensures wide { result ≢ Err FormFault.NoMemory
             → (result ≡ Err FormFault.Wide) ↔ IsWide (canonical (map principals clauses.now)) }
     {
@@ -100,7 +104,8 @@ impl Formula {
     /// The conjunction.
     pub fn and(&self, alloc: Global, other: &Formula) -> Result<Formula, FormFault>
         ensures ok { IfOk result (λ f. f ≡ and self.now other.now) }
-        ensures sets { IfOk result (λ f. (who : ℕ → Bool) → sat who f ≡ (sat who self.now && sat who other.now)) }
+        ensures sets { IfOk result
+            (λ f. (who : ℕ → Bool) → sat who f ≡ (sat who self.now && sat who other.now)) }
         ensures wide { result ≢ Err FormFault.NoMemory
             → (result ≡ Err FormFault.Wide) ↔ IsWide (and self.now other.now) }
     {
@@ -110,7 +115,8 @@ impl Formula {
     /// The disjunction.
     pub fn or(&self, alloc: Global, other: &Formula) -> Result<Formula, FormFault>
         ensures ok { IfOk result (λ f. f ≡ or self.now other.now) }
-        ensures sets { IfOk result (λ f. (who : ℕ → Bool) → sat who f ≡ (sat who self.now || sat who other.now)) }
+        ensures sets { IfOk result
+            (λ f. (who : ℕ → Bool) → sat who f ≡ (sat who self.now || sat who other.now)) }
         ensures wide { result ≢ Err FormFault.NoMemory
             → (result ≡ Err FormFault.Wide) ↔ IsWide (or self.now other.now) }
     {
@@ -119,9 +125,11 @@ impl Formula {
 
     /// The canonical form of a conjunction.
     fn of_conjuncts(alloc: Global, conjuncts: Conjuncts<'_>) -> Result<Formula, FormFault>
-        ensures ok { IfOk result (λ f. f ≡ canonical (map principals (clauses_of conjuncts.entry))) }
+        ensures ok { IfOk result
+            (λ f. f ≡ canonical (map principals (clauses_of conjuncts.entry))) }
         ensures wide { result ≢ Err FormFault.NoMemory
-            → (result ≡ Err FormFault.Wide) ↔ IsWide (canonical (map principals (clauses_of conjuncts.entry))) }
+            → (result ≡ Err FormFault.Wide)
+            ↔ IsWide (canonical (map principals (clauses_of conjuncts.entry))) }
     {
         let kept = conjuncts.minimal(alloc)?;
         Ok(Formula::of_kept(alloc, kept.as_slice())?)
@@ -171,8 +179,8 @@ impl Formula {
         }
     }
 
-    /// Whether each set of principals that satisfies this formula satisfies the other one: each clause of the other
-    /// contains one of this formula.
+    /// Whether each set of principals that satisfies this formula satisfies the other one: each
+    /// clause of the other contains one of this formula.
     pub fn implies(&self, other: &Formula) -> bool
         ensures test { result ≡ implies self.now other.now }
         ensures all_sets { IsTrue result ↔ Implies self.now other.now }
@@ -180,7 +188,8 @@ impl Formula {
         are_covered(&[], self.clauses(), other.clauses())
     }
 
-    /// Whether each set of principals that satisfies this formula and another one satisfies the last one.
+    /// Whether each set of principals that satisfies this formula and another one satisfies the
+    /// last one.
     pub fn implies_with(&self, with: &Formula, other: &Formula) -> bool
         ensures test { result ≡ implies (self.now ++ with.now) other.now }
         ensures all_sets { IsTrue result ↔ ImplyTogether self.now with.now other.now }
@@ -191,8 +200,10 @@ impl Formula {
     /// Whether a set of principals satisfies the formula; bit n of the set stands for principal n.
     pub fn satisfied_by(&self, who: u64) -> bool
         ensures test { result ≡ sat (set_of (principals who)) self.now }
-        // The same for each test that has the members of `who` below 64, whatever it says of other numbers.
-        ensures set { (P : ℕ → Bool) → ((n : ℕ) → n < 64 → P n ≡ set_of (principals who) n) → result ≡ sat P self.now }
+        // The same for each test that has the members of `who` below 64, whatever it says of other
+        // numbers.
+        ensures set { (P : ℕ → Bool)
+            → ((n : ℕ) → n < 64 → P n ≡ set_of (principals who) n) → result ≡ sat P self.now }
     {
         are_met(self.clauses(), who)
     }

@@ -1,9 +1,10 @@
-//! Formulas of Disjunction Category Labels: conjunctions of clauses, each a disjunction of principals, always in
-//! canonical form, and their text over the names of principals.
+//! Formulas of Disjunction Category Labels: conjunctions of clauses, each a disjunction of
+//! principals, always in canonical form, and their text over the names of principals.
 #![tactic(auto)]
 
 mod faults;
 mod formula;
+mod keep;
 pub mod laws;
 mod masks;
 mod names;
@@ -12,5 +13,6 @@ mod text;
 
 pub use faults::{FormFault, NameFault, NoMemory, TextFault};
 pub use formula::Formula;
+pub use keep::beside;
 pub use names::{Names, name_fault};
 pub use text::laws as text_laws;

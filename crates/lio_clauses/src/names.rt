@@ -1,5 +1,7 @@
 //! The names of principals.
-ghost use Rattle.std.specs.Prelude.{◌≡◌, ◌↔◌, ◌<◌, ◌≤◌, ◌++◌, [], ◌∷◌, length, slice_get, Contains, IsTrue, IsNone, IfSome, IfOk, OnOk, OnErr, IsOkAnd, MatchOption, IsOkUnless};
+ghost use Rattle.std.specs.Prelude.{◌≡◌, ◌↔◌, ◌<◌, ◌≤◌, ◌++◌, [], ◌∷◌, length, slice_get, Contains};
+ghost use Rattle.std.specs.Prelude.{IsTrue, IsNone, IfSome, IfOk, OnOk, OnErr, IsOkAnd};
+ghost use Rattle.std.specs.Prelude.{MatchOption, IsOkUnless};
 ghost use Rattle.lio_clauses.specs.Names as spec;
 ghost use Rattle.lio_clauses.specs.Names.{AreNames, number_of};
 
@@ -25,8 +27,8 @@ impl Model for Names {
     ghost invariant = { λ names. AreNames (bytes_of names.set.keys) };
 }
 
-/// The first place whose byte may not stand there in a name: 1 to 32 bytes of `a` to `z`, `0` to `9` and `_` that begin with a letter.
-/// It is 0 for the empty name and 32 for a longer one.
+/// The first place whose byte may not stand there in a name: 1 to 32 bytes of `a` to `z`, `0` to
+/// `9` and `_` that begin with a letter. It is 0 for the empty name and 32 for a longer one.
 pub fn name_fault(name: &[u8]) -> Option<u32>
     ensures { result ≡ spec.name_fault name.now }
 {
@@ -71,15 +73,17 @@ impl Names {
         })
     }
 
-    /// Adds a name of 1 to 32 bytes of `a` to `z`, `0` to `9` and `_` that begins with a letter, and answers its number.
-    /// After a fault the names are as before.
+    /// Adds a name of 1 to 32 bytes of `a` to `z`, `0` to `9` and `_` that begins with a letter,
+    /// and answers its number. After a fault the names are as before.
     pub fn add(&mut self, alloc: Global, name: &[u8]) -> Result<u32, NameFault>
         ensures number { IfOk result (λ number. number ≡ length self.old) }
         ensures added { OnOk result (self.new ≡ self.old ++ name.now ∷ []) }
         ensures unchanged { OnErr result (self.new ≡ self.old) }
 
-        // A name that breaks a rule is refused for the first one; another is added, unless memory runs out.
-        ensures fault { MatchOption (refusal self.old name.now) (IsOkUnless result NameFault.NoMemory) (λ fault. result ≡ Err fault) }
+        // A name that breaks a rule is refused for the first one; another is added, unless memory
+        // runs out.
+        ensures fault { MatchOption (refusal self.old name.now)
+            (IsOkUnless result NameFault.NoMemory) (λ fault. result ≡ Err fault) }
     {
         if let Some(place) = name_fault(name) {
             return Err(NameFault::BadName(place));

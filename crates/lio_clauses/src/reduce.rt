@@ -1,10 +1,12 @@
 //! The minimal clauses of a conjunction, found in rising number and kept in lexicographic order.
-ghost use Rattle.std.specs.Prelude.{◌≡◌, ◌≢◌, ℕ, ◌+◌, ◌^◌, ◌<◌, ◌≤◌, true, false, List, [], ◌∷◌, ◌++◌, length, map, IfOk, OnOk, OnErr, bit_and, slice_index};
+ghost use Rattle.std.specs.Prelude.{◌≡◌, ◌≢◌, ℕ, ◌+◌, ◌^◌, ◌<◌, ◌≤◌, true, false, List, [], ◌∷◌};
+ghost use Rattle.std.specs.Prelude.{◌++◌, length, map, IfOk, OnOk, OnErr, bit_and, slice_index};
 ghost use Rattle.std.specs.List.{All};
 ghost use Rattle.lio_clauses.specs.Principals.{principals};
 ghost use Rattle.lio_clauses.specs.Canonical.{canonical};
 ghost use Rattle.lio_clauses.specs.Width.{IsWide};
-ghost use Rattle.lio_clauses.specs.Bits.{IsFormula, IsLeastUncovered, KeepsMinimal, mask_before, unions};
+ghost use Rattle.lio_clauses.specs.Bits.{IsFormula, IsLeastUncovered, KeepsMinimal, mask_before};
+ghost use Rattle.lio_clauses.specs.Bits.{unions};
 
 use crate::faults::FormFault;
 use crate::masks::is_covered;
@@ -17,16 +19,20 @@ const MAX_CLAUSES: usize = 64;
 /// The minimal clauses that were found so far. Up to four take no memory.
 pub(crate) type Kept = SmallVec<u64, 4>;
 
-/// Keeps one more clause, the least one, as a number, of some clauses that contains no kept one. It is minimal, since
-/// what it contains is less. After a fault the kept ones are as before.
+/// Keeps one more clause, the least one, as a number, of some clauses that contains no kept one. It
+/// is minimal, since what it contains is less. After a fault the kept ones are as before.
 pub(crate) fn keep(kept: &mut Kept, clause: u64) -> Result<(), FormFault>
-    requires { (clauses : List ℕ) × KeepsMinimal clauses kept.old.items × IsLeastUncovered kept.old.items clauses (Some clause) }
+    requires { (clauses : List ℕ) × KeepsMinimal clauses kept.old.items
+        × IsLeastUncovered kept.old.items clauses (Some clause) }
     ensures room { OnOk result (length kept.old.items < 64) }
     ensures one_more { OnOk result (length kept.new.items ≡ length kept.old.items + 1) }
     ensures minimal { OnOk result ((clauses : List ℕ) → KeepsMinimal clauses kept.old.items
-        → IsLeastUncovered kept.old.items clauses (Some clause) → KeepsMinimal clauses kept.new.items) }
-    ensures wide { result ≡ Err FormFault.Wide → (clauses : List ℕ) → KeepsMinimal clauses kept.old.items
-        → IsLeastUncovered kept.old.items clauses (Some clause) → IsWide (canonical (map principals clauses)) }
+        → IsLeastUncovered kept.old.items clauses (Some clause)
+        → KeepsMinimal clauses kept.new.items) }
+    ensures wide { result ≡ Err FormFault.Wide
+        → (clauses : List ℕ) → KeepsMinimal clauses kept.old.items
+        → IsLeastUncovered kept.old.items clauses (Some clause)
+        → IsWide (canonical (map principals clauses)) }
     ensures unchanged { OnErr result (kept.new.items ≡ kept.old.items) }
 {
     if kept.len() == MAX_CLAUSES {
@@ -52,8 +58,10 @@ impl<'a> Conjuncts<'a> {
     /// The minimal clauses, in lexicographic order: the canonical form.
     pub(crate) fn minimal(self, alloc: Global) -> Result<Kept, FormFault>
         ensures formula { IfOk result (λ kept. IsFormula kept.items) }
-        ensures canonical { IfOk result (λ kept. map principals kept.items ≡ canonical (map principals (clauses_of self.entry))) }
-        ensures wide { result ≡ Err FormFault.Wide → IsWide (canonical (map principals (clauses_of self.entry))) }
+        ensures canonical { IfOk result (λ kept. map principals kept.items
+            ≡ canonical (map principals (clauses_of self.entry))) }
+        ensures wide { result ≡ Err FormFault.Wide
+            → IsWide (canonical (map principals (clauses_of self.entry))) }
     {
         let mut kept = Kept::new(alloc);
         'rounds: while let Some(clause) = self.least_uncovered(kept.as_slice()) {
@@ -113,12 +121,14 @@ pub(crate) fn lesser_uncovered(least: Option<u64>, clause: u64, kept: &[u64]) ->
     }
 }
 
-/// Where a clause has its place among kept ones in lexicographic order, where none contains another.
+/// Where a clause has its place among kept ones in lexicographic order, where none contains
+/// another.
 fn place_of(kept: &[u64], clause: u64) -> usize
     requires { All (λ k. (bit_and k clause ≢ k) × (bit_and clause k ≢ clause)) kept.now }
     ensures within { result ≤ length kept.now }
     ensures before { (k : ℕ) → k < result → mask_before clause (slice_index kept.now k) ≡ false }
-    ensures after { result < length kept.now → mask_before clause (slice_index kept.now result) ≡ true }
+    ensures after { result < length kept.now
+        → mask_before clause (slice_index kept.now result) ≡ true }
 {
     for (i, k) in kept.iter().enumerate() {
         if precedes(clause, *k) {
@@ -128,8 +138,8 @@ fn place_of(kept: &[u64], clause: u64) -> usize
     kept.len()
 }
 
-/// Whether a clause stands before another in lexicographic order, where neither contains the other: the lowest
-/// principal in which they differ is its own.
+/// Whether a clause stands before another in lexicographic order, where neither contains the other:
+/// the lowest principal in which they differ is its own.
 fn precedes(a: u64, b: u64) -> bool
     requires a_apart { bit_and a b ≢ a }
     requires b_apart { bit_and b a ≢ b }

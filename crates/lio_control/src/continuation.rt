@@ -15,7 +15,8 @@ use lio_labels::Label;
 use lio_syntax::Script;
 use std::alloc::Global;
 
-/// Where a task stands: the running procedure's frame, and the calls that it goes back to, the innermost last.
+/// Where a task stands: the running procedure's frame, and the calls that it goes back to, the
+/// innermost last.
 #[derive(Drop)]
 pub struct Continuation {
     pub(crate) calls: Vec<Call>,
@@ -29,7 +30,8 @@ impl Continuation {
         at: usize,
         environment: Environment,
     ) -> Result<Continuation, NoMemory>
-        ensures { IfOk result (λ continuation. (lines : List Line) → place_of lines continuation ≡ record { environment = environment; items = enter (block_at lines at) [] }) }
+        ensures { IfOk result (λ continuation. (lines : List Line) → place_of lines continuation
+            ≡ record { environment = environment; items = enter (block_at lines at) [] }) }
     {
         let frame = Frame::of_body(alloc, at, environment)?;
         Ok(Continuation {
@@ -40,7 +42,8 @@ impl Continuation {
 
     /// Nothing is bound, and nothing is left.
     pub fn ended(alloc: Global) -> Continuation
-        ensures { (lines : List Line) → place_of lines result ≡ record { environment = []; items = [] } }
+        ensures { (lines : List Line)
+            → place_of lines result ≡ record { environment = []; items = [] } }
     {
         Continuation {
             calls: Vec::new(alloc),
@@ -64,7 +67,8 @@ impl Continuation {
 
     /// What comes first.
     pub fn front<'t, 's>(&'t self, script: &'s Script) -> Front<'t, 's>
-        ensures { IsFront (script_lines script.now) (place_of (script_lines script.now) self.now).items result }
+        ensures { IsFront (script_lines script.now)
+            (place_of (script_lines script.now) self.now).items result }
     {
         if let Some(front) = self.frame.front(script) {
             return front;
@@ -78,7 +82,8 @@ impl Continuation {
 
     /// An equal continuation.
     pub fn copy(&self, alloc: Global) -> Result<Continuation, NoMemory>
-        ensures { IfOk result (λ continuation. (lines : List Line) → place_of lines continuation ≡ place_of lines self.now) }
+        ensures { IfOk result (λ continuation. (lines : List Line)
+            → place_of lines continuation ≡ place_of lines self.now) }
     {
         let mut calls = Vec::new(alloc);
         for call in &self.calls {
@@ -88,9 +93,11 @@ impl Continuation {
         Ok(Continuation { calls, frame })
     }
 
-    /// The continuation as an observer sees it: each value in it is erased. Source: the erasure of the concurrent calculus of LIO, ICFP 2012.
+    /// The continuation as an observer sees it: each value in it is erased. Source: the erasure of
+    /// the concurrent calculus of LIO, ICFP 2012.
     pub fn erase(&self, alloc: Global, observer: &Label) -> Result<Continuation, NoMemory>
-        ensures { IfOk result (λ continuation. (lines : List Line) → place_of lines continuation ≡ hide_place observer.now (place_of lines self.now)) }
+        ensures { IfOk result (λ continuation. (lines : List Line)
+            → place_of lines continuation ≡ hide_place observer.now (place_of lines self.now)) }
     {
         let mut calls = Vec::new(alloc);
         for call in &self.calls {

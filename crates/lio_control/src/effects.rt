@@ -1,5 +1,6 @@
 //! How a task goes on.
-ghost use Rattle.std.specs.Prelude.{◌≡◌, ◌<◌, List, [], ◌∷◌, ◌++◌, IfOk, OnOk, OnErr, MatchBool, vec_len, vec_capacity};
+ghost use Rattle.std.specs.Prelude.{◌≡◌, ◌<◌, List, [], ◌∷◌, ◌++◌, IfOk, OnOk, OnErr, MatchBool};
+ghost use Rattle.std.specs.Prelude.{vec_len, vec_capacity};
 ghost use Rattle.lio_lines.specs.declared.line.Line.{Line};
 ghost use Rattle.lio_lines.specs.declared.line.Simple.{Simple as Simply};
 ghost use Rattle.lio_values.specs.declared.value.Value.TheVariants.{Bare};
@@ -52,8 +53,10 @@ impl Continuation {
     ) -> Result<(), NoMemory>
         requires { AtStatement (place_of (script_lines script.now) self.old).items }
         ensures ok { OnOk result (let was = place_of (script_lines script.now) self.old in
-            place_of (script_lines script.now) self.new ≡ record { environment = spec.bind was.environment name.now value; items = rest_of was.items }) }
-        ensures err { OnErr result (place_of (script_lines script.now) self.new ≡ place_of (script_lines script.now) self.old) }
+            place_of (script_lines script.now) self.new ≡ record { environment = spec.bind
+            was.environment name.now value; items = rest_of was.items }) }
+        ensures err { OnErr result (place_of (script_lines script.now) self.new
+            ≡ place_of (script_lines script.now) self.old) }
     {
         self.frame.environment.bind(alloc, name, value)?;
         let _ = self.frame.advance(script);
@@ -64,8 +67,10 @@ impl Continuation {
     pub fn enter(&mut self, script: &Script, block: usize) -> Result<(), NoMemory>
         requires { AtStatement (place_of (script_lines script.now) self.old).items }
         ensures ok { OnOk result (let was = place_of (script_lines script.now) self.old in
-            place_of (script_lines script.now) self.new ≡ record was { items = enter (block_at (script_lines script.now) block) (rest_of was.items) }) }
-        ensures err { OnErr result (place_of (script_lines script.now) self.new ≡ place_of (script_lines script.now) self.old) }
+            place_of (script_lines script.now) self.new ≡ record
+            was { items = enter (block_at (script_lines script.now) block) (rest_of was.items) }) }
+        ensures err { OnErr result (place_of (script_lines script.now) self.new
+            ≡ place_of (script_lines script.now) self.old) }
     {
         self.frame.reserve(1)?;
         let _ = self.frame.advance(script);
@@ -76,20 +81,26 @@ impl Continuation {
     /// Enters a block in front of all else: a loop's statement comes again behind it.
     pub fn repeat(&mut self, script: &Script, block: usize) -> Result<(), NoMemory>
         ensures ok { OnOk result (let was = place_of (script_lines script.now) self.old in
-            place_of (script_lines script.now) self.new ≡ record was { items = enter (block_at (script_lines script.now) block) was.items }) }
-        ensures err { OnErr result (place_of (script_lines script.now) self.new ≡ place_of (script_lines script.now) self.old) }
+            place_of (script_lines script.now) self.new
+            ≡ record was { items = enter (block_at (script_lines script.now) block) was.items }) }
+        ensures err { OnErr result (place_of (script_lines script.now) self.new
+            ≡ place_of (script_lines script.now) self.old) }
     {
         self.frame.settle(script);
         self.frame.push(Part::Rest(block))?;
         Ok(())
     }
 
-    /// Enters a block in place of the statement that comes first, in front of the mark of the `catch` at a place.
+    /// Enters a block in place of the statement that comes first, in front of the mark of the
+    /// `catch` at a place.
     pub fn guard(&mut self, script: &Script, block: usize, catch: usize) -> Result<(), NoMemory>
         requires { AtStatement (place_of (script_lines script.now) self.old).items }
         ensures ok { OnOk result (let was = place_of (script_lines script.now) self.old in
-            place_of (script_lines script.now) self.new ≡ record was { items = enter (block_at (script_lines script.now) block) (mark_at (script_lines script.now) catch (rest_of was.items)) }) }
-        ensures err { OnErr result (place_of (script_lines script.now) self.new ≡ place_of (script_lines script.now) self.old) }
+            place_of (script_lines script.now) self.new
+            ≡ record was { items = enter (block_at (script_lines script.now) block)
+            (mark_at (script_lines script.now) catch (rest_of was.items)) }) }
+        ensures err { OnErr result (place_of (script_lines script.now) self.new
+            ≡ place_of (script_lines script.now) self.old) }
     {
         self.frame.reserve(2)?;
         let _ = self.frame.advance(script);
@@ -98,7 +109,8 @@ impl Continuation {
         Ok(())
     }
 
-    /// Calls a procedure, whose body begins at a place, in an environment of its own. The name is bound to what it returns.
+    /// Calls a procedure, whose body begins at a place, in an environment of its own. The name is
+    /// bound to what it returns.
     pub fn call(
         &mut self,
         alloc: Global,
@@ -109,8 +121,11 @@ impl Continuation {
     ) -> Result<(), NoMemory>
         requires { AtStatement (place_of (script_lines script.now) self.old).items }
         ensures ok { OnOk result (let was = place_of (script_lines script.now) self.old in
-            place_of (script_lines script.now) self.new ≡ record { environment = environment; items = enter (block_at (script_lines script.now) body) (Back was.environment name.now ∷ rest_of was.items) }) }
-        ensures err { OnErr result (place_of (script_lines script.now) self.new ≡ place_of (script_lines script.now) self.old) }
+            place_of (script_lines script.now) self.new
+            ≡ record { environment = environment; items = enter (block_at (script_lines script.now)
+            body) (Back was.environment name.now ∷ rest_of was.items) }) }
+        ensures err { OnErr result (place_of (script_lines script.now) self.new
+            ≡ place_of (script_lines script.now) self.old) }
     {
         let name = name.copy(alloc)?;
         let frame = Frame::of_body(alloc, body, environment)?;
@@ -125,14 +140,17 @@ impl Continuation {
     pub fn leave(&mut self, alloc: Global, script: &Script) -> Result<(), NoMemory>
         requires { IsBack (place_of (script_lines script.now) self.old).items }
         ensures ok { OnOk result (let was = place_of (script_lines script.now) self.old in
-            place_of (script_lines script.now) self.new ≡ returned (Bare unit) was.environment was.items) }
-        ensures err { OnErr result (place_of (script_lines script.now) self.new ≡ place_of (script_lines script.now) self.old) }
+            place_of (script_lines script.now) self.new
+            ≡ returned (Bare unit) was.environment was.items) }
+        ensures err { OnErr result (place_of (script_lines script.now) self.new
+            ≡ place_of (script_lines script.now) self.old) }
     {
         self.go_back(alloc, Value::Bare(Plain::Unit))?;
         Ok(())
     }
 
-    /// Goes back to the caller, in whose environment the call's name is bound to a value; where no call is open nothing is left.
+    /// Goes back to the caller, in whose environment the call's name is bound to a value; where no
+    /// call is open nothing is left.
     pub fn give_back(
         &mut self,
         alloc: Global,
@@ -141,8 +159,10 @@ impl Continuation {
     ) -> Result<(), NoMemory>
         requires { AtStatement (place_of (script_lines script.now) self.old).items }
         ensures ok { OnOk result (let was = place_of (script_lines script.now) self.old in
-            place_of (script_lines script.now) self.new ≡ returned value was.environment (rest_of was.items)) }
-        ensures err { OnErr result (place_of (script_lines script.now) self.new ≡ place_of (script_lines script.now) self.old) }
+            place_of (script_lines script.now) self.new
+            ≡ returned value was.environment (rest_of was.items)) }
+        ensures err { OnErr result (place_of (script_lines script.now) self.new
+            ≡ place_of (script_lines script.now) self.old) }
     {
         self.go_back(alloc, value)?;
         Ok(())
@@ -150,8 +170,10 @@ impl Continuation {
 
     /// Goes on in the frame of the innermost call, if one is open.
     fn resume_caller(&mut self)
-        ensures none { self.old.calls.items ≡ [] → (self.new.calls.items ≡ []) × (self.new.frame ≡ self.old.frame) }
-        ensures some { (calls : List Caller) (call : Caller) → self.old.calls.items ≡ calls ++ call ∷ [] → (self.new.calls.items ≡ calls) × (self.new.frame ≡ call.caller) }
+        ensures none { self.old.calls.items ≡ []
+            → (self.new.calls.items ≡ []) × (self.new.frame ≡ self.old.frame) }
+        ensures some { (calls : List Caller) (call : Caller) → self.old.calls.items
+            ≡ calls ++ call ∷ [] → (self.new.calls.items ≡ calls) × (self.new.frame ≡ call.caller) }
     {
         if let Some(call) = self.calls.pop() {
             let Call { caller, .. } = call;
@@ -159,10 +181,13 @@ impl Continuation {
         }
     }
 
-    /// Goes back to the caller, in whose environment the call's name is bound to a value; where no call is open nothing is left.
+    /// Goes back to the caller, in whose environment the call's name is bound to a value; where no
+    /// call is open nothing is left.
     fn go_back(&mut self, alloc: Global, value: Value) -> Result<(), NoMemory>
-        ensures ok { OnOk result ((lines : List Line) → place_of lines self.new ≡ returned value (place_of lines self.old).environment (place_of lines self.old).items) }
-        ensures err { OnErr result ((lines : List Line) → place_of lines self.new ≡ place_of lines self.old) }
+        ensures ok { OnOk result ((lines : List Line) → place_of lines self.new ≡ returned value
+            (place_of lines self.old).environment (place_of lines self.old).items) }
+        ensures err { OnErr result ((lines : List Line)
+            → place_of lines self.new ≡ place_of lines self.old) }
     {
         let count = self.calls.len();
         if count == 0 {
@@ -176,10 +201,13 @@ impl Continuation {
         Ok(())
     }
 
-    /// Leaves nothing but a fault that nothing catches, in the environment of the outermost procedure.
+    /// Leaves nothing but a fault that nothing catches, in the environment of the outermost
+    /// procedure.
     fn fail(&mut self, alloc: Global, fault: Fault) -> Result<(), NoMemory>
         ensures err { OnErr result (self.new ≡ self.old) }
-        ensures ok { OnOk result ((lines : List Line) → place_of lines self.new ≡ record { environment = outermost self.old.calls.items self.old.frame; items = Fail fault ∷ [] }) }
+        ensures ok { OnOk result ((lines : List Line)
+            → place_of lines self.new ≡ record { environment = outermost self.old.calls.items
+            self.old.frame; items = Fail fault ∷ [] }) }
     {
         let fault = Held::new(alloc, fault)?;
         let mut parts = Vec::new(alloc);
@@ -194,9 +222,13 @@ impl Continuation {
     #[tactic(none)]
     fn catch(&mut self, alloc: Global, script: &Script, fault: &Fault) -> Result<bool, NoMemory>
         ensures caught { IfOk result (λ found. MatchBool found
-            (place_of (script_lines script.now) self.new ≡ thrown fault.now (place_of (script_lines script.now) self.old).environment (place_of (script_lines script.now) self.old).items)
-            (SameCalls self.old self.new × (thrown fault.now (place_of (script_lines script.now) self.old).environment (place_of (script_lines script.now) self.old).items
-            ≡ record { environment = outermost self.old.calls.items self.old.frame; items = Fail fault.now ∷ [] }))) }
+            (place_of (script_lines script.now) self.new
+            ≡ thrown fault.now (place_of (script_lines script.now) self.old).environment
+            (place_of (script_lines script.now) self.old).items)
+            (SameCalls self.old self.new × (thrown fault.now (place_of (script_lines script.now)
+            self.old).environment (place_of (script_lines script.now) self.old).items
+            ≡ record { environment = outermost self.old.calls.items
+            self.old.frame; items = Fail fault.now ∷ [] }))) }
         ensures err { OnErr result (SameCalls self.old self.new) }
     {
         if self.frame.catch(alloc, script, fault)? {
@@ -220,8 +252,10 @@ impl Continuation {
     pub fn throw(&mut self, alloc: Global, script: &Script, fault: Fault) -> Result<(), NoMemory>
         requires { AtStatement (place_of (script_lines script.now) self.old).items }
         ensures ok { OnOk result (let was = place_of (script_lines script.now) self.old in
-            place_of (script_lines script.now) self.new ≡ thrown fault was.environment (rest_of was.items)) }
-        ensures err { OnErr result (place_of (script_lines script.now) self.new ≡ place_of (script_lines script.now) self.old) }
+            place_of (script_lines script.now) self.new
+            ≡ thrown fault was.environment (rest_of was.items)) }
+        ensures err { OnErr result (place_of (script_lines script.now) self.new
+            ≡ place_of (script_lines script.now) self.old) }
     {
         match self.catch(alloc, script, &fault) {
             Ok(false) => self.fail(alloc, fault),
@@ -239,9 +273,13 @@ impl Continuation {
     /// The access of the statement that comes first comes in its place.
     pub fn access(&mut self, script: &Script) -> Result<(), NoMemory>
         requires { AtStatement (place_of (script_lines script.now) self.old).items }
-        ensures ok { OnOk result ((simple : Simply) → Begins (place_of (script_lines script.now) self.old).items (Simple simple) → let was = place_of (script_lines script.now) self.old in
-            place_of (script_lines script.now) self.new ≡ record was { items = Access simple ∷ rest_of was.items }) }
-        ensures err { OnErr result (place_of (script_lines script.now) self.new ≡ place_of (script_lines script.now) self.old) }
+        ensures ok { OnOk result ((simple : Simply)
+            → Begins (place_of (script_lines script.now) self.old).items (Simple simple)
+            → let was = place_of (script_lines script.now) self.old in
+            place_of (script_lines script.now) self.new
+            ≡ record was { items = Access simple ∷ rest_of was.items }) }
+        ensures err { OnErr result (place_of (script_lines script.now) self.new
+            ≡ place_of (script_lines script.now) self.old) }
     {
         self.frame.reserve(1)?;
         let at = self.frame.advance(script);
@@ -251,7 +289,8 @@ impl Continuation {
 
     /// Forgets all. It takes no memory.
     pub fn end(&mut self)
-        ensures { (lines : List Line) → place_of lines self.new ≡ record { environment = []; items = [] } }
+        ensures { (lines : List Line)
+            → place_of lines self.new ≡ record { environment = []; items = [] } }
     {
         self.calls.clear();
         self.frame.clear();

@@ -39,7 +39,8 @@ impl Environment {
         }
     }
 
-    /// The names bound to the values, as a procedure's parameters to its arguments: the later over the earlier.
+    /// The names bound to the values, as a procedure's parameters to its arguments: the later over
+    /// the earlier.
     pub fn of(alloc: Global, names: &[Text], values: &[Value]) -> Result<Environment, NoMemory>
         ensures { IfOk result (λ environment. environment ≡ bind_all [] names.now values.now) }
     {
@@ -62,8 +63,8 @@ impl Environment {
         None
     }
 
-    /// Binds a name to a value, and leaves each other name as it is. Where the name is bound already its value is replaced in place,
-    /// and no memory is taken.
+    /// Binds a name to a value, and leaves each other name as it is. Where the name is bound
+    /// already its value is replaced in place, and no memory is taken.
     pub fn bind(&mut self, alloc: Global, name: &Text, value: Value) -> Result<(), NoMemory>
         ensures ok { OnOk result (self.new ≡ bind self.old name.now value) }
         ensures err { OnErr result (self.new ≡ self.old) }
@@ -86,7 +87,8 @@ impl Environment {
 
     /// Where a name is bound, or else where it is to be.
     fn place_for(&self, name: &Text) -> Result<usize, usize>
-        ensures { MatchResult result (IsBoundAt self.now name.now) (IsBoundBefore self.now name.now) }
+        ensures { MatchResult result
+            (IsBoundAt self.now name.now) (IsBoundBefore self.now name.now) }
     {
         for (i, binding) in self.bindings.iter().enumerate() {
             match name.bytes().cmp(binding.name.bytes()) {
@@ -107,7 +109,8 @@ impl Environment {
         second: &Text,
         other: Value,
     ) -> Result<(), NoMemory>
-        ensures ok { OnOk result (self.new ≡ bind (bind self.old first.now value) second.now other) }
+        ensures ok { OnOk result (self.new
+            ≡ bind (bind self.old first.now value) second.now other) }
         ensures err { OnErr result (self.new ≡ self.old) }
     {
         match self.binding(alloc, first, value) {
@@ -167,7 +170,8 @@ impl Environment {
 
     /// The environment as an observer sees it: its values are erased.
     pub(crate) fn erase(&self, alloc: Global, observer: &Label) -> Result<Environment, NoMemory>
-        ensures { IfOk result (λ environment. environment ≡ hide_environment observer.now self.now) }
+        ensures { IfOk result
+            (λ environment. environment ≡ hide_environment observer.now self.now) }
     {
         let mut bindings = Vec::new(alloc);
         for binding in &self.bindings {

@@ -1,5 +1,7 @@
 //! Frames: what a procedure's names are bound to, and what it still has to do.
-ghost use Rattle.std.specs.Prelude.{◌≡◌, ◌+◌, ◌<◌, ◌≤◌, ◌++◌, List, [], ◌∷◌, map, true, false, MatchOption, MatchBool, IfOk, IfErr, OnOk, OnErr, vec_len, vec_capacity};
+ghost use Rattle.std.specs.Prelude.{◌≡◌, ◌+◌, ◌<◌, ◌≤◌, ◌++◌, List, [], ◌∷◌, map, true, false};
+ghost use Rattle.std.specs.Prelude.{MatchOption, MatchBool, IfOk, IfErr, OnOk, OnErr, vec_len};
+ghost use Rattle.std.specs.Prelude.{vec_capacity};
 ghost use Rattle.lio_lines.specs.declared.line.Line.{Line};
 ghost use Rattle.lio_syntax.specs.Lines.{script_lines};
 ghost use Rattle.lio_control.specs.Environment.{Environment as Bindings};
@@ -20,7 +22,8 @@ use lio_syntax::Script;
 use lio_values::{Fault, Plain, Text, Value};
 use std::alloc::Global;
 
-/// What a procedure's names are bound to, and the parts of what it still has to do, the top part last.
+/// What a procedure's names are bound to, and the parts of what it still has to do, the top part
+/// last.
 #[derive(Drop)]
 pub(crate) struct Frame {
     pub(crate) environment: Environment,
@@ -41,7 +44,8 @@ impl Frame {
         at: usize,
         environment: Environment,
     ) -> Result<Frame, NoMemory>
-        ensures { IfOk result (λ frame. (frame.environment ≡ environment) × (frame.parts.items ≡ Part.Rest at ∷ [])) }
+        ensures { IfOk result (λ frame. (frame.environment ≡ environment)
+            × (frame.parts.items ≡ Part.Rest at ∷ [])) }
     {
         let mut parts = Vec::new(alloc);
         parts.push(Part::Rest(at))?;
@@ -60,8 +64,10 @@ impl Frame {
 
     /// What comes first in it.
     pub(crate) fn front<'t, 's>(&'t self, script: &'s Script) -> Option<Front<'t, 's>>
-        ensures { MatchOption result ((items : List Item) → frame_over (script_lines script.now) self.now items ≡ items)
-            (λ front. (items : List Item) → IsFront (script_lines script.now) (frame_over (script_lines script.now) self.now items) front) }
+        ensures { MatchOption result ((items : List Item)
+            → frame_over (script_lines script.now) self.now items ≡ items)
+            (λ front. (items : List Item) → IsFront (script_lines script.now)
+            (frame_over (script_lines script.now) self.now items) front) }
     {
         let mut count = self.parts.len();
         'parts: while count > 0 {
@@ -76,9 +82,12 @@ impl Frame {
     /// Drops what comes first, and answers the place of a statement that did.
     pub(crate) fn advance(&mut self, script: &Script) -> usize
         ensures environment { self.new.environment ≡ self.old.environment }
-        ensures items { (items : List Item) → IsOutside items → IsOwn (frame_over (script_lines script.now) self.old items)
-            → IsRest (frame_over (script_lines script.now) self.old items) (frame_over (script_lines script.now) self.new items) }
-        ensures place { (items : List Item) → IsOutside items → SaysFirst (script_lines script.now) (frame_over (script_lines script.now) self.old items) result }
+        ensures items { (items : List Item)
+            → IsOutside items → IsOwn (frame_over (script_lines script.now) self.old items)
+            → IsRest (frame_over (script_lines script.now) self.old items)
+            (frame_over (script_lines script.now) self.new items) }
+        ensures place { (items : List Item) → IsOutside items → SaysFirst (script_lines script.now)
+            (frame_over (script_lines script.now) self.old items) result }
         ensures len { vec_len self.new.parts ≤ vec_len self.old.parts }
         ensures capacity { vec_capacity self.new.parts ≡ vec_capacity self.old.parts }
     {
@@ -104,7 +113,8 @@ impl Frame {
     /// Drops the parts above that stand for nothing.
     pub(crate) fn settle(&mut self, script: &Script)
         ensures environment { self.new.environment ≡ self.old.environment }
-        ensures items { (items : List Item) → frame_over (script_lines script.now) self.new items ≡ frame_over (script_lines script.now) self.old items }
+        ensures items { (items : List Item) → frame_over (script_lines script.now) self.new items
+            ≡ frame_over (script_lines script.now) self.old items }
     {
         let mut count = self.parts.len();
         'parts: while count > 0 {
@@ -153,8 +163,13 @@ impl Frame {
         script: &Script,
         fault: &Fault,
     ) -> Result<bool, NoMemory>
-        ensures caught { IfOk result (λ found. MatchBool found ((items : List Item) → thrown fault.now self.old.environment (frame_over (script_lines script.now) self.old items) ≡ record { environment = self.new.environment; items = frame_over (script_lines script.now) self.new items })
-            ((self.new ≡ self.old) × ((environment : Bindings) (items : List Item) → thrown fault.now environment (frame_over (script_lines script.now) self.old items) ≡ thrown fault.now environment items))) }
+        ensures caught { IfOk result (λ found. MatchBool found ((items : List Item)
+            → thrown fault.now self.old.environment (frame_over (script_lines script.now)
+            self.old items) ≡ record { environment = self.new.environment; items = frame_over
+            (script_lines script.now) self.new items })
+            ((self.new ≡ self.old) × ((environment : Bindings) (items : List Item)
+            → thrown fault.now environment (frame_over (script_lines script.now) self.old items)
+            ≡ thrown fault.now environment items))) }
         ensures err { OnErr result (self.new ≡ self.old) }
     {
         let mut count = self.parts.len();
@@ -183,7 +198,8 @@ impl Frame {
 
     /// A frame with equal parts, in another environment.
     fn within(&self, alloc: Global, environment: Environment) -> Result<Frame, NoMemory>
-        ensures { IfOk result (λ frame. (frame.environment ≡ environment) × (frame.parts.items ≡ self.now.parts.items)) }
+        ensures { IfOk result (λ frame. (frame.environment ≡ environment)
+            × (frame.parts.items ≡ self.now.parts.items)) }
     {
         let mut parts = Vec::new(alloc);
         for part in &self.parts {
@@ -210,7 +226,8 @@ impl Frame {
 impl Call {
     /// An equal call.
     pub(crate) fn copy(&self, alloc: Global) -> Result<Call, NoMemory>
-        ensures { IfOk result (λ call. (lines : List Line) (items : List Item) → call_over lines call items ≡ call_over lines self.now items) }
+        ensures { IfOk result (λ call. (lines : List Line) (items : List Item)
+            → call_over lines call items ≡ call_over lines self.now items) }
     {
         let caller = self.caller.copy(alloc)?;
         let name = self.name.copy(alloc)?;
@@ -219,7 +236,9 @@ impl Call {
 
     /// The call as an observer sees it: the values of its frame are erased.
     pub(crate) fn erase(&self, alloc: Global, observer: &Label) -> Result<Call, NoMemory>
-        ensures { IfOk result (λ call. (lines : List Line) (items : List Item) → call_over lines call (map (hide_item observer.now) items) ≡ map (hide_item observer.now) (call_over lines self.now items)) }
+        ensures { IfOk result (λ call. (lines : List Line) (items : List Item)
+            → call_over lines call (map (hide_item observer.now) items)
+            ≡ map (hide_item observer.now) (call_over lines self.now items)) }
     {
         let caller = self.caller.erase(alloc, observer)?;
         let name = self.name.copy(alloc)?;

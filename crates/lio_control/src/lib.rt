@@ -1,4 +1,5 @@
-//! Where a task stands in its script: what its names are bound to, and what it still has to do, as frames of places in the script's lines.
+//! Where a task stands in its script: what its names are bound to, and what it still has to do, as
+//! frames of places in the script's lines.
 #![tactic(auto)]
 
 mod binding;

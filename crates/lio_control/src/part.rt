@@ -51,7 +51,8 @@ impl Part {
     #[tactic(auto, unfolding(crate::specs::Continuation::access_at, crate::specs::Continuation::mark_at))]
     pub(crate) fn front<'t, 's>(&'t self, script: &'s Script) -> Option<Front<'t, 's>>
         ensures { MatchOption result (StandsForNothing (script_lines script.now) self.now)
-            (λ front. (items : List Item) → IsFront (script_lines script.now) (part_over (script_lines script.now) self.now items) front) }
+            (λ front. (items : List Item) → IsFront (script_lines script.now)
+            (part_over (script_lines script.now) self.now items) front) }
     {
         match self {
             Part::Rest(at) => statement_at(script, *at),
@@ -92,7 +93,8 @@ impl Part {
     /// The handler that it marks.
     #[tactic(auto, unfolding(crate::specs::Continuation::access_at, crate::specs::Continuation::mark_at))]
     pub(crate) fn handler<'s>(&self, script: &'s Script) -> Option<Handler<'s>>
-        ensures { MatchOption result (CatchesNothing (script_lines script.now) self.now) (IsHandler (script_lines script.now) self.now) }
+        ensures { MatchOption result (CatchesNothing (script_lines script.now) self.now)
+            (IsHandler (script_lines script.now) self.now) }
     {
         match self {
             Part::Mark(at) => match line_at(script, *at) {

@@ -1,5 +1,6 @@
 //! Statements at places in a script.
-ghost use Rattle.std.specs.Prelude.{◌≡◌, ◌<◌, ◌+◌, ◌^◌, List, length, MatchOption, OnSome, IfSome, slice_get};
+ghost use Rattle.std.specs.Prelude.{◌≡◌, ◌<◌, ◌+◌, ◌^◌, List, length, MatchOption, OnSome, IfSome};
+ghost use Rattle.std.specs.Prelude.{slice_get};
 ghost use Rattle.std.specs.Option.{option_copied};
 ghost use Rattle.lio_syntax.specs.Closing.{end_of};
 ghost use Rattle.lio_syntax.specs.Lines.{script_lines};
@@ -67,7 +68,8 @@ fn other_block(script: &Script, at: usize) -> Option<usize>
 /// The place behind the `if` at a place.
 fn behind_if(script: &Script, at: usize) -> usize
     requires { at < length (script_lines script.now) }
-    ensures { result ≡ behind_else (script_lines script.now) at (else_at (script_lines script.now) at) }
+    ensures { result ≡ behind_else (script_lines script.now) at
+        (else_at (script_lines script.now) at) }
 {
     match else_of(script, at) {
         Some(place) => block_end(script, place) + 1,
@@ -78,7 +80,8 @@ fn behind_if(script: &Script, at: usize) -> usize
 /// The place behind the `try` at a place.
 fn behind_try(script: &Script, at: usize) -> usize
     requires { at < length (script_lines script.now) }
-    ensures { result ≡ end_of (script_lines script.now) (end_of (script_lines script.now) (at + 1) + 1) + 1 }
+    ensures { result ≡ end_of (script_lines script.now)
+        (end_of (script_lines script.now) (at + 1) + 1) + 1 }
 {
     let catch = block_end(script, at);
     block_end(script, catch) + 1
@@ -87,7 +90,8 @@ fn behind_try(script: &Script, at: usize) -> usize
 /// The place behind the statement that begins at a place, if one begins there.
 pub(crate) fn next_place(script: &Script, at: usize) -> Option<usize>
     ensures { MatchOption result (block_at (script_lines script.now) at ≡ Nothing)
-        (λ next. (statement : Statement) × (block_at (script_lines script.now) at ≡ Then statement (block_at (script_lines script.now) next))) }
+        (λ next. (statement : Statement) × (block_at (script_lines script.now) at
+        ≡ Then statement (block_at (script_lines script.now) next))) }
 {
     match line_at(script, at)? {
         Line::Do(_) => Some(at + 1),
@@ -101,7 +105,8 @@ pub(crate) fn next_place(script: &Script, at: usize) -> Option<usize>
 /// What begins at a place, if a statement does.
 pub(crate) fn statement_at<'t, 's>(script: &'s Script, at: usize) -> Option<Front<'t, 's>>
     ensures { MatchOption result (block_at (script_lines script.now) at ≡ Nothing)
-        (λ front. (items : List Item) → IsFront (script_lines script.now) (enter (block_at (script_lines script.now) at) items) front) }
+        (λ front. (items : List Item) → IsFront (script_lines script.now)
+        (enter (block_at (script_lines script.now) at) items) front) }
 {
     match line_at(script, at)? {
         Line::Do(simple) => Some(Front::Simple(simple)),

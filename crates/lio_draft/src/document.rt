@@ -140,7 +140,8 @@ fn drafted(alloc: Global, parts: &Parts<'_>) -> Result<Draft, PolicyFault>
     }
 }
 
-/// The draft that a text is, or the first rule on its shape that it breaks with the first entry that does.
+/// The draft that a text is, or the first rule on its shape that it breaks with the first entry
+/// that does.
 pub fn read_draft(alloc: Global, bytes: &[u8]) -> Result<Draft, PolicyFault>
     ensures ok { IfOk result (λ draft. draft_of bytes.now ≡ Ok draft) }
     ensures fault { IfErr result (λ fault. (fault ≡ PolicyFault.NoMemory)

@@ -1,4 +1,5 @@
-//! The numbers of a draft's entries: 0 is the document; principals, channels, inputs and tasks follow from 1, in this order.
+//! The numbers of a draft's entries: 0 is the document; principals, channels, inputs and tasks
+//! follow from 1, in this order.
 ghost use Rattle.std.specs.Prelude.{◌≡◌, ◌+◌, ◌<◌, ◌^◌, length};
 ghost use Rattle.std.specs.List.{filter_map};
 ghost use Rattle.lio_clauses.specs.FormulaText.{shown};
@@ -56,7 +57,8 @@ pub fn fault_at(rule: u32, entry: u128) -> PolicyFault
     }
 }
 
-/// What a conversion makes of all entries from the given one on, or the fault of a rule at the first of which it makes nothing.
+/// What a conversion makes of all entries from the given one on, or the fault of a rule at the
+/// first of which it makes nothing.
 pub fn each_entry<X, Y: Drop, C: Conversion<X, Y>>(
     alloc: Global,
     by: &C,

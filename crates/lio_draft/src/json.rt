@@ -52,7 +52,8 @@ pub(crate) fn text_at(alloc: Global, value: &Value, key: &str) -> Result<Option<
 /// The items of the array at a key.
 #[tactic(auto, using(crate::proofs::ShapeLemmas::list_of_items))]
 pub(crate) fn items_at<'v>(value: &'v Value, key: &str) -> Option<&'v [Value]>
-    ensures { option_map (λ items. map view items.now) result ≡ spec.items_at key.now (view value.now) }
+    ensures { option_map (λ items. map view items.now) result
+        ≡ spec.items_at key.now (view value.now) }
 {
     let found = value.get(key)?;
     let items = found.as_array()?;

@@ -1,5 +1,5 @@
-//! The drafts of policies: a JSON text to the texts and numbers that it has, or to the first rule on its shape that it breaks and the first
-//! entry that does.
+//! The drafts of policies: a JSON text to the texts and numbers that it has, or to the first rule
+//! on its shape that it breaks and the first entry that does.
 #![tactic(auto)]
 
 mod conversion;

@@ -76,7 +76,8 @@ fn item_at(
 /// The entry of a document that has this number, counted from the first principal, which has 0.
 fn listed(alloc: Global, document: &Value, number: u32) -> Result<Option<EntryAt>, NoMemory>
     requires { number < 2 ^ 32 - 1 }
-    ensures { IfOk result (λ found. found ≡ slice_get (entries (things (Some (view document.now)))) (number + 1)) }
+    ensures { IfOk result
+        (λ found. found ≡ slice_get (entries (things (Some (view document.now)))) (number + 1)) }
 {
     let index = number as usize;
     let principals = list_at(document, "principals");
@@ -101,8 +102,9 @@ fn listed(alloc: Global, document: &Value, number: u32) -> Result<Option<EntryAt
     Ok(None)
 }
 
-/// The entry of a text that has this number, also where the text breaks a rule: entry 0 is the document, and the items of the lists that are
-/// there follow from 1, principals, channels, inputs and tasks in this order.
+/// The entry of a text that has this number, also where the text breaks a rule: entry 0 is the
+/// document, and the items of the lists that are there follow from 1, principals, channels, inputs
+/// and tasks in this order.
 pub fn entry_at(alloc: Global, bytes: &[u8], entry: u32) -> Result<Option<EntryAt>, NoMemory>
     ensures { IfOk result (λ found. found ≡ spec.entry_at bytes.now entry) }
 {

@@ -2,7 +2,8 @@
 ghost use Rattle.std.specs.Prelude.{◌≡◌, IfOk};
 ghost use Rattle.lio_cells.specs.State.{is_absent};
 ghost use Rattle.lio_calculus.specs.Step.{has_label, waits};
-ghost use Rattle.lio_erasure.specs.Acts.{hides, is_hidden, lacks_content, releases_above, shown_act, with_content};
+ghost use Rattle.lio_erasure.specs.Acts.{hides, is_hidden, lacks_content, releases_above};
+ghost use Rattle.lio_erasure.specs.Acts.{shown_act, with_content};
 
 use lio_cells::State;
 use lio_clauses::NoMemory;
@@ -37,7 +38,8 @@ pub(crate) fn waits(act: &Act) -> bool
     matches!(act, Act::Read | Act::Take | Act::Put(_) | Act::Wait)
 }
 
-/// Whether a release that is carried out brings a hidden content to a label below the observer's, so that the content has to be told.
+/// Whether a release that is carried out brings a hidden content to a label below the observer's,
+/// so that the content has to be told.
 pub(crate) fn lacks_content(act: &Act, reply: &Reply, observer: &Label) -> bool
     ensures { result ≡ lacks_content observer.now act.now reply.now }
 {
@@ -82,8 +84,8 @@ fn releases_above(act: &Act, observer: &Label) -> bool
     }
 }
 
-/// An act as an observer sees it who sees its values already: a content that is released to a label that doesn't flow to the observer's
-/// is hidden.
+/// An act as an observer sees it who sees its values already: a content that is released to a label
+/// that doesn't flow to the observer's is hidden.
 pub(crate) fn shown_act(alloc: Global, act: Act, observer: &Label) -> Result<Act, NoMemory>
     ensures { IfOk result (λ shown. shown ≡ shown_act observer.now act) }
 {
@@ -99,7 +101,8 @@ pub(crate) fn shown_act(alloc: Global, act: Act, observer: &Label) -> Result<Act
     }
 }
 
-/// Whether an act seals a value under a label that doesn't flow to the observer's, so that the value has to be hidden.
+/// Whether an act seals a value under a label that doesn't flow to the observer's, so that the
+/// value has to be hidden.
 pub(crate) fn hides(act: &Act, observer: &Label) -> bool
     ensures { result ≡ hides observer.now act.now }
 {

@@ -29,7 +29,8 @@ fn gone(
     act: &Act,
     reply: &Reply,
 ) -> Result<Task, NoMemory>
-    ensures { IfOk result (λ gone. state_in script.now gone ≡ hide_task observer.now (resumed (program_of script.now longest) (state_in script.now task.now) act.now reply.now)) }
+    ensures { IfOk result (λ gone. state_in script.now gone ≡ hide_task observer.now (resumed
+        (program_of script.now longest) (state_in script.now task.now) act.now reply.now)) }
 {
     let mut gone = task.copy(alloc)?;
     if let Err(error) = gone.resume(alloc, script, longest, act, reply) {
@@ -41,7 +42,8 @@ fn gone(
     erased
 }
 
-/// Lets a task go on after its turn, as an observer sees it. It does so in place, unless the act hides a value. After a refusal it is as before.
+/// Lets a task go on after its turn, as an observer sees it. It does so in place, unless the act
+/// hides a value. After a refusal it is as before.
 #[tactic(none)]
 fn go_on(
     alloc: Global,
@@ -52,9 +54,11 @@ fn go_on(
     act: &Act,
     reply: &Reply,
 ) -> Result<(), NoMemory>
-    requires { let went = resumed (program_of script.now longest) (state_in script.now task.old) act.now reply.now in
+    requires { let went = resumed (program_of script.now longest)
+        (state_in script.now task.old) act.now reply.now in
         hides observer.now act.now ≡ false → hide_task observer.now went ≡ went }
-    ensures ok { OnOk result (state_in script.now task.new ≡ hide_task observer.now (resumed (program_of script.now longest) (state_in script.now task.old) act.now reply.now)) }
+    ensures ok { OnOk result (state_in script.now task.new ≡ hide_task observer.now (resumed
+        (program_of script.now longest) (state_in script.now task.old) act.now reply.now)) }
     ensures err { OnErr result (state_in script.now task.new ≡ state_in script.now task.old) }
 {
     if !hides(act, observer) {
@@ -65,7 +69,8 @@ fn go_on(
     Ok(())
 }
 
-/// Lets the task of a holder go on after the turn with this entry, as an observer sees it. After a refusal it is as before.
+/// Lets the task of a holder go on after the turn with this entry, as an observer sees it. After a
+/// refusal it is as before.
 #[tactic(none)]
 pub(crate) fn advance(
     alloc: Global,
@@ -75,8 +80,11 @@ pub(crate) fn advance(
     observer: &Label,
     entry: &Entry,
 ) -> Result<(), NoMemory>
-    requires { CanGoOn observer.now (program_of script.now longest) (cell_of script.now holder.old) entry.now.act entry.now.reply }
-    ensures ok { OnOk result (HasGoneOn observer.now (program_of script.now longest) (cell_of script.now holder.old) (cell_of script.now holder.new) entry.now.act entry.now.reply) }
+    requires { CanGoOn observer.now (program_of script.now longest)
+        (cell_of script.now holder.old) entry.now.act entry.now.reply }
+    ensures ok { OnOk result (HasGoneOn observer.now
+        (program_of script.now longest) (cell_of script.now holder.old)
+        (cell_of script.now holder.new) entry.now.act entry.now.reply) }
     ensures err { OnErr result (cell_of script.now holder.new ≡ cell_of script.now holder.old) }
     ensures node { holder.new.node ≡ holder.old.node }
     ensures there { IsSome holder.new.task }

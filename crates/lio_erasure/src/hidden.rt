@@ -21,7 +21,8 @@ use std::alloc::Global;
 
 /// Whether the label of a node flows to the observer's. Where nothing is, there is no label.
 fn is_below(state: &State, observer: &Label) -> bool
-    ensures { result ≡ option_map_or (λ label. flows label observer.now) (label_of state.now) false }
+    ensures { result ≡ option_map_or
+        (λ label. flows label observer.now) (label_of state.now) false }
 {
     match state {
         State::Absent => false,
@@ -79,7 +80,8 @@ fn hide_state(alloc: Global, state: &State, observer: &Label) -> Result<State, N
 
 /// The task of a job, as an observer sees it.
 fn hide_task(alloc: Global, task: &Option<Task>, observer: &Label) -> Result<Option<Task>, NoMemory>
-    ensures { IfOk result (λ hidden. (script : List Procedure) → option_map (state_in script) hidden ≡ option_map (hide_task observer.now) (option_map (state_in script) task.now)) }
+    ensures { IfOk result (λ hidden. (script : List Procedure) → option_map (state_in script) hidden
+        ≡ option_map (hide_task observer.now) (option_map (state_in script) task.now)) }
 {
     match task {
         Some(task) => Ok(Some(task.erase(alloc, observer)?)),
@@ -89,7 +91,8 @@ fn hide_task(alloc: Global, task: &Option<Task>, observer: &Label) -> Result<Opt
 
 /// A holder, with its values erased.
 pub(crate) fn hidden(alloc: Global, holder: &Holder, observer: &Label) -> Result<Holder, NoMemory>
-    ensures { IfOk result (λ hidden. (script : List Procedure) → cell_of script hidden ≡ hide_cell observer.now (cell_of script holder.now)) }
+    ensures { IfOk result (λ hidden. (script : List Procedure)
+        → cell_of script hidden ≡ hide_cell observer.now (cell_of script holder.now)) }
 {
     let state = hide_state(alloc, holder.node.state(), observer)?;
     let node = Node::of(alloc, state)?;
@@ -105,7 +108,8 @@ pub(crate) fn hidden(alloc: Global, holder: &Holder, observer: &Label) -> Result
 /// A holder, where an observer sees it.
 #[tactic(none)]
 pub(crate) fn seen(holder: Holder, observer: &Label) -> Option<Holder>
-    ensures seen { (script : List Procedure) → low_cell_of script result ≡ seen_cell observer.now (cell_of script holder) }
+    ensures seen { (script : List Procedure)
+        → low_cell_of script result ≡ seen_cell observer.now (cell_of script holder) }
     ensures kept { IsTrue (is_kept result) }
 {
     if is_seen(&holder, observer) {

@@ -59,9 +59,11 @@ impl Model for Low {
 
     ghost coded = { low_code };
 
-    ghost view = { λ low. record { script = low.script; longest = low.longest; observer = low.observer; holders = low.config } };
+    ghost view = { λ low. record { script = low.script;
+        longest = low.longest; observer = low.observer; holders = low.config } };
 
-    ghost invariant = { λ low. IsErased low.observer (low_configuration_of low.script low.longest low.config) × LeavesOutBlanks low.config };
+    ghost invariant = { λ low. IsErased low.observer
+        (low_configuration_of low.script low.longest low.config) × LeavesOutBlanks low.config };
 }
 
 impl Low {
@@ -71,16 +73,20 @@ impl Low {
     ghost use Rattle.lio_calculus.specs.Afforded.{makes};
     ghost use Rattle.lio_turns.specs.StateOf.{program_of};
     ghost use Rattle.lio_task.specs.Births.{CanBear};
-    ghost use Rattle.lio_erasure.specs.Low.{IsSeenOfSound, LeavesOutBlanks, is_kept, low_cell_of, low_configuration_of, low_task_in, seen_cell};
+    ghost use Rattle.lio_erasure.specs.Low.{IsSeenOfSound, LeavesOutBlanks, is_kept, low_cell_of};
+    ghost use Rattle.lio_erasure.specs.Low.{low_configuration_of, low_task_in, seen_cell};
     ghost use Rattle.lio_erasure.specs.LowParts.{low_of};
-    ghost use Rattle.lio_erasure.specs.Turn.{IsAsSeen, IsShown, Moves, PlansAct, PlansOwn, PlansVisit, Stays, TakesTurn, VisitsNew, VisitsNode};
+    ghost use Rattle.lio_erasure.specs.Turn.{IsAsSeen, IsShown, Moves, PlansAct, PlansOwn};
+    ghost use Rattle.lio_erasure.specs.Turn.{PlansVisit, Stays, TakesTurn, VisitsNew, VisitsNode};
 
-    /// What an observer sees of a well-formed configuration, with its script and how long a text may become in it.
+    /// What an observer sees of a well-formed configuration, with its script and how long a text
+    /// may become in it.
     #[tactic(none)]
     pub fn new(config: LowConfig, observer: Label, script: Script, longest: u32) -> Low
         requires seen { IsSeenOfSound observer (low_configuration_of script longest config) }
         requires kept { LeavesOutBlanks config }
-        ensures { low_of result ≡ record { observer = observer; configuration = low_configuration_of script longest config } }
+        ensures { low_of result ≡ record { observer = observer;
+            configuration = low_configuration_of script longest config } }
     {
         Low {
             config,
@@ -93,7 +99,8 @@ impl Low {
     /// The cells that the observer sees.
     #[tactic(none)]
     pub fn config(&self) -> &LowConfig
-        ensures cells { let c = (low_of self.now).configuration in low_configuration_of c.program.procedures c.program.longest result.now ≡ c }
+        ensures cells { let c = (low_of self.now).configuration in
+            low_configuration_of c.program.procedures c.program.longest result.now ≡ c }
         ensures kept { LeavesOutBlanks result.now }
     {
         &self.config
@@ -125,7 +132,8 @@ impl Low {
         }
     }
 
-    /// Takes the turn of a task that meets no other node, with this act in the place of the one that it plans.
+    /// Takes the turn of a task that meets no other node, with this act in the place of the one
+    /// that it plans.
     #[tactic(none)]
     fn own(&mut self, alloc: Global, k: u32, act: Act, reply: Reply) -> Result<Entry, NoMemory>
         requires { PlansOwn self.old k act reply }
@@ -179,7 +187,8 @@ impl Low {
         Ok(entry)
     }
 
-    /// Takes the turn of a task that writes or sends to a cell that is left out: it changes the actor alone.
+    /// Takes the turn of a task that writes or sends to a cell that is left out: it changes the
+    /// actor alone.
     #[tactic(none)]
     fn miss(&mut self, alloc: Global, k: u32, act: Act, n: u32) -> Result<Entry, NoMemory>
         requires visits { VisitsNode self.old k act n false }
@@ -233,15 +242,17 @@ impl Low {
     fn made(&self, alloc: Global, entry: &Entry) -> Result<Option<Holder>, NoMemory>
         requires makes { IsTrue (makes entry.now.act) }
         requires bears { CanBear self.now.script entry.now.at entry.now.act }
-        ensures seen { IfOk result (λ cell. low_cell_of self.now.script cell ≡ seen_cell self.now.observer (met_after (program_of self.now.script self.now.longest) entry.now.at entry.now.act blank)) }
+        ensures seen { IfOk result
+            (λ cell. low_cell_of self.now.script cell ≡ seen_cell self.now.observer (met_after
+            (program_of self.now.script self.now.longest) entry.now.at entry.now.act blank)) }
         ensures kept { IfOk result (λ cell. IsTrue (is_kept cell)) }
     {
         let holder = made(alloc, &entry.act, &entry.at, &self.script)?;
         Ok(seen(holder, &self.observer))
     }
 
-    /// Takes the turn of a task that meets no other node. A hidden content that it releases to a label below the observer's is the next one
-    /// of those that were released.
+    /// Takes the turn of a task that meets no other node. A hidden content that it releases to a
+    /// label below the observer's is the next one of those that were released.
     fn release(
         &mut self,
         alloc: Global,
@@ -251,9 +262,11 @@ impl Low {
         releases: &mut Contents,
     ) -> Result<Entry, LowFault>
         requires { PlansAct self.old k act reply }
-        ensures ok { IfOk result (TakesTurn (low_of self.old) (low_of self.new) k releases.old releases.new) }
+        ensures ok { IfOk result (TakesTurn (low_of self.old)
+            (low_of self.new) k releases.old releases.new) }
         ensures fault { IfErr result (Stays (low_of self.old) k releases.old) }
-        ensures err { OnErr result ((low_of self.new ≡ low_of self.old) × (releases.new ≡ releases.old)) }
+        ensures err { OnErr result ((low_of self.new ≡ low_of self.old)
+            × (releases.new ≡ releases.old)) }
     {
         if !lacks_content(&act, &reply, &self.observer) {
             return Ok(self.own(alloc, k, act, reply)?);
@@ -281,7 +294,8 @@ impl Low {
     fn visit(&mut self, alloc: Global, k: u32, act: Act, n: u32) -> Result<Entry, LowFault>
         requires { PlansVisit self.old k act n }
         ensures ok { IfOk result (Moves (low_of self.old) (low_of self.new) k act) }
-        ensures fault { IfErr result (λ fault. (contents : List Content) → Stays (low_of self.old) k contents fault) }
+        ensures fault { IfErr result
+            (λ fault. (contents : List Content) → Stays (low_of self.old) k contents fault) }
         ensures err { OnErr result (low_of self.new ≡ low_of self.old) }
     {
         let Some(task) = self.config.task(k) else {
@@ -300,17 +314,20 @@ impl Low {
         Ok(self.miss(alloc, k, act, n)?)
     }
 
-    /// Takes the turn of task `k` in the erased calculus; the entry's ticket is 0. A hidden content that the turn releases to a label below the
-    /// observer's is the first of `releases`, which is taken out of them. After a refusal the configuration and the releases are as before.
+    /// Takes the turn of task `k` in the erased calculus; the entry's ticket is 0. A hidden content
+    /// that the turn releases to a label below the observer's is the first of `releases`, which is
+    /// taken out of them. After a refusal the configuration and the releases are as before.
     pub fn turn(
         &mut self,
         alloc: Global,
         k: u32,
         releases: &mut Contents,
     ) -> Result<Entry, LowFault>
-        ensures ok { IfOk result (TakesTurn (low_of self.old) (low_of self.new) k releases.old releases.new) }
+        ensures ok { IfOk result (TakesTurn (low_of self.old)
+            (low_of self.new) k releases.old releases.new) }
         ensures fault { IfErr result (Stays (low_of self.old) k releases.old) }
-        ensures err { OnErr result ((low_of self.new ≡ low_of self.old) × (releases.new ≡ releases.old)) }
+        ensures err { OnErr result ((low_of self.new ≡ low_of self.old)
+            × (releases.new ≡ releases.old)) }
     {
         let Some(task) = self.config.task(k) else {
             return Err(LowFault::Still(k));

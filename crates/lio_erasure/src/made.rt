@@ -34,7 +34,8 @@ fn made_node(alloc: Global, act: &Act) -> Result<Node, NoMemory>
     }
 }
 
-/// The node that an act makes where nothing is, with the task that it gives birth to, at the actor's label.
+/// The node that an act makes where nothing is, with the task that it gives birth to, at the
+/// actor's label.
 pub(crate) fn made(
     alloc: Global,
     act: &Act,
@@ -43,7 +44,8 @@ pub(crate) fn made(
 ) -> Result<Holder, NoMemory>
     requires makes { IsTrue (makes act.now) }
     requires bears { CanBear script.now at.now act.now }
-    ensures { IfOk result (λ holder. (longest : ℕ) → cell_of script.now holder ≡ met_after (program_of script.now longest) at.now act.now blank) }
+    ensures { IfOk result (λ holder. (longest : ℕ) → cell_of script.now holder
+        ≡ met_after (program_of script.now longest) at.now act.now blank) }
 {
     let node = made_node(alloc, act)?;
     match Task::born_by(alloc, act, at, script) {

@@ -15,7 +15,8 @@ pub(crate) fn entry_of(
     act: Act,
     reply: Reply,
 ) -> Result<Entry, NoMemory>
-    ensures { IfOk result (λ entry. entry ≡ record { ticket = 0; actor = k; target = target; at = at.now; act = act; reply = reply }) }
+    ensures { IfOk result (λ entry. entry ≡ record { ticket = 0;
+        actor = k; target = target; at = at.now; act = act; reply = reply }) }
 {
     match at.copy(alloc) {
         Ok(at) => Ok(Entry {

@@ -30,7 +30,8 @@ fn sent_to(channel: u32, entry: &Entry) -> &[u8]
     }
 }
 
-/// The bytes that the channel with this number has received: the texts of the sends to it, in order.
+/// The bytes that the channel with this number has received: the texts of the sends to it, in
+/// order.
 pub fn channel_bytes(alloc: Global, journal: &Journal, channel: u32) -> Result<Vec<u8>, NoMemory>
     ensures { IfOk result (λ bytes. bytes.items ≡ channel_bytes journal.now channel) }
 {

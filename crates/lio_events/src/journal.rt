@@ -43,7 +43,8 @@ impl Journal {
         Journal { entries }
     }
 
-    /// Puts an entry last, whose ticket is greater than all that are there. After a refusal the journal is as before.
+    /// Puts an entry last, whose ticket is greater than all that are there. After a refusal the
+    /// journal is as before.
     #[tactic(auto, using(crate::proofs::RisingLemmas::rising_with))]
     pub fn push(&mut self, entry: Entry) -> Result<(), NoMemory>
         requires { IsLater self.old entry }

@@ -1,12 +1,15 @@
 //! Printing entries and journals.
-ghost use Rattle.std.specs.Prelude.{◌≡◌, ◌++◌, Bool, List, ℕ, Option, All, codes, decimal, OnOk, IfOk, if◌then◌else◌};
+ghost use Rattle.std.specs.Prelude.{◌≡◌, ◌++◌, Bool, List, ℕ, Option, All, codes, decimal, OnOk};
+ghost use Rattle.std.specs.Prelude.{IfOk, if◌then◌else◌};
 ghost use Rattle.lio_labels.specs.LabelPrint.{AreNamed};
 ghost use Rattle.lio_values.specs.PlainText.{label_in_brackets};
 ghost use Rattle.lio_events.specs.ValueText.{content_text, value_text};
 ghost use Rattle.lio_events.specs.Named.{IsContentNamed, IsValueNamed};
-ghost use Rattle.lio_events.specs.EntryText.{option_text, args_text, birth_text, op_text, act_text, reply_text, target_text, line_text};
+ghost use Rattle.lio_events.specs.EntryText.{option_text, args_text, birth_text, op_text, act_text};
+ghost use Rattle.lio_events.specs.EntryText.{reply_text, target_text, line_text};
 ghost use Rattle.lio_events.specs.JournalText.{entry_text, journal_text};
-ghost use Rattle.lio_events.specs.Printable.{IsOptionNamed, IsBirthNamed, IsActNamed, IsRaising, IsRaiseOf, IsReplyNamed, IsPrintable};
+ghost use Rattle.lio_events.specs.Printable.{IsOptionNamed, IsBirthNamed, IsActNamed, IsRaising};
+ghost use Rattle.lio_events.specs.Printable.{IsRaiseOf, IsReplyNamed, IsPrintable};
 
 use crate::journal::Journal;
 use crate::values::{append_content, append_fault, append_labels, append_value};
@@ -43,7 +46,8 @@ fn print_args(out: &mut Vec<u8>, args: &[Value], names: &Names) -> Result<(), No
 /// Appends a value after a blank.
 fn print_after_blank(out: &mut Vec<u8>, value: &Value, names: &Names) -> Result<(), NoMemory>
     requires { IsValueNamed names.now value.now }
-    ensures { OnOk result (out.new.items ≡ out.old.items ++ (codes " " ++ value_text names.now value.now)) }
+    ensures { OnOk result (out.new.items
+        ≡ out.old.items ++ (codes " " ++ value_text names.now value.now)) }
 {
     out.push(b' ')?;
     append_value(out, value, names)
@@ -60,7 +64,8 @@ fn print_blank_number(out: &mut Vec<u8>, number: u32) -> Result<(), NoMemory>
 /// Appends a birth.
 fn print_birth(out: &mut Vec<u8>, word: &[u8], birth: &Birth, names: &Names) -> Result<(), NoMemory>
     requires { IsBirthNamed names.now birth.now }
-    ensures { OnOk result (out.new.items ≡ out.old.items ++ birth_text names.now word.now birth.now) }
+    ensures { OnOk result (out.new.items
+        ≡ out.old.items ++ birth_text names.now word.now birth.now) }
 {
     out.extend_from_slice(word)?;
     print_blank_number(out, birth.proc_at)?;
@@ -96,7 +101,8 @@ fn print_word_label(
     names: &Names,
 ) -> Result<(), NoMemory>
     requires { AreNamed names.now label.now }
-    ensures { OnOk result (out.new.items ≡ out.old.items ++ (word.now ++ label_in_brackets names.now label.now)) }
+    ensures { OnOk result (out.new.items
+        ≡ out.old.items ++ (word.now ++ label_in_brackets names.now label.now)) }
 {
     out.extend_from_slice(word)?;
     print_label(out, label, names)
@@ -110,7 +116,8 @@ fn print_word_value(
     names: &Names,
 ) -> Result<(), NoMemory>
     requires { IsValueNamed names.now value.now }
-    ensures { OnOk result (out.new.items ≡ out.old.items ++ (word.now ++ value_text names.now value.now)) }
+    ensures { OnOk result (out.new.items
+        ≡ out.old.items ++ (word.now ++ value_text names.now value.now)) }
 {
     out.extend_from_slice(word)?;
     append_value(out, value, names)
@@ -124,7 +131,8 @@ fn print_word_content(
     names: &Names,
 ) -> Result<(), NoMemory>
     requires { IsContentNamed names.now content.now }
-    ensures { OnOk result (out.new.items ≡ out.old.items ++ (word.now ++ content_text names.now content.now)) }
+    ensures { OnOk result (out.new.items
+        ≡ out.old.items ++ (word.now ++ content_text names.now content.now)) }
 {
     out.extend_from_slice(word)?;
     append_content(out, content, names)
@@ -140,7 +148,8 @@ fn print_release(
     names: &Names,
 ) -> Result<(), NoMemory>
     requires { IsActNamed names.now (Act.Release source.now target.now power.now content.now) }
-    ensures { OnOk result (out.new.items ≡ out.old.items ++ act_text names.now (Act.Release source.now target.now power.now content.now)) }
+    ensures { OnOk result (out.new.items ≡ out.old.items ++ act_text names.now
+        (Act.Release source.now target.now power.now content.now)) }
 {
     out.extend_from_slice(b"release")?;
     append_labels(out, source, target, names)?;
@@ -261,7 +270,8 @@ fn print_entry_to(
     print_line(out, entry, names)
 }
 
-/// The line of an entry, `TICKET ACTOR TARGET <AT> ACT : REPLY`, with its line end; without the ticket where `ticket` is false.
+/// The line of an entry, `TICKET ACTOR TARGET <AT> ACT : REPLY`, with its line end; without the
+/// ticket where `ticket` is false.
 pub fn print_entry(
     alloc: Global,
     entry: &Entry,

@@ -1,7 +1,8 @@
 //! Printing values, and the contents and faults in them, as journals have them.
 ghost use Rattle.std.specs.Prelude.{◌≡◌, ◌++◌, OnOk, IfOk};
 ghost use Rattle.lio_labels.specs.LabelPrint.{AreNamed};
-ghost use Rattle.lio_events.specs.ValueText.{labels_text, numbers_text, kind_text, fault_text, content_text, value_text};
+ghost use Rattle.lio_events.specs.ValueText.{labels_text, numbers_text, kind_text, fault_text};
+ghost use Rattle.lio_events.specs.ValueText.{content_text, value_text};
 ghost use Rattle.lio_events.specs.Named.{IsKindNamed, IsFaultNamed, IsContentNamed, IsValueNamed};
 
 use lio_clauses::{Names, NoMemory};
@@ -18,7 +19,8 @@ pub fn append_labels(
 ) -> Result<(), NoMemory>
     requires first { AreNamed names.now first.now }
     requires second { AreNamed names.now second.now }
-    ensures { OnOk result (out.new.items ≡ out.old.items ++ labels_text names.now first.now second.now) }
+    ensures { OnOk result (out.new.items
+        ≡ out.old.items ++ labels_text names.now first.now second.now) }
 {
     out.push(b' ')?;
     print_label(out, first, names)?;
@@ -36,7 +38,8 @@ fn append_flow(
 ) -> Result<(), NoMemory>
     requires first { AreNamed names.now first.now }
     requires second { AreNamed names.now second.now }
-    ensures { OnOk result (out.new.items ≡ out.old.items ++ (word.now ++ labels_text names.now first.now second.now)) }
+    ensures { OnOk result (out.new.items
+        ≡ out.old.items ++ (word.now ++ labels_text names.now first.now second.now)) }
 {
     out.extend_from_slice(word)?;
     append_labels(out, first, second, names)

@@ -2,7 +2,8 @@
 ghost use Rattle.std.specs.Prelude.{◌≡◌, IfOk, IsTrue};
 ghost use Rattle.lio_labels.specs.Flow.{flows};
 ghost use Rattle.lio_labels.specs.Bounds.{join};
-ghost use Rattle.lio_guards.specs.Guard.{go_unless, guarded, guarded_relabel, raise_fault, write_fault};
+ghost use Rattle.lio_guards.specs.Guard.{go_unless, guarded, guarded_relabel, raise_fault};
+ghost use Rattle.lio_guards.specs.Guard.{write_fault};
 
 use crate::class::Class;
 use crate::faults::{narrow_join, release_fault, write_fault};
@@ -20,7 +21,8 @@ fn write(
     target: &Label,
     label: &Label,
 ) -> Result<Verdict, NoMemory>
-    ensures { IfOk result (λ verdict. verdict ≡ go_unless (write_fault current.now clearance.now target.now) label.now) }
+    ensures { IfOk result (λ verdict. verdict
+        ≡ go_unless (write_fault current.now clearance.now target.now) label.now) }
 {
     match write_fault(alloc, current, clearance, target)? {
         Some(kind) => Ok(Verdict::No(kind)),
@@ -36,7 +38,8 @@ fn raise(
     clearance: &Label,
     target: &Label,
 ) -> Result<Verdict, NoMemory>
-    ensures { IfOk result (λ verdict. verdict ≡ go_unless (raise_fault current.now clearance.now target.now) (join current.now target.now)) }
+    ensures { IfOk result (λ verdict. verdict ≡ go_unless (raise_fault current.now
+        clearance.now target.now) (join current.now target.now)) }
 {
     match narrow_join(alloc, current, target)? {
         Some(label) => {
@@ -50,8 +53,8 @@ fn raise(
     }
 }
 
-/// Whether a task with this current label and clearance may do the operation on a target with this label, and the current label at
-/// which it goes on. For `Lower` the target is the new clearance.
+/// Whether a task with this current label and clearance may do the operation on a target with this
+/// label, and the current label at which it goes on. For `Lower` the target is the new clearance.
 #[tactic(auto, unfolding(crate::specs::Guard::guarded))]
 pub fn guard(
     alloc: Global,
@@ -70,7 +73,8 @@ pub fn guard(
     }
 }
 
-/// Whether a task with this current label and clearance may release to `target`, by a privilege, what has the label `source`.
+/// Whether a task with this current label and clearance may release to `target`, by a privilege,
+/// what has the label `source`.
 #[tactic(auto, unfolding(crate::specs::Guard::guarded_relabel))]
 pub fn guard_relabel(
     alloc: Global,
@@ -81,7 +85,8 @@ pub fn guard_relabel(
     power: &Priv,
 ) -> Result<Verdict, NoMemory>
     requires { IsTrue (flows current.now clearance.now) }
-    ensures { IfOk result (λ verdict. verdict ≡ guarded_relabel current.now clearance.now source.now target.now power.now) }
+    ensures { IfOk result (λ verdict. verdict
+        ≡ guarded_relabel current.now clearance.now source.now target.now power.now) }
 {
     if let Some(kind) = write_fault(alloc, current, clearance, target)? {
         return Ok(Verdict::No(kind));

@@ -1,6 +1,13 @@
 //! The laws of guards. Each function does nothing: its contract is the law.
 ghost use Rattle.lio_guards.specs.Width.{WidthIsTested};
-ghost use Rattle.lio_guards.specs.Laws.{CurrentFlowsToLabel, CurrentFlowsToLowered, CurrentFlowsToReleased, CurrentFlowsToWritten, ExchangeTakesLabel, LabelFlowsToClearance, LearntFlowsToLabel, LoweredFlowsToClearance, RaiseIsNarrow, RaiseJoinsLabel, RefusedWhereTestFails, ReleaseKeepsLabel, ReleaseRefusedWhereTestFails, ReleasedFlowsToClearance, SourceFlowsWithPrivilege, WriteKeepsLabel, WrittenFlowsToClearance};
+ghost use Rattle.lio_guards.specs.Laws.{CurrentFlowsToLabel, CurrentFlowsToLowered};
+ghost use Rattle.lio_guards.specs.Laws.{CurrentFlowsToReleased, CurrentFlowsToWritten};
+ghost use Rattle.lio_guards.specs.Laws.{ExchangeTakesLabel, LabelFlowsToClearance};
+ghost use Rattle.lio_guards.specs.Laws.{LearntFlowsToLabel, LoweredFlowsToClearance, RaiseIsNarrow};
+ghost use Rattle.lio_guards.specs.Laws.{RaiseJoinsLabel, RefusedWhereTestFails, ReleaseKeepsLabel};
+ghost use Rattle.lio_guards.specs.Laws.{ReleaseRefusedWhereTestFails, ReleasedFlowsToClearance};
+ghost use Rattle.lio_guards.specs.Laws.{SourceFlowsWithPrivilege, WriteKeepsLabel};
+ghost use Rattle.lio_guards.specs.Laws.{WrittenFlowsToClearance};
 
 /// A label is wide by the test exactly where it is wide.
 #[tactic(auto, using(crate::proofs::WidthLemmas::width_is_tested))]
@@ -74,7 +81,8 @@ pub fn lowered_flows_to_clearance()
     ensures { LoweredFlowsToClearance }
 {}
 
-/// An operation is refused only where the test that the fault names fails, for the labels that it keeps.
+/// An operation is refused only where the test that the fault names fails, for the labels that it
+/// keeps.
 #[tactic(auto, using(crate::proofs::GuardLemmas::refused_where_test_fails))]
 pub fn refused_where_test_fails()
     ensures { RefusedWhereTestFails }
@@ -104,7 +112,8 @@ pub fn release_keeps_label()
     ensures { ReleaseKeepsLabel }
 {}
 
-/// A release is refused only where the test that the fault names fails, for the labels that it keeps.
+/// A release is refused only where the test that the fault names fails, for the labels that it
+/// keeps.
 #[tactic(auto, using(crate::proofs::GuardLemmas::release_refused_where_test_fails))]
 pub fn release_refused_where_test_fails()
     ensures { ReleaseRefusedWhereTestFails }

@@ -1,5 +1,5 @@
-//! Guards: whether the labels of a task let an operation go on, and at which current label it goes on.
-//! Source: the rules of LIO, ICFP 2012.
+//! Guards: whether the labels of a task let an operation go on, and at which current label it goes
+//! on. Source: the rules of LIO, ICFP 2012.
 #![tactic(auto)]
 
 mod class;

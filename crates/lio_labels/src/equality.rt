@@ -10,7 +10,9 @@ use crate::privilege::Priv;
 impl PartialEq for Label {
     ghost eq = { same_label };
 
-    ghost laws = { partial_equiv_from_equiv (and_equiv (on_equiv (λ l. l.secrecy) (lists_equiv (lists_equiv nat_eq_equiv))) (on_equiv (λ l. l.integrity) (lists_equiv (lists_equiv nat_eq_equiv)))) };
+    ghost laws = { partial_equiv_from_equiv (and_equiv (on_equiv
+        (λ l. l.secrecy) (lists_equiv (lists_equiv nat_eq_equiv))) (on_equiv
+        (λ l. l.integrity) (lists_equiv (lists_equiv nat_eq_equiv)))) };
 
     fn eq(&self, other: &Label) -> bool
         ensures test { result ≡ same_label self.now other.now }
@@ -21,13 +23,15 @@ impl PartialEq for Label {
 }
 
 impl Eq for Label {
-    ghost laws = { and_equiv (on_equiv (λ l. l.secrecy) (lists_equiv (lists_equiv nat_eq_equiv))) (on_equiv (λ l. l.integrity) (lists_equiv (lists_equiv nat_eq_equiv))) };
+    ghost laws = { and_equiv (on_equiv (λ l. l.secrecy) (lists_equiv (lists_equiv nat_eq_equiv)))
+        (on_equiv (λ l. l.integrity) (lists_equiv (lists_equiv nat_eq_equiv))) };
 }
 
 impl PartialEq for Priv {
     ghost eq = { same_privilege };
 
-    ghost laws = { partial_equiv_from_equiv (on_equiv (λ p. p.power) (lists_equiv (lists_equiv nat_eq_equiv))) };
+    ghost laws = { partial_equiv_from_equiv (on_equiv
+        (λ p. p.power) (lists_equiv (lists_equiv nat_eq_equiv))) };
 
     fn eq(&self, other: &Priv) -> bool
         ensures test { result ≡ same_privilege self.now other.now }

@@ -20,8 +20,8 @@ impl Label {
     ghost use Rattle.lio_labels.specs.Extremes.{least, greatest, public};
     ghost use Rattle.lio_labels.specs.IsLabel.{IsWide};
 
-    /// Whether what has this label may flow to the other: the other's secrecy implies this secrecy, and this integrity implies
-    /// the other's. It takes no memory.
+    /// Whether what has this label may flow to the other: the other's secrecy implies this secrecy,
+    /// and this integrity implies the other's. It takes no memory.
     pub fn flows(&self, to: &Label) -> bool
         ensures test { result ≡ flows self.now to.now }
         ensures all_sets { IsTrue result ↔ Flows self.now to.now }
@@ -29,20 +29,24 @@ impl Label {
         to.secrecy.implies(&self.secrecy) && self.integrity.implies(&to.integrity)
     }
 
-    /// The least label that both flow to. It is wide where one of its formulas has more than 64 clauses.
+    /// The least label that both flow to. It is wide where one of its formulas has more than 64
+    /// clauses.
     pub fn join(&self, alloc: Global, other: &Label) -> Result<Label, FormFault>
         ensures ok { IfOk result (λ label. label ≡ join self.now other.now) }
-        ensures wide { result ≢ Err FormFault.NoMemory → (result ≡ Err FormFault.Wide) ↔ IsWide (join self.now other.now) }
+        ensures wide { result ≢ Err FormFault.NoMemory
+            → (result ≡ Err FormFault.Wide) ↔ IsWide (join self.now other.now) }
     {
         let secrecy = self.secrecy.and(alloc, &other.secrecy)?;
         let integrity = self.integrity.or(alloc, &other.integrity)?;
         Ok(Label { secrecy, integrity })
     }
 
-    /// The greatest label that flows to both. It is wide where one of its formulas has more than 64 clauses.
+    /// The greatest label that flows to both. It is wide where one of its formulas has more than 64
+    /// clauses.
     pub fn meet(&self, alloc: Global, other: &Label) -> Result<Label, FormFault>
         ensures ok { IfOk result (λ label. label ≡ meet self.now other.now) }
-        ensures wide { result ≢ Err FormFault.NoMemory → (result ≡ Err FormFault.Wide) ↔ IsWide (meet self.now other.now) }
+        ensures wide { result ≢ Err FormFault.NoMemory
+            → (result ≡ Err FormFault.Wide) ↔ IsWide (meet self.now other.now) }
     {
         let secrecy = self.secrecy.or(alloc, &other.secrecy)?;
         let integrity = self.integrity.and(alloc, &other.integrity)?;
@@ -85,7 +89,8 @@ impl Label {
     /// An equal label.
     pub fn copy(&self, alloc: Global) -> Result<Label, NoMemory>
         ensures ok { IfOk result (λ label. label ≡ self.now) }
-        ensures takes_no_memory { length self.now.secrecy ≤ 1 → length self.now.integrity ≤ 1 → IsOk result }
+        ensures takes_no_memory { length self.now.secrecy ≤ 1
+            → length self.now.integrity ≤ 1 → IsOk result }
     {
         let secrecy = self.secrecy.copy(alloc)?;
         let integrity = self.integrity.copy(alloc)?;

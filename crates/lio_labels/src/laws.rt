@@ -1,5 +1,12 @@
-//! The laws of labels, of flow, of bounds, and of flow with a privilege. Each function does nothing: its contract is the law.
-ghost use Rattle.lio_labels.specs.Laws.{AllFlowToGreatest, FlowIsAntisymmetric, FlowIsReflexive, FlowIsTested, FlowIsTransitive, FlowIsWithPrivilege, FlowThenPrivilege, JoinIsLabel, JoinIsLeast, JoinWithAbove, LeastFlowsToAll, LeftFlowsToJoin, MeetFlowsToLeft, MeetFlowsToRight, MeetIsGreatest, MeetIsLabel, MeetWithAbove, PrivilegeGrows, PrivilegeIsTested, PrivilegeThenFlow, RightFlowsToJoin, TruePrivilegeIsFlow};
+//! The laws of labels, of flow, of bounds, and of flow with a privilege. Each function does
+//! nothing: its contract is the law.
+ghost use Rattle.lio_labels.specs.Laws.{AllFlowToGreatest, FlowIsAntisymmetric, FlowIsReflexive};
+ghost use Rattle.lio_labels.specs.Laws.{FlowIsTested, FlowIsTransitive, FlowIsWithPrivilege};
+ghost use Rattle.lio_labels.specs.Laws.{FlowThenPrivilege, JoinIsLabel, JoinIsLeast, JoinWithAbove};
+ghost use Rattle.lio_labels.specs.Laws.{LeastFlowsToAll, LeftFlowsToJoin, MeetFlowsToLeft};
+ghost use Rattle.lio_labels.specs.Laws.{MeetFlowsToRight, MeetIsGreatest, MeetIsLabel};
+ghost use Rattle.lio_labels.specs.Laws.{MeetWithAbove, PrivilegeGrows, PrivilegeIsTested};
+ghost use Rattle.lio_labels.specs.Laws.{PrivilegeThenFlow, RightFlowsToJoin, TruePrivilegeIsFlow};
 ghost use Rattle.lio_labels.specs.IsLabel.{IsLabel};
 ghost use Rattle.lio_labels.specs.LabelPrint.{JoinIsNamed, MeetIsNamed, ReadsPrinted};
 ghost use Rattle.lio_labels.specs.LabelText.{DerivedIsRead, ReadIsDerived};

@@ -5,7 +5,8 @@ use crate::label::Label;
 use lio_clauses::{Formula, NoMemory};
 use std::alloc::Global;
 
-/// The authority of the sets of principals that satisfy a formula. Source: Disjunction Category Labels, 2011.
+/// The authority of the sets of principals that satisfy a formula. Source: Disjunction Category
+/// Labels, 2011.
 #[derive(Debug, Drop)]
 pub struct Priv {
     /// True gives no authority, False that of all principals.
@@ -27,8 +28,9 @@ impl Priv {
 impl Label {
     ghost use Rattle.lio_labels.specs.Privilege.{FlowsWith, flows_with};
 
-    /// Whether what has this label may flow to the other with a privilege: the privilege and the other's secrecy imply this
-    /// secrecy, and the privilege and this integrity imply the other's. It takes no memory.
+    /// Whether what has this label may flow to the other with a privilege: the privilege and the
+    /// other's secrecy imply this secrecy, and the privilege and this integrity imply the other's.
+    /// It takes no memory.
     pub fn flows_with(&self, p: &Priv, to: &Label) -> bool
         ensures test { result ≡ flows_with p.now self.now to.now }
         ensures all_sets { IsTrue result ↔ FlowsWith p.now self.now to.now }

@@ -16,12 +16,13 @@ impl Label {
     ///     formula = "True" | "False" | clause { "/\" clause }
     ///     clause  = name | "(" name { "\/" name } ")"
     ///
-    /// The secrecy stands before `%%`. Blanks between tokens are skipped. The fault is that of the first token that may not stand
-    /// where it does; `Wide` comes only where there is none.
+    /// The secrecy stands before `%%`. Blanks between tokens are skipped. The fault is that of the
+    /// first token that may not stand where it does; `Wide` comes only where there is none.
     pub fn read(alloc: Global, text: &[u8], names: &Names) -> Result<Label, TextFault>
         ensures ok { IfOk result (λ label. reading names.now text.now ≡ Ok label) }
         ensures named { IfOk result (AreNamed names.now) }
-        ensures fault { IfErr result (λ fault. (fault ≡ TextFault.NoMemory) ⊎ (reading names.now text.now ≡ Err fault)) }
+        ensures fault { IfErr result
+            (λ fault. (fault ≡ TextFault.NoMemory) ⊎ (reading names.now text.now ≡ Err fault)) }
 
         // A text that is not of the grammar is refused for that, also where memory is wanting.
         ensures grammar { IfErr (written_two names.now text.now) (λ fault. result ≡ Err fault) }

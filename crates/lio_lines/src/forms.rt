@@ -1,5 +1,6 @@
 //! What stands behind the first word of a line.
-ghost use Rattle.std.specs.Prelude.{◌≡◌, ◌≤◌, ◌∷◌, [], ◌++◌, length, Some, None, IfOk, IfErr, OnOk, OnErr, MatchOption, All, Ok, Err};
+ghost use Rattle.std.specs.Prelude.{◌≡◌, ◌≤◌, ◌∷◌, [], ◌++◌, length, Some, None, IfOk, IfErr, OnOk};
+ghost use Rattle.std.specs.Prelude.{OnErr, MatchOption, All, Ok, Err};
 ghost use Rattle.lio_lines.specs.Forms as spec;
 ghost use Rattle.lio_lines.specs.Forms.{name_at, operand_at, IsCons};
 ghost use Rattle.lio_lines.specs.Operands.{operand_of, IsOperand};
@@ -33,7 +34,8 @@ impl<'a> Model for Words<'a> {
 pub(crate) fn read_operand(alloc: Global, names: &Names, word: &[u8]) -> Result<Operand, LineFault>
     ensures ok { IfOk result (λ operand. operand_of names.now word.now ≡ Some operand) }
     ensures sound { IfOk result (IsOperand names.now) }
-    ensures invalid { IfErr result (λ fault. fault ≡ LineFault.Invalid → operand_of names.now word.now ≡ None) }
+    ensures invalid { IfErr result
+        (λ fault. fault ≡ LineFault.Invalid → operand_of names.now word.now ≡ None) }
 {
     if is_name(word) {
         return Ok(Operand::Name(Text::of(alloc, word)?));
@@ -65,9 +67,11 @@ impl<'a> Words<'a> {
 
     /// Takes a name.
     pub(crate) fn name(&mut self, alloc: Global) -> Result<Text, LineFault>
-        ensures ok { IfOk result (λ name. name_at self.old ≡ Some (record { value = name; rest = self.new })) }
+        ensures ok { IfOk result
+            (λ name. name_at self.old ≡ Some (record { value = name; rest = self.new })) }
         ensures sound { IfOk result IsName }
-        ensures invalid { IfErr result (λ fault. fault ≡ LineFault.Invalid → name_at self.old ≡ None) }
+        ensures invalid { IfErr result
+            (λ fault. fault ≡ LineFault.Invalid → name_at self.old ≡ None) }
     {
         match self.next() {
             Some(word) if is_name(word) => Ok(Text::of(alloc, word)?),
@@ -77,9 +81,11 @@ impl<'a> Words<'a> {
 
     /// Takes an operand.
     pub(crate) fn operand(&mut self, alloc: Global, names: &Names) -> Result<Operand, LineFault>
-        ensures ok { IfOk result (λ operand. operand_at names.now self.old ≡ Some (record { value = operand; rest = self.new })) }
+        ensures ok { IfOk result (λ operand. operand_at names.now self.old
+            ≡ Some (record { value = operand; rest = self.new })) }
         ensures sound { IfOk result (IsOperand names.now) }
-        ensures invalid { IfErr result (λ fault. fault ≡ LineFault.Invalid → operand_at names.now self.old ≡ None) }
+        ensures invalid { IfErr result
+            (λ fault. fault ≡ LineFault.Invalid → operand_at names.now self.old ≡ None) }
     {
         match self.next() {
             Some(word) => read_operand(alloc, names, word),

@@ -32,7 +32,8 @@ impl<'a> Words<'a> {
     /// `P X ..`, as the name and how many follow it.
     #[tactic(auto, unfolding(crate::specs::Forms::header))]
     fn first_line(&mut self) -> Option<(&'a [u8], usize)>
-        ensures { MatchOption result (spec.header self.old ≡ None) (λ h. option_map signature (spec.header self.old) ≡ Some (record { name = h.0.now; count = h.1 })) }
+        ensures { MatchOption result (spec.header self.old ≡ None) (λ h. option_map signature
+            (spec.header self.old) ≡ Some (record { name = h.0.now; count = h.1 })) }
     {
         let name = self.next()?;
         if !is_name(name) {
@@ -50,9 +51,12 @@ fn is_proc(word: &[u8]) -> bool
     matches!(Keyword::find(word), Some(Keyword::Proc))
 }
 
-/// The procedure that a line of a text begins, by its name and its number of parameters. It takes no memory.
+/// The procedure that a line of a text begins, by its name and its number of parameters. It takes
+/// no memory.
 pub fn read_header(bytes: &[u8]) -> Option<(&[u8], usize)>
-    ensures { (names : List (List ℕ)) → MatchOption result (parsed_header (line_of names bytes.now) ≡ None) (λ h. parsed_header (line_of names bytes.now) ≡ Some (record { name = h.0.now; count = h.1 })) }
+    ensures { (names : List (List ℕ))
+        → MatchOption result (parsed_header (line_of names bytes.now) ≡ None) (λ h. parsed_header
+        (line_of names bytes.now) ≡ Some (record { name = h.0.now; count = h.1 })) }
 {
     let mut words = Words::of(without_return(bytes));
     let first = words.next()?;
@@ -68,7 +72,8 @@ pub fn read_header(bytes: &[u8]) -> Option<(&[u8], usize)>
 impl Line {
     /// The procedure that it begins, by its name and its number of parameters.
     pub fn header(&self) -> Option<(&[u8], usize)>
-        ensures { MatchOption result (header_of self.now ≡ None) (λ h. header_of self.now ≡ Some (record { name = h.0.now; count = h.1 })) }
+        ensures { MatchOption result (header_of self.now ≡ None)
+            (λ h. header_of self.now ≡ Some (record { name = h.0.now; count = h.1 })) }
     {
         match self {
             Line::Proc(name, parameters) => Some((name.bytes(), parameters.as_slice().len())),
@@ -78,7 +83,8 @@ impl Line {
 
     /// The procedure that it calls, forks or spawns, by its name and the number of arguments.
     pub fn call(&self) -> Option<(&[u8], usize)>
-        ensures { MatchOption result (line_call self.now ≡ None) (λ h. line_call self.now ≡ Some (record { name = h.0.now; count = h.1 })) }
+        ensures { MatchOption result (line_call self.now ≡ None)
+            (λ h. line_call self.now ≡ Some (record { name = h.0.now; count = h.1 })) }
     {
         match self {
             Line::Do(simple) => simple.call(),
@@ -90,7 +96,8 @@ impl Line {
 impl Simple {
     /// The procedure that it calls, forks or spawns, by its name and the number of arguments.
     pub fn call(&self) -> Option<(&[u8], usize)>
-        ensures { MatchOption result (call_of self.now ≡ None) (λ h. call_of self.now ≡ Some (record { name = h.0.now; count = h.1 })) }
+        ensures { MatchOption result (call_of self.now ≡ None)
+            (λ h. call_of self.now ≡ Some (record { name = h.0.now; count = h.1 })) }
     {
         match self {
             Simple::Call(_, name, arguments)

@@ -1,7 +1,8 @@
 //! Printing lines.
 ghost use Rattle.std.specs.Prelude.{◌≡◌, ◌++◌, OnOk, All};
 ghost use Rattle.lio_words.specs.Keyword.{word_of};
-ghost use Rattle.lio_lines.specs.LineText.{line_text, names_spaced, operand_spaced, operands_spaced, simple_text, spaced};
+ghost use Rattle.lio_lines.specs.LineText.{line_text, names_spaced, operand_spaced};
+ghost use Rattle.lio_lines.specs.LineText.{operands_spaced, simple_text, spaced};
 ghost use Rattle.lio_lines.specs.Operands.{IsOperand};
 ghost use Rattle.lio_lines.specs.WellFormed.{IsLine, IsSimple};
 
@@ -43,7 +44,8 @@ fn print_operand(out: &mut Vec<u8>, names: &Names, operand: &Operand) -> Result<
 #[tactic(auto, unfolding(crate::specs::LineText::operands_spaced))]
 fn print_operands(out: &mut Vec<u8>, names: &Names, operands: &[Operand]) -> Result<(), NoMemory>
     requires { All (IsOperand names.now) operands.now }
-    ensures { OnOk result (out.new.items ≡ out.old.items ++ operands_spaced names.now operands.now) }
+    ensures { OnOk result (out.new.items
+        ≡ out.old.items ++ operands_spaced names.now operands.now) }
 {
     for operand in operands {
         print_operand(out, names, operand)?;
@@ -70,7 +72,8 @@ fn print_one(
     a: &Operand,
 ) -> Result<(), NoMemory>
     requires { IsOperand names.now a.now }
-    ensures { OnOk result (out.new.items ≡ out.old.items ++ (word_of keyword ++ operand_spaced names.now a.now)) }
+    ensures { OnOk result (out.new.items
+        ≡ out.old.items ++ (word_of keyword ++ operand_spaced names.now a.now)) }
 {
     print_keyword(out, keyword)?;
     print_operand(out, names, a)
@@ -86,7 +89,8 @@ fn print_two(
 ) -> Result<(), NoMemory>
     requires first { IsOperand names.now a.now }
     requires second { IsOperand names.now b.now }
-    ensures { OnOk result (out.new.items ≡ out.old.items ++ (word_of keyword ++ operand_spaced names.now a.now ++ operand_spaced names.now b.now)) }
+    ensures { OnOk result (out.new.items ≡ out.old.items
+        ++ (word_of keyword ++ operand_spaced names.now a.now ++ operand_spaced names.now b.now)) }
 {
     print_one(out, names, keyword, a)?;
     print_operand(out, names, b)
@@ -109,7 +113,8 @@ fn print_name_one(
     a: &Operand,
 ) -> Result<(), NoMemory>
     requires { IsOperand names.now a.now }
-    ensures { OnOk result (out.new.items ≡ out.old.items ++ (word_of keyword ++ spaced x.now ++ operand_spaced names.now a.now)) }
+    ensures { OnOk result (out.new.items
+        ≡ out.old.items ++ (word_of keyword ++ spaced x.now ++ operand_spaced names.now a.now)) }
 {
     print_name(out, keyword, x)?;
     print_operand(out, names, a)
@@ -126,7 +131,8 @@ fn print_name_two(
 ) -> Result<(), NoMemory>
     requires first { IsOperand names.now a.now }
     requires second { IsOperand names.now b.now }
-    ensures { OnOk result (out.new.items ≡ out.old.items ++ (word_of keyword ++ spaced x.now ++ operand_spaced names.now a.now ++ operand_spaced names.now b.now)) }
+    ensures { OnOk result (out.new.items ≡ out.old.items ++ (word_of keyword
+        ++ spaced x.now ++ operand_spaced names.now a.now ++ operand_spaced names.now b.now)) }
 {
     print_name_one(out, names, keyword, x, a)?;
     print_operand(out, names, b)
@@ -140,7 +146,8 @@ fn print_called(
     arguments: &[Operand],
 ) -> Result<(), NoMemory>
     requires { All (IsOperand names.now) arguments.now }
-    ensures { OnOk result (out.new.items ≡ out.old.items ++ (spaced p.now ++ operands_spaced names.now arguments.now)) }
+    ensures { OnOk result (out.new.items
+        ≡ out.old.items ++ (spaced p.now ++ operands_spaced names.now arguments.now)) }
 {
     print_word(out, p.bytes())?;
     print_operands(out, names, arguments)
@@ -209,7 +216,8 @@ impl Simple {
 }
 
 impl Line {
-    /// Appends its text, without a line end. After want of memory a part of it may stand at the end.
+    /// Appends its text, without a line end. After want of memory a part of it may stand at the
+    /// end.
     pub fn print_to(&self, out: &mut Vec<u8>, names: &Names) -> Result<(), NoMemory>
         requires { IsLine names.now self.now }
         ensures { OnOk result (out.new.items ≡ out.old.items ++ line_text names.now self.now) }

@@ -18,7 +18,8 @@ fn unary(alloc: Global, names: &Names, x: Text, op: &[u8], a: &[u8]) -> Result<S
     requires { IsName x }
     ensures ok { IfOk result (λ simple. spec.unary names.now x op.now a.now ≡ Some simple) }
     ensures sound { IfOk result (IsSimple names.now) }
-    ensures invalid { IfErr result (λ fault. fault ≡ LineFault.Invalid → spec.unary names.now x op.now a.now ≡ None) }
+    ensures invalid { IfErr result
+        (λ fault. fault ≡ LineFault.Invalid → spec.unary names.now x op.now a.now ≡ None) }
 {
     let Some(op) = One::find(op) else {
         return Err(LineFault::Invalid);
@@ -40,7 +41,8 @@ fn binary(
     requires { IsName x }
     ensures ok { IfOk result (λ simple. spec.binary names.now x a.now op.now b.now ≡ Some simple) }
     ensures sound { IfOk result (IsSimple names.now) }
-    ensures invalid { IfErr result (λ fault. fault ≡ LineFault.Invalid → spec.binary names.now x a.now op.now b.now ≡ None) }
+    ensures invalid { IfErr result
+        (λ fault. fault ≡ LineFault.Invalid → spec.binary names.now x a.now op.now b.now ≡ None) }
 {
     let Some(op) = Two::find(op) else {
         return Err(LineFault::Invalid);
@@ -61,7 +63,8 @@ fn expression(alloc: Global, names: &Names, x: Text, words: &mut Words) -> Resul
     requires { IsName x }
     ensures ok { IfOk result (λ simple. spec.expression names.now x words.old ≡ Some simple) }
     ensures sound { IfOk result (IsSimple names.now) }
-    ensures invalid { IfErr result (λ fault. fault ≡ LineFault.Invalid → spec.expression names.now x words.old ≡ None) }
+    ensures invalid { IfErr result
+        (λ fault. fault ≡ LineFault.Invalid → spec.expression names.now x words.old ≡ None) }
 {
     let Some(first) = words.next() else {
         return Err(LineFault::Invalid);
@@ -81,7 +84,8 @@ fn expression(alloc: Global, names: &Names, x: Text, words: &mut Words) -> Resul
 fn assignment(alloc: Global, names: &Names, words: &mut Words) -> Result<Simple, LineFault>
     ensures ok { IfOk result (λ simple. spec.assignment names.now words.old ≡ Some simple) }
     ensures sound { IfOk result (IsSimple names.now) }
-    ensures invalid { IfErr result (λ fault. fault ≡ LineFault.Invalid → spec.assignment names.now words.old ≡ None) }
+    ensures invalid { IfErr result
+        (λ fault. fault ≡ LineFault.Invalid → spec.assignment names.now words.old ≡ None) }
 {
     let x = words.name(alloc)?;
     match words.next() {
@@ -100,7 +104,8 @@ fn read_simple(
 ) -> Result<Simple, LineFault>
     ensures ok { IfOk result (λ simple. spec.simple names.now keyword words.old ≡ Some simple) }
     ensures sound { IfOk result (IsSimple names.now) }
-    ensures invalid { IfErr result (λ fault. fault ≡ LineFault.Invalid → spec.simple names.now keyword words.old ≡ None) }
+    ensures invalid { IfErr result
+        (λ fault. fault ≡ LineFault.Invalid → spec.simple names.now keyword words.old ≡ None) }
 {
     match keyword {
         Keyword::Let => assignment(alloc, names, words),
@@ -192,7 +197,8 @@ fn read_form(
 ) -> Result<Line, LineFault>
     ensures ok { IfOk result (λ line. spec.form names.now keyword words.old ≡ Some line) }
     ensures sound { IfOk result (IsLine names.now) }
-    ensures invalid { IfErr result (λ fault. fault ≡ LineFault.Invalid → spec.form names.now keyword words.old ≡ None) }
+    ensures invalid { IfErr result
+        (λ fault. fault ≡ LineFault.Invalid → spec.form names.now keyword words.old ≡ None) }
 {
     match keyword {
         Keyword::Proc => {
@@ -230,7 +236,8 @@ fn read_words(
 ) -> Result<Line, LineFault>
     ensures ok { IfOk result (λ line. spec.words_line names.now first.now words.old ≡ Some line) }
     ensures sound { IfOk result (IsLine names.now) }
-    ensures invalid { IfErr result (λ fault. fault ≡ LineFault.Invalid → spec.words_line names.now first.now words.old ≡ None) }
+    ensures invalid { IfErr result (λ fault. fault ≡ LineFault.Invalid
+        → spec.words_line names.now first.now words.old ≡ None) }
 {
     match Keyword::find(first) {
         Some(keyword) => read_form(alloc, names, keyword, words),

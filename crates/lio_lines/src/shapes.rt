@@ -21,7 +21,8 @@ impl<'a> Words<'a> {
     pub(crate) fn one(&mut self, alloc: Global, names: &Names) -> Result<Operand, LineFault>
         ensures ok { IfOk result (λ a. spec.one names.now self.old ≡ Some a) }
         ensures sound { IfOk result (IsOperand names.now) }
-        ensures invalid { IfErr result (λ fault. fault ≡ LineFault.Invalid → spec.one names.now self.old ≡ None) }
+        ensures invalid { IfErr result
+            (λ fault. fault ≡ LineFault.Invalid → spec.one names.now self.old ≡ None) }
     {
         let a = self.operand(alloc, names)?;
         match self.end() {
@@ -42,7 +43,8 @@ impl<'a> Words<'a> {
     ) -> Result<(Operand, Operand), LineFault>
         ensures ok { IfOk result (λ p. spec.two names.now self.old ≡ Some p) }
         ensures sound { IfOk result (λ p. IsOperand names.now p.0 × IsOperand names.now p.1) }
-        ensures invalid { IfErr result (λ fault. fault ≡ LineFault.Invalid → spec.two names.now self.old ≡ None) }
+        ensures invalid { IfErr result
+            (λ fault. fault ≡ LineFault.Invalid → spec.two names.now self.old ≡ None) }
     {
         let a = self.operand(alloc, names)?;
         match self.one(alloc, names) {
@@ -62,8 +64,10 @@ impl<'a> Words<'a> {
         names: &Names,
     ) -> Result<(Operand, Operand, Operand), LineFault>
         ensures ok { IfOk result (λ p. spec.three names.now self.old ≡ Some p) }
-        ensures sound { IfOk result (λ p. IsOperand names.now p.0 × IsOperand names.now p.1 × IsOperand names.now p.2) }
-        ensures invalid { IfErr result (λ fault. fault ≡ LineFault.Invalid → spec.three names.now self.old ≡ None) }
+        ensures sound { IfOk result
+            (λ p. IsOperand names.now p.0 × IsOperand names.now p.1 × IsOperand names.now p.2) }
+        ensures invalid { IfErr result
+            (λ fault. fault ≡ LineFault.Invalid → spec.three names.now self.old ≡ None) }
     {
         let a = self.operand(alloc, names)?;
         match self.two(alloc, names) {
@@ -84,7 +88,8 @@ impl<'a> Words<'a> {
     ) -> Result<(Text, Operand), LineFault>
         ensures ok { IfOk result (λ p. spec.name_one names.now self.old ≡ Some p) }
         ensures sound { IfOk result (λ p. IsName p.0 × IsOperand names.now p.1) }
-        ensures invalid { IfErr result (λ fault. fault ≡ LineFault.Invalid → spec.name_one names.now self.old ≡ None) }
+        ensures invalid { IfErr result
+            (λ fault. fault ≡ LineFault.Invalid → spec.name_one names.now self.old ≡ None) }
     {
         let x = self.name(alloc)?;
         let a = self.one(alloc, names)?;
@@ -99,8 +104,10 @@ impl<'a> Words<'a> {
         names: &Names,
     ) -> Result<(Text, Operand, Operand), LineFault>
         ensures ok { IfOk result (λ p. spec.name_two names.now self.old ≡ Some p) }
-        ensures sound { IfOk result (λ p. IsName p.0 × IsOperand names.now p.1 × IsOperand names.now p.2) }
-        ensures invalid { IfErr result (λ fault. fault ≡ LineFault.Invalid → spec.name_two names.now self.old ≡ None) }
+        ensures sound { IfOk result
+            (λ p. IsName p.0 × IsOperand names.now p.1 × IsOperand names.now p.2) }
+        ensures invalid { IfErr result
+            (λ fault. fault ≡ LineFault.Invalid → spec.name_two names.now self.old ≡ None) }
     {
         let x = self.name(alloc)?;
         let (a, b) = self.two(alloc, names)?;
@@ -115,8 +122,10 @@ impl<'a> Words<'a> {
         names: &Names,
     ) -> Result<(Text, Operand, Operand, Operand), LineFault>
         ensures ok { IfOk result (λ p. spec.name_three names.now self.old ≡ Some p) }
-        ensures sound { IfOk result (λ p. IsName p.0 × IsOperand names.now p.1 × IsOperand names.now p.2 × IsOperand names.now p.3) }
-        ensures invalid { IfErr result (λ fault. fault ≡ LineFault.Invalid → spec.name_three names.now self.old ≡ None) }
+        ensures sound { IfOk result (λ p. IsName p.0
+            × IsOperand names.now p.1 × IsOperand names.now p.2 × IsOperand names.now p.3) }
+        ensures invalid { IfErr result
+            (λ fault. fault ≡ LineFault.Invalid → spec.name_three names.now self.old ≡ None) }
     {
         let x = self.name(alloc)?;
         let (a, b, c) = self.three(alloc, names)?;
@@ -128,7 +137,8 @@ impl<'a> Words<'a> {
     pub(crate) fn two_names(&mut self, alloc: Global) -> Result<(Text, Text), LineFault>
         ensures ok { IfOk result (λ p. spec.two_names self.old ≡ Some p) }
         ensures sound { IfOk result (λ p. IsName p.0 × IsName p.1) }
-        ensures invalid { IfErr result (λ fault. fault ≡ LineFault.Invalid → spec.two_names self.old ≡ None) }
+        ensures invalid { IfErr result
+            (λ fault. fault ≡ LineFault.Invalid → spec.two_names self.old ≡ None) }
     {
         let x = self.name(alloc)?;
         let y = self.name(alloc)?;
@@ -140,7 +150,8 @@ impl<'a> Words<'a> {
     pub(crate) fn operands(&mut self, alloc: Global, names: &Names) -> Result<Operands, LineFault>
         ensures ok { IfOk result (λ operands. spec.operands names.now self.old ≡ Some operands) }
         ensures sound { IfOk result (All (IsOperand names.now)) }
-        ensures invalid { IfErr result (λ fault. fault ≡ LineFault.Invalid → spec.operands names.now self.old ≡ None) }
+        ensures invalid { IfErr result
+            (λ fault. fault ≡ LineFault.Invalid → spec.operands names.now self.old ≡ None) }
     {
         let mut operands = List::new(alloc);
         'words: while let Some(word) = self.next() {
@@ -153,7 +164,8 @@ impl<'a> Words<'a> {
     pub(crate) fn names(&mut self, alloc: Global) -> Result<Texts, LineFault>
         ensures ok { IfOk result (λ parameters. spec.names_of self.old ≡ Some parameters) }
         ensures sound { IfOk result (All IsName) }
-        ensures invalid { IfErr result (λ fault. fault ≡ LineFault.Invalid → spec.names_of self.old ≡ None) }
+        ensures invalid { IfErr result
+            (λ fault. fault ≡ LineFault.Invalid → spec.names_of self.old ≡ None) }
     {
         let mut names = List::new(alloc);
         'words: while let Some(word) = self.next() {
@@ -170,7 +182,8 @@ impl<'a> Words<'a> {
     pub(crate) fn header(&mut self, alloc: Global) -> Result<(Text, Texts), LineFault>
         ensures ok { IfOk result (λ p. spec.header self.old ≡ Some p) }
         ensures sound { IfOk result (λ p. IsName p.0 × All IsName p.1 × (length p.1 ≤ 8)) }
-        ensures invalid { IfErr result (λ fault. fault ≡ LineFault.Invalid → spec.header self.old ≡ None) }
+        ensures invalid { IfErr result
+            (λ fault. fault ≡ LineFault.Invalid → spec.header self.old ≡ None) }
     {
         let p = self.name(alloc)?;
         let parameters = self.names(alloc)?;
@@ -190,7 +203,8 @@ impl<'a> Words<'a> {
     ) -> Result<(Text, Operands), LineFault>
         ensures ok { IfOk result (λ p. spec.called names.now self.old ≡ Some p) }
         ensures sound { IfOk result (λ p. IsName p.0 × All (IsOperand names.now) p.1) }
-        ensures invalid { IfErr result (λ fault. fault ≡ LineFault.Invalid → spec.called names.now self.old ≡ None) }
+        ensures invalid { IfErr result
+            (λ fault. fault ≡ LineFault.Invalid → spec.called names.now self.old ≡ None) }
     {
         let p = self.name(alloc)?;
         let arguments = self.operands(alloc, names)?;
@@ -206,7 +220,8 @@ impl<'a> Words<'a> {
     ) -> Result<(Text, Text, Operands), LineFault>
         ensures ok { IfOk result (λ p. spec.call names.now self.old ≡ Some p) }
         ensures sound { IfOk result (λ p. IsName p.0 × IsName p.1 × All (IsOperand names.now) p.2) }
-        ensures invalid { IfErr result (λ fault. fault ≡ LineFault.Invalid → spec.call names.now self.old ≡ None) }
+        ensures invalid { IfErr result
+            (λ fault. fault ≡ LineFault.Invalid → spec.call names.now self.old ≡ None) }
     {
         let x = self.name(alloc)?;
         let (p, arguments) = self.called(alloc, names)?;
@@ -221,8 +236,10 @@ impl<'a> Words<'a> {
         names: &Names,
     ) -> Result<(Operand, Operand, Text, Operands), LineFault>
         ensures ok { IfOk result (λ p. spec.spawn names.now self.old ≡ Some p) }
-        ensures sound { IfOk result (λ p. IsOperand names.now p.0 × IsOperand names.now p.1 × IsName p.2 × All (IsOperand names.now) p.3) }
-        ensures invalid { IfErr result (λ fault. fault ≡ LineFault.Invalid → spec.spawn names.now self.old ≡ None) }
+        ensures sound { IfOk result (λ p. IsOperand names.now p.0
+            × IsOperand names.now p.1 × IsName p.2 × All (IsOperand names.now) p.3) }
+        ensures invalid { IfErr result
+            (λ fault. fault ≡ LineFault.Invalid → spec.spawn names.now self.old ≡ None) }
     {
         let t = self.operand(alloc, names)?;
         let c = match self.operand(alloc, names) {
@@ -250,8 +267,11 @@ impl<'a> Words<'a> {
         names: &Names,
     ) -> Result<(Text, Operand, Operand, Operand, Text, Operands), LineFault>
         ensures ok { IfOk result (λ p. spec.fork names.now self.old ≡ Some p) }
-        ensures sound { IfOk result (λ p. IsName p.0 × IsOperand names.now p.1 × IsOperand names.now p.2 × IsOperand names.now p.3 × IsName p.4 × All (IsOperand names.now) p.5) }
-        ensures invalid { IfErr result (λ fault. fault ≡ LineFault.Invalid → spec.fork names.now self.old ≡ None) }
+        ensures sound { IfOk result
+            (λ p. IsName p.0 × IsOperand names.now p.1 × IsOperand names.now p.2
+            × IsOperand names.now p.3 × IsName p.4 × All (IsOperand names.now) p.5) }
+        ensures invalid { IfErr result
+            (λ fault. fault ≡ LineFault.Invalid → spec.fork names.now self.old ≡ None) }
     {
         let x = self.name(alloc)?;
         let l = match self.operand(alloc, names) {

@@ -2,7 +2,9 @@
 ghost use Rattle.std.specs.Prelude.{◌≡◌, IfOk, Some, is_some, option_and_then};
 ghost use Rattle.std.specs.Option.{option_copied};
 ghost use Rattle.lio_control.specs.Environment.{Environment};
-ghost use Rattle.lio_calculus.specs.Operands.{bound, all_bound, bare_of, seen_as, flag_of, label_of, power_of, text_of, count_of, reference_of, variable_of, result_of, channel_of, sealed_of};
+ghost use Rattle.lio_calculus.specs.Operands.{bound, all_bound, bare_of, seen_as, flag_of};
+ghost use Rattle.lio_calculus.specs.Operands.{label_of, power_of, text_of, count_of, reference_of};
+ghost use Rattle.lio_calculus.specs.Operands.{variable_of, result_of, channel_of, sealed_of};
 ghost use Rattle.lio_lookup.specs.Operands.{sealed_now, literal_of};
 
 use lio_clauses::NoMemory;
@@ -68,7 +70,8 @@ pub fn literal(alloc: Global, operand: &Operand) -> Result<Option<Value>, NoMemo
     }
 }
 
-/// The value that an operand stands for, where it stands: in the environment, or as the value of the literal.
+/// The value that an operand stands for, where it stands: in the environment, or as the value of
+/// the literal.
 pub fn bound<'a>(
     environment: &'a Environment,
     operand: &Operand,

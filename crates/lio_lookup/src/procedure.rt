@@ -22,7 +22,8 @@ pub struct Procedure<'s> {
 impl<'s> Procedure<'s> {
     /// The first with this name.
     pub fn find(script: &'s Script, name: &Text) -> Option<Procedure<'s>>
-        ensures { MatchOption result (number_of script.now name.now ≡ None) (λ procedure. IsNamed script.now name.now procedure.number procedure.parameters.now procedure.body) }
+        ensures { MatchOption result (number_of script.now name.now ≡ None) (λ procedure. IsNamed
+            script.now name.now procedure.number procedure.parameters.now procedure.body) }
     {
         match script.procedure_number(name.bytes()) {
             Some(number) => Some(Procedure::numbered(script, number as u32)),
@@ -49,7 +50,8 @@ impl<'s> Procedure<'s> {
 
     /// The environment in which its body begins: its parameters bound to the values.
     pub fn environment(&self, alloc: Global, values: &Values) -> Result<Environment, NoMemory>
-        ensures { IfOk result (λ environment. environment ≡ bind_all [] self.now.parameters.now values.now) }
+        ensures { IfOk result
+            (λ environment. environment ≡ bind_all [] self.now.parameters.now values.now) }
     {
         Environment::of(alloc, self.parameters.as_slice(), values.as_slice())
     }

@@ -33,7 +33,8 @@ pub fn plan_fork<'s>(
     procedure: &Text,
     arguments: &Operands,
 ) -> Attempt<'s>
-    ensures { IfOk result (λ turn. (longest : ℕ) → PlansBy (program_of script.now longest) task.now (line.Fork name.now label.now turns.now cells.now procedure.now arguments.now) turn) }
+    ensures { IfOk result (λ turn. (longest : ℕ) → PlansBy (program_of script.now longest) task.now
+        (line.Fork name.now label.now turns.now cells.now procedure.now arguments.now) turn) }
 {
     let environment = task.environment();
     let Some(label) = operands::label(environment, label) else {
@@ -75,7 +76,9 @@ fn forking<'s>(
     number: u32,
     values: Values,
 ) -> Attempt<'s>
-    ensures { IfOk result (λ planned. Is task.now planned (λ (lines : List Line). plan.forking (state_of lines task.now) name.now label.now turns cells (plan.birth_of number values label.now label.now turns (task.now.first + 1) cells))) }
+    ensures { IfOk result (λ planned. Is task.now planned
+        (λ (lines : List Line). plan.forking (state_of lines task.now) name.now label.now turns
+        cells (plan.birth_of number values label.now label.now turns (task.now.first + 1) cells))) }
 {
     let birth = birth(alloc, task, label, turns, cells, number, values);
     match both(birth, label.copy(alloc)) {
@@ -87,7 +90,8 @@ fn forking<'s>(
     }
 }
 
-/// A child whose result can be waited for, where the guard lets it go and there are enough numbers and turns for it.
+/// A child whose result can be waited for, where the guard lets it go and there are enough numbers
+/// and turns for it.
 fn guarded_fork<'s>(
     alloc: Global,
     task: &Standing<'_>,
@@ -97,7 +101,8 @@ fn guarded_fork<'s>(
     turns: u32,
     onward: Onward<'s>,
 ) -> Attempt<'s>
-    ensures { IfOk result (GuardsChild task.now op.Fork label.now (act.Fork birth) cells turns onward.entry) }
+    ensures { IfOk result (GuardsChild task.now op.Fork label.now
+        (act.Fork birth) cells turns onward.entry) }
 {
     match task.verdict(alloc, Op::Fork, label) {
         Ok(Verdict::Go(current)) => {
@@ -126,7 +131,8 @@ pub fn plan_spawn<'s>(
     procedure: &Text,
     arguments: &Operands,
 ) -> Attempt<'s>
-    ensures { IfOk result (λ turn. (longest : ℕ) → PlansBy (program_of script.now longest) task.now (line.Spawn turns.now cells.now procedure.now arguments.now) turn) }
+    ensures { IfOk result (λ turn. (longest : ℕ) → PlansBy (program_of script.now longest) task.now
+        (line.Spawn turns.now cells.now procedure.now arguments.now) turn) }
 {
     let environment = task.environment();
     let Some(turns) = operands::count(environment, turns) else {
@@ -154,7 +160,9 @@ fn spawning<'s>(
     number: u32,
     values: Values,
 ) -> Attempt<'s>
-    ensures { IfOk result (λ planned. Is task.now planned (λ (lines : List Line). plan.spawning (state_of lines task.now) turns cells (plan.birth_of number values task.now.clearance.now task.now.clearance.now turns (task.now.first + 1) cells))) }
+    ensures { IfOk result (λ planned. Is task.now planned (λ (lines : List Line). plan.spawning
+        (state_of lines task.now) turns cells (plan.birth_of number
+        values task.now.clearance.now task.now.clearance.now turns (task.now.first + 1) cells))) }
 {
     match birth(alloc, task, task.clearance, turns, cells, number, values) {
         Ok(birth) => {
@@ -175,7 +183,8 @@ fn birth(
     number: u32,
     values: Values,
 ) -> Result<Held<Birth>, NoMemory>
-    ensures { IfOk result (λ birth. birth ≡ plan.birth_of number values label.now label.now turns (task.now.first + 1) cells) }
+    ensures { IfOk result (λ birth. birth
+        ≡ plan.birth_of number values label.now label.now turns (task.now.first + 1) cells) }
 {
     match both(label.copy(alloc), label.copy(alloc)) {
         Ok((result, clearance)) => {

@@ -1,4 +1,5 @@
-//! The turns of statements on nodes and children: what each does, under its guard, and how the task goes on after it.
+//! The turns of statements on nodes and children: what each does, under its guard, and how the task
+//! goes on after it.
 #![tactic(auto)]
 
 mod births;

@@ -8,7 +8,8 @@ ghost use Rattle.lio_values.specs.declared.act.Reply.TheVariants as reply;
 ghost use Rattle.lio_turns.specs.declared.turn.Turn.TheVariants as turn;
 ghost use Rattle.lio_turns.specs.declared.turn.Onward.TheVariants as onward;
 ghost use Rattle.lio_turns.specs.declared.turn.Target.TheVariants as target;
-ghost use Rattle.lio_turns.specs.Turns.{GuardsNode, Plans, Raises, MakesNode, MakesReference, MakesVariable, Sends, Writes};
+ghost use Rattle.lio_turns.specs.Turns.{GuardsNode, Plans, Raises, MakesNode, MakesReference};
+ghost use Rattle.lio_turns.specs.Turns.{MakesVariable, Sends, Writes};
 
 use lio_guards::Verdict;
 use lio_labels::Label;
@@ -177,7 +178,8 @@ fn raising<'s>(alloc: Global, task: &Standing<'_>, op: Op, handle: &Handle) -> A
 
 /// The turn that raises the label to this one, before the access.
 fn raised<'s>(alloc: Global, op: Op, label: &Label, current: Label) -> Attempt<'s>
-    ensures { IfOk result (λ made. made ≡ turn.Own (act.Raise op label.now) reply.Done (onward.RaiseTo current)) }
+    ensures { IfOk result
+        (λ made. made ≡ turn.Own (act.Raise op label.now) reply.Done (onward.RaiseTo current)) }
 {
     match label.copy(alloc) {
         Ok(asked) => {

@@ -1,5 +1,6 @@
 //! The laws of operators. Each function does nothing: its contract is the law.
-ghost use Rattle.lio_operators.specs.Laws.{HiddenFromOne, HiddenFromTwo, OneGivesSimple, TwoGiveSimple, OneGivesShort, TwoGiveShort};
+ghost use Rattle.lio_operators.specs.Laws.{HiddenFromOne, HiddenFromTwo, OneGivesSimple};
+ghost use Rattle.lio_operators.specs.Laws.{TwoGiveSimple, OneGivesShort, TwoGiveShort};
 
 /// An operator on one value doesn't see what is hidden from an observer.
 #[tactic(auto, using(crate::proofs::OperatorLemmas::hidden_from_one))]

@@ -4,7 +4,9 @@ ghost use Rattle.lio_operators.specs.Answers.{Answers};
 ghost use Rattle.lio_values.specs.declared.value.Plain.{Plain};
 ghost use Rattle.lio_values.specs.declared.fault.FaultKind.{FaultKind};
 ghost use Rattle.lio_operators.specs.Operators as spec;
-ghost use Rattle.lio_operators.specs.Operators.{bare, not_of, neg_of, len_of, num_of, str_of, label_of, on_plain, on_sealed, flag_and, unit_and, whole_and, text_and, label_and, on_plains};
+ghost use Rattle.lio_operators.specs.Operators.{bare, not_of, neg_of, len_of, num_of, str_of};
+ghost use Rattle.lio_operators.specs.Operators.{label_of, on_plain, on_sealed, flag_and, unit_and};
+ghost use Rattle.lio_operators.specs.Operators.{whole_and, text_and, label_and, on_plains};
 
 use crate::faults::OpFault;
 use crate::flags::{on_flags, on_units};

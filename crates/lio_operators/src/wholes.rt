@@ -1,5 +1,6 @@
 //! Operators on wholes.
-ghost use Rattle.std.specs.Prelude.{◌≡◌, ◌+ℤ◌, ◌-ℤ◌, ◌*ℤ◌, neg_ℤ, int_div, int_rem, Ok, Err, MatchOption};
+ghost use Rattle.std.specs.Prelude.{◌≡◌, ◌+ℤ◌, ◌-ℤ◌, ◌*ℤ◌, neg_ℤ, int_div, int_rem, Ok, Err};
+ghost use Rattle.std.specs.Prelude.{MatchOption};
 ghost use Rattle.lio_operators.specs.Wholes as spec;
 ghost use Rattle.lio_operators.specs.Wholes.{fitting, divided};
 
@@ -8,7 +9,8 @@ use lio_words::Two;
 
 /// A whole, or overflow where there is none.
 fn whole(number: Option<i64>) -> Result<Plain, FaultKind>
-    ensures { MatchOption number (result ≡ Err FaultKind.Overflow) (λ n. result ≡ Ok (Plain.Whole n)) }
+    ensures { MatchOption number (result ≡ Err FaultKind.Overflow)
+        (λ n. result ≡ Ok (Plain.Whole n)) }
 {
     match number {
         Some(number) => Ok(Plain::Whole(number)),

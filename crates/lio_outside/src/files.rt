@@ -1,5 +1,6 @@
 //! Files in memory.
-ghost use Rattle.std.specs.Prelude.{◌≡◌, ◌≢◌, ◌↔◌, None, Some, IfOk, OnOk, OnErr, IsErrOf, IsOkUnless};
+ghost use Rattle.std.specs.Prelude.{◌≡◌, ◌≢◌, ◌↔◌, None, Some, IfOk, OnOk, OnErr, IsErrOf};
+ghost use Rattle.std.specs.Prelude.{IsOkUnless};
 ghost use Rattle.std.specs.Option.{option_map};
 ghost use Rattle.lio_outside.specs.FileMap.{no_files, bytes_of, with_file};
 ghost use Rattle.lio_outside.specs.Fetch.{given};

@@ -1,4 +1,5 @@
-//! Laws of the definitions that contracts cite. Each function does nothing: its contract is the law.
+//! Laws of the definitions that contracts cite. Each function does nothing: its contract is the
+//! law.
 ghost use Rattle.lio_outside.specs.FileMap.{FindsKept, LeavesOthers, FindsNothing, EqualWhereAlike};
 ghost use Rattle.lio_outside.specs.Keep.{LeavesFirstPart};
 ghost use Rattle.lio_outside.specs.Count.{RoseInPart, RoseNotAtRest};
@@ -13,16 +14,16 @@ pub fn law_of_files()
     ensures equal_where_alike { EqualWhereAlike }
 {}
 
-/// Counts of faults: one that never falls and rose in a part of the work rose in the whole, as does the
-/// report that a name is missing, and one that stayed below the greatest number did not rise.
+/// Counts of faults: one that never falls and rose in a part of the work rose in the whole, as does
+/// the report that a name is missing, and one that stayed below the greatest number did not rise.
 pub fn law_of_counts()
     ensures in_part { RoseInPart }
     ensures missing_in_part { MissingInPart }
     ensures at_rest { RoseNotAtRest }
 {}
 
-/// A refused keep of a store that tells its files: the name has its old bytes, or is absent as before,
-/// or has a first part of the new bytes, and the other names stay.
+/// A refused keep of a store that tells its files: the name has its old bytes, or is absent as
+/// before, or has a first part of the new bytes, and the other names stay.
 pub fn law_of_refused_keeps()
     ensures { LeavesFirstPart }
 {}

@@ -1,9 +1,11 @@
 //! A store in memory whose calls can be made to fail.
-ghost use Rattle.std.specs.Prelude.{◌≡◌, ◌↔◌, ◌+◌, ◌≤◌, None, Some, IfOk, OnOk, OnErr, IsErrOf, IsOkUnless, IsTrue, vec_len};
+ghost use Rattle.std.specs.Prelude.{◌≡◌, ◌↔◌, ◌+◌, ◌≤◌, None, Some, IfOk, OnOk, OnErr, IsErrOf};
+ghost use Rattle.std.specs.Prelude.{IsOkUnless, IsTrue, vec_len};
 ghost use Rattle.std.specs.Option.{option_copied};
 ghost use Rattle.lio_outside.specs.FileMap.{bytes_of};
 ghost use Rattle.lio_outside.specs.Fetch.{given};
-ghost use Rattle.lio_outside.specs.MemState.{fresh, fails_next, with_mem_file, after_call, after_failure};
+ghost use Rattle.lio_outside.specs.MemState.{fresh, fails_next, with_mem_file, after_call};
+ghost use Rattle.lio_outside.specs.MemState.{after_failure};
 
 use crate::files::NamedFiles;
 use crate::store::{FetchFault, KeepFault, Store};
@@ -11,8 +13,8 @@ use std::alloc::Global;
 use std::marker::Model;
 
 /// A store in memory that tells its files. It numbers its calls of `fetch` and `keep` from 0, and
-/// fails those in its list. A call that fails changes no file, and raises the count of faults by one.
-/// A call that is refused for want of memory is not numbered.
+/// fails those in its list. A call that fails changes no file, and raises the count of faults by
+/// one. A call that is refused for want of memory is not numbered.
 #[derive(Debug, Drop)]
 pub struct MemStore {
     files: NamedFiles,
@@ -28,7 +30,8 @@ impl Model for MemStore {
 
     ghost coded = { mem_state_code };
 
-    ghost view = { λ a. record { files = a.files; failing = a.failing.items; calls = a.calls; faults = a.faults } };
+    ghost view = { λ a.
+        record { files = a.files; failing = a.failing.items; calls = a.calls; faults = a.faults } };
 }
 
 impl MemStore {
@@ -107,13 +110,15 @@ impl Store for MemStore {
         // When each answer comes.
         ensures ok { IfOk result (λ v. given self.old.files name.now limit ≡ Some v.items) }
         ensures ok_within_limit { IfOk result (λ v. vec_len v ≤ limit + 1) }
-        ensures missing { IsErrOf result FetchFault.Missing → bytes_of self.old.files name.now ≡ None }
+        ensures missing { IsErrOf result FetchFault.Missing
+            → bytes_of self.old.files name.now ≡ None }
         ensures failed { IsErrOf result FetchFault.Failed ↔ IsTrue (fails_next self.old) }
 
         // The store after each answer.
         ensures after_ok { OnOk result (self.new ≡ after_call self.old) }
         ensures after_missing { IsErrOf result FetchFault.Missing → self.new ≡ after_call self.old }
-        ensures after_failed { IsErrOf result FetchFault.Failed → self.new ≡ after_failure self.old }
+        ensures after_failed { IsErrOf result FetchFault.Failed
+            → self.new ≡ after_failure self.old }
         ensures after_no_memory { IsErrOf result FetchFault.NoMemory → self.new ≡ self.old }
         ensures count_never_falls { self.old.faults ≤ self.new.faults }
     {
@@ -135,7 +140,8 @@ impl Store for MemStore {
         ensures failed { IsErrOf result KeepFault.Failed ↔ IsTrue (fails_next self.old) }
 
         // The store after each answer.
-        ensures after_ok { OnOk result (self.new ≡ after_call (with_mem_file self.old name.now bytes.now)) }
+        ensures after_ok { OnOk result
+            (self.new ≡ after_call (with_mem_file self.old name.now bytes.now)) }
         ensures after_failed { IsErrOf result KeepFault.Failed → self.new ≡ after_failure self.old }
         ensures after_no_memory { IsErrOf result KeepFault.NoMemory → self.new ≡ self.old }
         ensures count_never_falls { self.old.faults ≤ self.new.faults }

@@ -58,7 +58,8 @@ fn make_room(bytes: &mut Vec<u8>, more: usize, most: usize) -> Result<(), AllocE
 /// these and one piece.
 pub(crate) fn read_up_to<F: Read>(file: &mut F, alloc: Global, most: usize) -> io::Result<Vec<u8>>
     ensures within { IfOk result (λ v. vec_len v ≤ most) }
-    ensures bytes { IfOk result (λ v. IfSome (F.remaining file.old) (λ left. v.items ≡ take most left)) }
+    ensures bytes { IfOk result
+        (λ v. IfSome (F.remaining file.old) (λ left. v.items ≡ take most left)) }
 {
     let mut bytes = Vec::new(alloc);
     let mut piece = [0u8; PIECE];

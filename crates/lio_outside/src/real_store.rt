@@ -14,14 +14,15 @@ use std::{fs, io};
 /// How many names are tried for a new file beside an old one.
 const NEIGHBOURS: u32 = 8;
 
-/// A store over files, whose names are paths in UTF-8. It tells nothing of what they hold, and counts
-/// a fault at each answer `Missing` and `Failed`. It is seen as that count.
+/// A store over files, whose names are paths in UTF-8. It tells nothing of what they hold, and
+/// counts a fault at each answer `Missing` and `Failed`. It is seen as that count.
 ///
-/// `Missing` is the answer for a name that isn't UTF-8 or under which there is no file; `keep` answers
-/// `Failed` for a name that isn't UTF-8. What is kept
-/// goes into a new file beside the old one, named with `.part0` at the end, or with `.part1` and so on up to `.part7` where
-/// a run that was cut off left such a file, and this then takes the name, so that a failure loses nothing. Where the name is no
-/// plain file, as a device or a link, or where no such neighbour can be made, it is written in place.
+/// `Missing` is the answer for a name that isn't UTF-8 or under which there is no file; `keep`
+/// answers `Failed` for a name that isn't UTF-8. What is kept goes into a new file beside the old
+/// one, named with `.part0` at the end, or with `.part1` and so on up to `.part7` where a run that
+/// was cut off left such a file, and this then takes the name, so that a failure loses nothing.
+/// Where the name is no plain file, as a device or a link, or where no such neighbour can be made,
+/// it is written in place.
 #[derive(Drop)]
 pub struct RealStore<R> {
     rt: R,
@@ -186,7 +187,8 @@ struct Neighbour<F> {
     name: String,
 }
 
-/// Makes a new file beside a path, under the first of a few names that is free; none where it can't be made.
+/// Makes a new file beside a path, under the first of a few names that is free; none where it can't
+/// be made.
 fn new_neighbour<R: Files>(
     rt: &R,
     alloc: Global,

@@ -49,9 +49,12 @@ pub trait Store {
         // When each answer comes.
         ensures ok { IfOk result (λ v. IsGiven (holds self.old) name.now limit v.items) }
         ensures ok_within_limit { IfOk result (λ v. vec_len v ≤ limit + 1) }
-        ensures missing { IsErrOf result FetchFault.Missing → IsMissing (holds self.old) name.now (faults self.old) (faults self.new) }
-        ensures failed_counted { IsErrOf result FetchFault.Failed → Rose (faults self.old) (faults self.new) }
-        ensures no_memory { IsErrOf result FetchFault.NoMemory → faults self.new ≡ faults self.old };
+        ensures missing { IsErrOf result FetchFault.Missing
+            → IsMissing (holds self.old) name.now (faults self.old) (faults self.new) }
+        ensures failed_counted { IsErrOf result FetchFault.Failed
+            → Rose (faults self.old) (faults self.new) }
+        ensures no_memory { IsErrOf result FetchFault.NoMemory
+            → faults self.new ≡ faults self.old };
 
     /// Puts `bytes` under `name`, in place of what was there.
     fn keep(&mut self, alloc: Global, name: &[u8], bytes: &[u8]) -> Result<(), KeepFault>
@@ -60,8 +63,11 @@ pub trait Store {
 
         // What the store holds after each answer, and when `Failed` comes.
         ensures ok { OnOk result (holds self.new ≡ told_with (holds self.old) name.now bytes.now) }
-        ensures failed_partly { IsErrOf result KeepFault.Failed → PartlyKept (holds self.old) (holds self.new) name.now bytes.now }
-        ensures failed_counted { IsErrOf result KeepFault.Failed → Rose (faults self.old) (faults self.new) }
+        ensures failed_partly { IsErrOf result KeepFault.Failed
+            → PartlyKept (holds self.old) (holds self.new) name.now bytes.now }
+        ensures failed_counted { IsErrOf result KeepFault.Failed
+            → Rose (faults self.old) (faults self.new) }
         ensures no_memory { IsErrOf result KeepFault.NoMemory → holds self.new ≡ holds self.old }
-        ensures no_memory_count { IsErrOf result KeepFault.NoMemory → faults self.new ≡ faults self.old };
+        ensures no_memory_count { IsErrOf result KeepFault.NoMemory
+            → faults self.new ≡ faults self.old };
 }

@@ -1,5 +1,6 @@
 //! A store in memory that has no faults.
-ghost use Rattle.std.specs.Prelude.{◌≡◌, ◌≢◌, ◌↔◌, ◌+◌, ◌≤◌, Some, None, IfOk, OnOk, OnErr, IsErrOf, IsOkUnless, vec_len};
+ghost use Rattle.std.specs.Prelude.{◌≡◌, ◌≢◌, ◌↔◌, ◌+◌, ◌≤◌, Some, None, IfOk, OnOk, OnErr};
+ghost use Rattle.std.specs.Prelude.{IsErrOf, IsOkUnless, vec_len};
 ghost use Rattle.std.specs.Option.{option_copied};
 ghost use Rattle.lio_outside.specs.FileMap.{no_files, bytes_of, with_file};
 ghost use Rattle.lio_outside.specs.Fetch.{given};

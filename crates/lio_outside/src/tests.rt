@@ -30,9 +30,12 @@ fn copy_file<S: Store>(
     limit: u32,
 ) -> Result<(), CopyFault>
     ensures copied { OnOk result (IfSome (S.holds store.old) (λ files.
-        (bytes : List ℕ) × (given files from.now limit ≡ Some bytes) × (S.holds store.new ≡ Some (with_file files to.now bytes)))) }
-    ensures read_fault { IsErrOf result (CopyFault.Fetch FetchFault.Failed) → Rose (S.faults store.old) (S.faults store.new) }
-    ensures write_fault { IsErrOf result (CopyFault.Keep KeepFault.Failed) → Rose (S.faults store.old) (S.faults store.new) }
+        (bytes : List ℕ) × (given files from.now limit ≡ Some bytes)
+        × (S.holds store.new ≡ Some (with_file files to.now bytes)))) }
+    ensures read_fault { IsErrOf result (CopyFault.Fetch FetchFault.Failed)
+        → Rose (S.faults store.old) (S.faults store.new) }
+    ensures write_fault { IsErrOf result (CopyFault.Keep KeepFault.Failed)
+        → Rose (S.faults store.old) (S.faults store.new) }
 {
     let bytes = store.fetch(alloc, from, limit).map_err(CopyFault::Fetch)?;
     store
@@ -214,7 +217,8 @@ fn check_replaced<S: Store>(
     check_fetch(rt, store, alloc, (part, 9), Err(FetchFault::Missing));
 }
 
-/// Where a neighbour's name is taken, that file stays, and another name is tried, under which nothing is left.
+/// Where a neighbour's name is taken, that file stays, and another name is tried, under which
+/// nothing is left.
 fn check_passed_over<S: Store>(
     rt: &impl Abort,
     alloc: Global,
@@ -414,8 +418,9 @@ fn check_pieces_read<S: Store>(rt: &impl Abort, alloc: Global, store: &mut S) {
     check_fetch(rt, store, alloc, (b"busy", 3), Err(FetchFault::Failed));
 }
 
-/// Short writes are joined, and a piece that writes nothing is a failure, which leaves no neighbour. Neighbours that are
-/// there already are passed over, and where all are, or none can be made, the file is written in place.
+/// Short writes are joined, and a piece that writes nothing is a failure, which leaves no
+/// neighbour. Neighbours that are there already are passed over, and where all are, or none can be
+/// made, the file is written in place.
 fn check_pieces_written<S: Store>(rt: &impl Abort, alloc: Global, store: &mut S) {
     check_keep(rt, store, alloc, (b"slow", b"five!"), Ok(()));
     check_keep(

@@ -62,7 +62,8 @@ pub(crate) fn plan_let_one<'s>(
     op: One,
     value: &Operand,
 ) -> Attempt<'s>
-    ensures { IfOk result (PlansBy (program_of script.now longest) task.now (line.LetOne name.now op value.now)) }
+    ensures { IfOk result (PlansBy (program_of script.now longest) task.now
+        (line.LetOne name.now op value.now)) }
 {
     let literal = operands::literal(alloc, value)?;
     let seen = operands::bound(task.environment(), value, &literal);
@@ -100,7 +101,8 @@ pub(crate) fn plan_let_two<'s>(
     op: Two,
     right: &Operand,
 ) -> Attempt<'s>
-    ensures { IfOk result (PlansBy (program_of script.now longest) task.now (line.LetTwo name.now left.now op right.now)) }
+    ensures { IfOk result (PlansBy (program_of script.now longest) task.now
+        (line.LetTwo name.now left.now op right.now)) }
 {
     let environment = task.environment();
     let Some(left) = operands::bare(environment, left) else {
@@ -125,7 +127,8 @@ fn computed<'s>(
     name: &'s Text,
     made: Result<Value, OpFault>,
 ) -> Attempt<'s>
-    ensures { IfOk result (λ planned. (answer : Result Value FaultKind) → Answers answer made → Computes task.now name.now answer planned) }
+    ensures { IfOk result (λ planned. (answer : Result Value FaultKind)
+        → Answers answer made → Computes task.now name.now answer planned) }
 {
     match made {
         Ok(value) => Ok(stepping(Onward::Bind(name, value))),
@@ -143,7 +146,8 @@ pub(crate) fn plan_call<'s>(
     procedure: &Text,
     arguments: &Operands,
 ) -> Attempt<'s>
-    ensures { IfOk result (λ turn. (longest : ℕ) → PlansBy (program_of script.now longest) task.now (line.Call name.now procedure.now arguments.now) turn) }
+    ensures { IfOk result (λ turn. (longest : ℕ) → PlansBy (program_of script.now longest) task.now
+        (line.Call name.now procedure.now arguments.now) turn) }
 {
     match operands::values(alloc, task.environment(), arguments) {
         Ok(Some(values)) => match Procedure::find(script, procedure) {
@@ -172,7 +176,9 @@ fn calling<'s>(
     procedure: Procedure,
 ) -> Attempt<'s>
     requires { IsNumbered script.now procedure.number procedure.parameters.now procedure.body }
-    ensures { IfOk result (λ planned. (simple : Simple) → IsIn script.now task.now simple planned (λ (state : TaskState). plan.calling state name.now values.now (slice_get script.now procedure.entry.number))) }
+    ensures { IfOk result (λ planned. (simple : Simple) → IsIn script.now task.now simple planned
+        (λ (state : TaskState). plan.calling state name.now values.now
+        (slice_get script.now procedure.entry.number))) }
 {
     if is_deep(task) {
         task.refused(alloc, Act::Step, FaultKind::Depth)
@@ -186,7 +192,8 @@ fn calling<'s>(
 
 /// Whether as many calls are open as may be.
 fn is_deep(task: &Standing<'_>) -> bool
-    ensures { (lines : List Line) → result ≡ nat_le 64 (open_calls (state_of lines task.now).items) }
+    ensures { (lines : List Line)
+        → result ≡ nat_le 64 (open_calls (state_of lines task.now).items) }
 {
     task.open_calls() >= MOST_CALLS
 }
@@ -204,7 +211,8 @@ pub(crate) fn plan_return<'s>(alloc: Global, task: &Standing<'_>, value: &Operan
 
 /// The return of a value to the caller, or the end of the task with it where no call is open.
 fn returning<'s>(alloc: Global, task: &Standing<'_>, value: Value) -> Attempt<'s>
-    ensures { IfOk result (λ planned. Is task.now planned (λ (lines : List Line). plan.returning (state_of lines task.now) value)) }
+    ensures { IfOk result (λ planned. Is task.now planned
+        (λ (lines : List Line). plan.returning (state_of lines task.now) value)) }
 {
     if is_main(task) {
         ending_with(alloc, task, value)
@@ -222,7 +230,8 @@ fn is_main(task: &Standing<'_>) -> bool
 
 /// The end of the task with a value, if it is bare.
 fn ending_with<'s>(alloc: Global, task: &Standing<'_>, value: Value) -> Attempt<'s>
-    ensures { IfOk result (λ planned. Is task.now planned (λ (lines : List Line). plan.ending_with (state_of lines task.now) (bare_of value))) }
+    ensures { IfOk result (λ planned. Is task.now planned
+        (λ (lines : List Line). plan.ending_with (state_of lines task.now) (bare_of value))) }
 {
     match value {
         Value::Bare(plain) => ending(alloc, Content::Kept(plain)),
@@ -264,7 +273,8 @@ fn stepping<'s>(onward: Onward<'s>) -> Turn<'s>
 
 /// The turn in which a task ends with a content.
 fn ending<'s>(alloc: Global, content: Content) -> Attempt<'s>
-    ensures { IfOk result (λ planned. planned ≡ turn.Own (act.Ended content) reply.Done onward.End) }
+    ensures { IfOk result
+        (λ planned. planned ≡ turn.Own (act.Ended content) reply.Done onward.End) }
 {
     match Held::new(alloc, content) {
         Ok(content) => Ok(Turn::Own(Act::Ended(content), Reply::Done, Onward::End)),

@@ -37,9 +37,11 @@ pub fn plan_next<'s>(
     longest: u32,
     front: Front<'_, 's>,
 ) -> Result<Planned<'s>, NoMemory>
-    requires { IsFront (script_lines script.now) (state_of (script_lines script.now) task.now).items front }
+    requires { IsFront (script_lines script.now)
+        (state_of (script_lines script.now) task.now).items front }
     ensures plan { IfOk result (IsPlanned (program_of script.now longest) task.now) }
-    ensures leads { IfOk result (LeadsOn (script_lines script.now) (state_of (script_lines script.now) task.now).items) }
+    ensures leads { IfOk result
+        (LeadsOn (script_lines script.now) (state_of (script_lines script.now) task.now).items) }
 {
     if task.ended {
         return Ok(Planned::Over);
@@ -52,7 +54,8 @@ pub fn plan_next<'s>(
 
 /// The end of a task that has no turn left.
 fn without_turns<'s>(alloc: Global, task: &Standing<'_>) -> Result<Planned<'s>, NoMemory>
-    ensures { IfOk result (λ result_plan. result_plan ≡ planned.Ends (content.Faulted (fault_of task.now kind.NoTurns))) }
+    ensures { IfOk result (λ result_plan. result_plan
+        ≡ planned.Ends (content.Faulted (fault_of task.now kind.NoTurns))) }
 {
     match task.fault(alloc, FaultKind::NoTurns) {
         Ok(fault) => Ok(Planned::Ends(Content::Faulted(fault))),
@@ -69,8 +72,12 @@ fn plan_front<'s>(
     longest: u32,
     front: Front<'_, 's>,
 ) -> Result<Planned<'s>, NoMemory>
-    ensures plan { IfOk result (λ planned. (items : List Item) → IsFront (script_lines script.now) items front.entry → PlansFront (program_of script.now longest) task.now items planned) }
-    ensures leads { IfOk result (λ planned. (items : List Item) → IsFront (script_lines script.now) items front.entry → LeadsOn (script_lines script.now) items planned) }
+    ensures plan { IfOk result
+        (λ planned. (items : List Item) → IsFront (script_lines script.now) items front.entry
+        → PlansFront (program_of script.now longest) task.now items planned) }
+    ensures leads { IfOk result
+        (λ planned. (items : List Item) → IsFront (script_lines script.now) items front.entry
+        → LeadsOn (script_lines script.now) items planned) }
 {
     match front {
         Front::Nothing => Ok(Planned::Ends(Content::Kept(Plain::Unit))),
@@ -104,8 +111,11 @@ fn plan_choice<'s>(
     block: usize,
     other: Option<usize>,
 ) -> Result<Planned<'s>, NoMemory>
-    ensures plan { IfOk result (λ planned. (program : Program) (lines : List Line) (items : List Item) → plan_of lines items planned ≡ plan.plan_statement program (state_of lines task.now) (choice_at lines condition.now block other)) }
-    ensures leads { IfOk result (λ planned. (lines : List Line) (items : List Item) → AtStatement items → LeadsOn lines items planned) }
+    ensures plan { IfOk result (λ planned. (program : Program) (lines : List Line)
+        (items : List Item) → plan_of lines items planned ≡ plan.plan_statement program
+        (state_of lines task.now) (choice_at lines condition.now block other)) }
+    ensures leads { IfOk result (λ planned. (lines : List Line) (items : List Item)
+        → AtStatement items → LeadsOn lines items planned) }
 {
     let Some(holds) = operands::flag(task.environment(), condition) else {
         return refused_control(alloc, task);
@@ -127,8 +137,11 @@ fn plan_loop<'s>(
     condition: &Operand,
     block: usize,
 ) -> Result<Planned<'s>, NoMemory>
-    ensures plan { IfOk result (λ planned. (program : Program) (lines : List Line) (items : List Item) → let loop = While condition.now (block_at lines block) in plan_of lines (Do loop ∷ items) planned ≡ plan.plan_statement program (state_of lines task.now) loop) }
-    ensures leads { IfOk result (λ planned. (lines : List Line) (items : List Item) → Begins items (While condition.now (block_at lines block)) → LeadsOn lines items planned) }
+    ensures plan { IfOk result (λ planned. (program : Program) (lines : List Line)
+        (items : List Item) → let loop = While condition.now (block_at lines block) in plan_of lines
+        (Do loop ∷ items) planned ≡ plan.plan_statement program (state_of lines task.now) loop) }
+    ensures leads { IfOk result (λ planned. (lines : List Line) (items : List Item)
+        → Begins items (While condition.now (block_at lines block)) → LeadsOn lines items planned) }
 {
     let Some(holds) = operands::flag(task.environment(), condition) else {
         return refused_control(alloc, task);
@@ -142,8 +155,10 @@ fn plan_loop<'s>(
 
 /// The refusal where a condition isn't a flag.
 fn refused_control<'s>(alloc: Global, task: &Standing<'_>) -> Result<Planned<'s>, NoMemory>
-    ensures plan { IfOk result (λ planned. (lines : List Line) (items : List Item) → plan_of lines items planned ≡ plan.bad_type (state_of lines task.now)) }
-    ensures leads { IfOk result (λ planned. (lines : List Line) (items : List Item) → AtStatement items → LeadsOn lines items planned) }
+    ensures plan { IfOk result (λ planned. (lines : List Line) (items : List Item)
+        → plan_of lines items planned ≡ plan.bad_type (state_of lines task.now)) }
+    ensures leads { IfOk result (λ planned. (lines : List Line) (items : List Item)
+        → AtStatement items → LeadsOn lines items planned) }
 {
     match task.bad_type(alloc) {
         Ok(turn) => Ok(Planned::Turn(turn)),

@@ -18,7 +18,8 @@ pub enum Planned<'s> {
 /// A step of control. A block is told by the place at which it begins.
 #[derive(Clone, Copy)]
 pub enum Control {
-    /// Past the mark of a block whose faults were caught, or past a loop whose condition doesn't hold.
+    /// Past the mark of a block whose faults were caught, or past a loop whose condition doesn't
+    /// hold.
     Pass,
     /// Past an `if` without an `else`.
     Skip,

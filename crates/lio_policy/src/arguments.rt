@@ -29,7 +29,8 @@ pub(crate) struct Known {
 impl Known {
     /// The argument that is the channel with this name.
     fn channel(&self, alloc: Global, name: &Text) -> Result<Option<Arg>, NoMemory>
-        ensures { IfOk result (λ arg. arg ≡ spec.arg_entry self.now (LabelledArg.Channel name.now)) }
+        ensures { IfOk result
+            (λ arg. arg ≡ spec.arg_entry self.now (LabelledArg.Channel name.now)) }
     {
         let Some(number) = self.channel_names.find(name.bytes()) else {
             return Ok(None);
@@ -84,7 +85,8 @@ impl Conversion<LabelledTask, TaskEntry> for Known {
 
 /// Copies of the names of a task and of its procedure, of its label and of its clearance.
 fn copied_parts(alloc: Global, task: &LabelledTask) -> Result<(Text, Text, Label, Label), NoMemory>
-    ensures { IfOk result (λ parts. (parts.0 ≡ task.now.name) × (parts.1 ≡ task.now.proc_name) × (parts.2 ≡ task.now.label) × (parts.3 ≡ task.now.clearance)) }
+    ensures { IfOk result (λ parts. (parts.0 ≡ task.now.name) × (parts.1 ≡ task.now.proc_name)
+        × (parts.2 ≡ task.now.label) × (parts.3 ≡ task.now.clearance)) }
 {
     let (name, proc_name) = copied_texts(alloc, &task.name, &task.proc_name)?;
     match copied_labels(alloc, task) {

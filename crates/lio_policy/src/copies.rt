@@ -27,7 +27,8 @@ pub(crate) fn copied_texts(
 
 /// Copies of the label and the clearance of a task.
 pub(crate) fn copied_labels(alloc: Global, task: &LabelledTask) -> Result<(Label, Label), NoMemory>
-    ensures { IfOk result (λ labels. (labels.0 ≡ task.now.label) × (labels.1 ≡ task.now.clearance)) }
+    ensures { IfOk result (λ labels. (labels.0 ≡ task.now.label)
+        × (labels.1 ≡ task.now.clearance)) }
 {
     let label = task.label.copy(alloc)?;
     match task.clearance.copy(alloc) {

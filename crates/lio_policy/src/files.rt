@@ -56,7 +56,8 @@ impl Key<FileDraft> for ByFile {
     }
 }
 
-/// Puts the files of a draft's channels and inputs into a table that has none, up to the first that fails.
+/// Puts the files of a draft's channels and inputs into a table that has none, up to the first that
+/// fails.
 fn add_files(alloc: Global, draft: &Draft, files: &mut Table) -> Result<(), PolicyFault>
     requires { files.old ≡ [] }
     ensures { Passes RULE 0 (entries (files_fail draft.now)) result (λ _. Unit {0}) }

@@ -1,5 +1,5 @@
-//! The reading of policies: a JSON text to the principals, channels, inputs and tasks that it describes, or to the first rule that it
-//! breaks and the first entry that does.
+//! The reading of policies: a JSON text to the principals, channels, inputs and tasks that it
+//! describes, or to the first rule that it breaks and the first entry that does.
 #![tactic(auto)]
 
 mod arguments;

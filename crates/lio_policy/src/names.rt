@@ -1,7 +1,8 @@
 //! Rule 4: names.
 ghost use Rattle.std.specs.Prelude.{◌≡◌, ◌<◌, ◌^◌, ◌++◌, [], ◌∷◌, false, Ok, IfOk};
 ghost use Rattle.lio_draft.specs.Failing.{entries, Passes};
-ghost use Rattle.lio_policy.specs.Rules.{behind, principal_fails, key_fails, no_name, names_fail, file_names, task_names};
+ghost use Rattle.lio_policy.specs.Rules.{behind, principal_fails, key_fails, no_name, names_fail};
+ghost use Rattle.lio_policy.specs.Rules.{file_names, task_names};
 
 use crate::keys::{Key, add_keys};
 use crate::table::Table;
@@ -24,7 +25,8 @@ pub(crate) struct Named {
     pub(crate) inputs: Table,
 }
 
-/// Adds a name to the names, and answers whether it fails as a principal's. One that does not is last then.
+/// Adds a name to the names, and answers whether it fails as a principal's. One that does not is
+/// last then.
 fn add_name(alloc: Global, names: &mut Names, name: &[u8]) -> Result<bool, NoMemory>
     ensures fails { IfOk result (λ fails. fails ≡ principal_fails names.old name.now) }
     ensures added { result ≡ Ok false → names.new ≡ names.old ++ name.now ∷ [] }
@@ -36,7 +38,8 @@ fn add_name(alloc: Global, names: &mut Names, name: &[u8]) -> Result<bool, NoMem
     }
 }
 
-/// Adds principals to names that are none yet, as entries from the given one on, up to the first that fails.
+/// Adds principals to names that are none yet, as entries from the given one on, up to the first
+/// that fails.
 fn add_all(
     alloc: Global,
     names: &mut Names,

@@ -23,7 +23,8 @@ pub enum Arg {
     Fixed(Plain),
 }
 
-/// A task: the procedure that it runs, its label and clearance, and the turns, cells and arguments that it is given.
+/// A task: the procedure that it runs, its label and clearance, and the turns, cells and arguments
+/// that it is given.
 #[derive(Drop)]
 pub struct TaskEntry {
     /// Its name: 1 to 32 bytes.
@@ -36,14 +37,16 @@ pub struct TaskEntry {
     pub clearance: Label,
     /// How many turns it has, those of its children among them.
     pub turns: u32,
-    /// How many cells it has: a reference and a variable take one, a child one and those that it is given.
+    /// How many cells it has: a reference and a variable take one, a child one and those that it is
+    /// given.
     pub cells: u32,
     /// What its procedure is called with, at most 8.
     pub args: Args,
 }
 
-/// A policy: the longest text, the principals, the channels and inputs, and the tasks. Its type keeps the rules on names, labels, flow,
-/// arguments, limits and files (`IsPolicy`), which a proof learns where the code reads a field.
+/// A policy: the longest text, the principals, the channels and inputs, and the tasks. Its type
+/// keeps the rules on names, labels, flow, arguments, limits and files (`IsPolicy`), which a proof
+/// learns where the code reads a field.
 #[derive(Drop)]
 pub struct Policy {
     /// How many bytes a text may have: 1 to 65,536.

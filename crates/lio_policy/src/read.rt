@@ -3,8 +3,10 @@ ghost use Rattle.std.specs.Prelude.{◌≡◌, ◌⊎◌, IfOk, IfErr, Ok, Err};
 ghost use Rattle.std.specs.List.{filter_map};
 ghost use Rattle.lio_draft.specs.Failing.{entries, Passes};
 ghost use Rattle.lio_policy.specs.Rules as spec;
-ghost use Rattle.lio_policy.specs.Rules.{is_one, version_fails, file_entry, file_names, tasks_of, task_entry, longest_of};
-ghost use Rattle.lio_policy.specs.Verdict.{Gives, Obeys, declarations_fault, judged, policy_of, uses_fault};
+ghost use Rattle.lio_policy.specs.Rules.{is_one, version_fails, file_entry, file_names, tasks_of};
+ghost use Rattle.lio_policy.specs.Rules.{task_entry, longest_of};
+ghost use Rattle.lio_policy.specs.Verdict.{Gives, Obeys, declarations_fault, judged, policy_of};
+ghost use Rattle.lio_policy.specs.Verdict.{uses_fault};
 
 use crate::arguments::{Known, read_arguments};
 use crate::files::check_files;

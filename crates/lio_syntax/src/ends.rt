@@ -7,7 +7,8 @@ use lio_lines::Line;
 use std::alloc::Global;
 use std::marker::Model;
 
-/// The places at which the blocks end that are open at a place, seen as a list with the innermost first.
+/// The places at which the blocks end that are open at a place, seen as a list with the innermost
+/// first.
 #[derive(Drop)]
 struct Ends {
     places: Vec<usize>,

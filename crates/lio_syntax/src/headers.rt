@@ -33,7 +33,8 @@ impl Headers {
 
     /// Adds a procedure, unless there is one with its name.
     pub(crate) fn add(&mut self, alloc: Global, name: &[u8], count: usize) -> Result<(), NoMemory>
-        ensures { OnOk result ((q : List ℕ) → count_in self.new q ≡ or_else (count_in self.old q) (count_if_named q (Some (record { name = name.now; count = count })))) }
+        ensures { OnOk result ((q : List ℕ) → count_in self.new q ≡ or_else (count_in self.old q)
+            (count_if_named q (Some (record { name = name.now; count = count })))) }
     {
         if self.find(name).is_some() {
             return Ok(());

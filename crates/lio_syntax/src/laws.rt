@@ -8,7 +8,8 @@ pub fn text_has_one_script()
     ensures { TextHasOneScript }
 {}
 
-/// Lines stand where they can, with nothing open behind them, exactly where they are the lines of a script.
+/// Lines stand where they can, with nothing open behind them, exactly where they are the lines of a
+/// script.
 #[tactic(auto, using(crate::proofs::LawLemmas::placed_lines_are_of_scripts))]
 pub fn placed_lines_are_of_scripts()
     ensures { PlacedLinesAreOfScripts }

@@ -13,7 +13,8 @@ use std::alloc::Global;
 /// Appends a line with its line end.
 fn print_line(out: &mut Vec<u8>, names: &Names, line: &Line) -> Result<(), NoMemory>
     requires { IsLine names.now line.now }
-    ensures { OnOk result (out.new.items ≡ out.old.items ++ (line_text names.now line.now ++ codes "\n")) }
+    ensures { OnOk result (out.new.items
+        ≡ out.old.items ++ (line_text names.now line.now ++ codes "\n")) }
 {
     line.print_to(out, names)?;
     Ok(out.push(b'\n')?)
@@ -36,7 +37,8 @@ pub fn print_script(alloc: Global, script: &Script, names: &Names) -> Result<Vec
     requires { IsOver names.now script.now }
     ensures text { IfOk result (λ text. text.items ≡ script_text names.now script.now) }
     // A text that isn't too long is read as the script, over the same names.
-    ensures read { IfOk result (λ text. length text.items ≤ 262144 → IsScript names.now text.items script.now) }
+    ensures read { IfOk result
+        (λ text. length text.items ≤ 262144 → IsScript names.now text.items script.now) }
 {
     let mut text = Vec::new(alloc);
     print_lines(&mut text, names, script.lines())?;

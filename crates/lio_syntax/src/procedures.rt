@@ -1,5 +1,6 @@
 //! The procedures of a script, by name and by number.
-ghost use Rattle.std.specs.Prelude.{◌≡◌, ◌<◌, ◌++◌, ◌∷◌, [], List, ℕ, IfOk, OnOk, length, slice_index};
+ghost use Rattle.std.specs.Prelude.{◌≡◌, ◌<◌, ◌++◌, ◌∷◌, [], List, ℕ, IfOk, OnOk, length};
+ghost use Rattle.std.specs.Prelude.{slice_index};
 ghost use Rattle.lio_lines.specs.Header.{header_of};
 ghost use Rattle.lio_syntax.specs.Beginnings.{Beginning, begun_by};
 
@@ -8,7 +9,8 @@ use lio_clauses::NoMemory;
 use lio_lines::Line;
 use std::alloc::Global;
 
-/// The procedures of a script in order: the number of each by its name, and the places of the lines that begin them.
+/// The procedures of a script in order: the number of each by its name, and the places of the lines
+/// that begin them.
 #[derive(Drop)]
 pub(crate) struct Procedures {
     numbers: Headers,
@@ -42,7 +44,8 @@ impl Procedures {
 
     /// Adds the procedure that the line at a place begins, if it begins one.
     fn pass(&mut self, alloc: Global, at: usize, line: &Line) -> Result<(), NoMemory>
-        ensures { OnOk result ((begun : List Beginning) → Holds self.old begun → Holds self.new (begun ++ begun_by at (header_of line.now))) }
+        ensures { OnOk result ((begun : List Beginning)
+            → Holds self.old begun → Holds self.new (begun ++ begun_by at (header_of line.now))) }
     {
         match line {
             Line::Proc(name, _) => self.add(alloc, name.bytes(), at),
@@ -58,7 +61,8 @@ impl Procedures {
 
     /// Adds a procedure that begins at a line behind the others. More than 2^32 don't fit.
     fn add(&mut self, alloc: Global, name: &[u8], at: usize) -> Result<(), NoMemory>
-        ensures { OnOk result ((begun : List Beginning) → Holds self.old begun → Holds self.new (begun ++ record { name = name.now; at = at } ∷ [])) }
+        ensures { OnOk result ((begun : List Beginning) → Holds self.old begun
+            → Holds self.new (begun ++ record { name = name.now; at = at } ∷ [])) }
     {
         let number = self.places.len();
         if number >= u32::MAX as usize {

@@ -1,5 +1,6 @@
 //! Reading the lines of a text one after another.
-ghost use Rattle.std.specs.Prelude.{◌≡◌, ◌≤◌, ◌<◌, ◌+◌, ◌++◌, ◌∷◌, [], List, ℕ, suc, false, None, is_some, if◌then◌else◌, length, All, OnOk, IfOk, IfErr};
+ghost use Rattle.std.specs.Prelude.{◌≡◌, ◌≤◌, ◌<◌, ◌+◌, ◌++◌, ◌∷◌, [], List, ℕ, suc, false, None};
+ghost use Rattle.std.specs.Prelude.{is_some, if◌then◌else◌, length, All, OnOk, IfOk, IfErr};
 ghost use Rattle.lio_lines.specs.declared.line.ParsedLine.{ParsedLine};
 ghost use Rattle.lio_lines.specs.declared.line.ParsedLine.TheVariants.{Blank, Says};
 ghost use Rattle.lio_lines.specs.Header.{header_of};
@@ -73,7 +74,8 @@ impl Progress {
 
     /// Whether a line begins a procedure with the name of an earlier one.
     fn is_again(&self, line: &Line) -> bool
-        ensures { (before : List ParsedLine) → Stands self.now before → result ≡ spec.is_again before (header_of line.now) }
+        ensures { (before : List ParsedLine)
+            → Stands self.now before → result ≡ spec.is_again before (header_of line.now) }
     {
         match line.header() {
             Some((name, _)) => self.seen.find(name).is_some(),
@@ -83,7 +85,8 @@ impl Progress {
 
     /// The rule on procedures that a line breaks, if there is one.
     fn broken_header(&self, line: &Line) -> Option<u32>
-        ensures { (before : List ParsedLine) → Stands self.now before → result ≡ spec.broken_header before line.now }
+        ensures { (before : List ParsedLine)
+            → Stands self.now before → result ≡ spec.broken_header before line.now }
     {
         if self.is_again(line) {
             Some(NAME)
@@ -96,7 +99,8 @@ impl Progress {
 
     /// Whether a line is past a limit.
     fn is_past_limits(&self, line: &Line) -> bool
-        ensures past { (before : List ParsedLine) → Stands self.now before → result ≡ spec.is_past_limits before line.now }
+        ensures past { (before : List ParsedLine)
+            → Stands self.now before → result ≡ spec.is_past_limits before line.now }
         ensures room { result ≡ false → self.now.count < 8192 }
     {
         self.count >= MOST_LINES
@@ -106,7 +110,8 @@ impl Progress {
 
     /// The rule on limits, if a line breaks it.
     fn broken_limit(&self, line: &Line) -> Option<u32>
-        ensures rule { (before : List ParsedLine) → Stands self.now before → result ≡ spec.broken_limit before line.now }
+        ensures rule { (before : List ParsedLine)
+            → Stands self.now before → result ≡ spec.broken_limit before line.now }
         ensures room { result ≡ None → self.now.count < 8192 }
     {
         if self.is_past_limits(line) {
@@ -118,7 +123,8 @@ impl Progress {
 
     /// The lowest rule that a line breaks, if there is one.
     fn broken_rule(&self, headers: &Headers, line: &Line) -> Option<u32>
-        ensures rule { (all before : List ParsedLine) → Knows headers.now all → Stands self.now before → result ≡ spec.broken_by all before line.now }
+        ensures rule { (all before : List ParsedLine) → Knows headers.now all
+            → Stands self.now before → result ≡ spec.broken_by all before line.now }
         ensures room { result ≡ None → self.now.count < 8192 }
     {
         if self.blocks.is_misplaced(line) {
@@ -136,7 +142,8 @@ impl Progress {
     /// Passes over a line that says nothing.
     fn skip(&mut self)
         requires { self.old.count < 8192 }
-        ensures step { (before : List ParsedLine) → Stands self.old before → Stands self.new (before ++ Blank ∷ []) }
+        ensures step { (before : List ParsedLine)
+            → Stands self.old before → Stands self.new (before ++ Blank ∷ []) }
         ensures lines { self.new.lines.items ≡ self.old.lines.items }
     {
         self.count += 1;
@@ -145,9 +152,12 @@ impl Progress {
     /// Notes the procedure that a line begins.
     fn add_header(&mut self, alloc: Global, line: &Line) -> Result<(), NoMemory>
         requires { self.old.count < 8192 }
-        ensures seen { OnOk result ((before : List ParsedLine) → Knows self.old.seen before → Knows self.new.seen (before ++ Says line.now ∷ [])) }
-        ensures procedures { OnOk result (self.new.procedures ≡ (if is_some (header_of line.now) then suc self.old.procedures else self.old.procedures)) }
-        ensures others { OnOk result ((self.new.blocks ≡ self.old.blocks) × (self.new.count ≡ suc self.old.count) × (self.new.lines.items ≡ self.old.lines.items)) }
+        ensures seen { OnOk result ((before : List ParsedLine)
+            → Knows self.old.seen before → Knows self.new.seen (before ++ Says line.now ∷ [])) }
+        ensures procedures { OnOk result (self.new.procedures ≡ (if is_some
+            (header_of line.now) then suc self.old.procedures else self.old.procedures)) }
+        ensures others { OnOk result ((self.new.blocks ≡ self.old.blocks) × (self.new.count
+            ≡ suc self.old.count) × (self.new.lines.items ≡ self.old.lines.items)) }
     {
         self.count += 1;
         if let Some((name, count)) = line.header() {
@@ -160,7 +170,8 @@ impl Progress {
     /// Takes a line that breaks no rule.
     fn add(&mut self, alloc: Global, line: Line) -> Result<(), NoMemory>
         requires { self.old.count < 8192 }
-        ensures step { OnOk result ((before : List ParsedLine) → Stands self.old before → Stands self.new (before ++ Says line ∷ [])) }
+        ensures step { OnOk result ((before : List ParsedLine)
+            → Stands self.old before → Stands self.new (before ++ Says line ∷ [])) }
         ensures lines { OnOk result (self.new.lines.items ≡ self.old.lines.items ++ line ∷ []) }
     {
         self.add_header(alloc, &line)?;
@@ -186,11 +197,17 @@ impl Progress {
         headers: &Headers,
         parsed: ParsedLine,
     ) -> Result<(), ScriptFault>
-        ensures step { OnOk result ((all before : List ParsedLine) → Knows headers.now all → Stands self.old before
-            → (spec.broken_rule all before parsed ≡ None) × Stands self.new (before ++ parsed ∷ [])) }
-        ensures sound { OnOk result ((names : List (List ℕ)) → All (IsLine names) self.old.lines.items → IsParsed names parsed → All (IsLine names) self.new.lines.items) }
-        ensures fault { IfErr result (λ fault. (all before : List ParsedLine) → Knows headers.now all → Stands self.old before
-            → Refuses (fault_or (spec.broken_rule all before parsed) (length before + 1) None) fault) }
+        ensures step { OnOk result ((all before : List ParsedLine)
+            → Knows headers.now all → Stands self.old before
+            → (spec.broken_rule all before parsed ≡ None)
+            × Stands self.new (before ++ parsed ∷ [])) }
+        ensures sound { OnOk result ((names : List (List ℕ))
+            → All (IsLine names) self.old.lines.items
+            → IsParsed names parsed → All (IsLine names) self.new.lines.items) }
+        ensures fault { IfErr result (λ fault. (all before : List ParsedLine)
+            → Knows headers.now all → Stands self.old before
+            → Refuses (fault_or (spec.broken_rule all before parsed)
+            (length before + 1) None) fault) }
     {
         match parsed {
             ParsedLine::Invalid => Err(self.fault(FORM)),
@@ -212,8 +229,10 @@ impl Progress {
 
     /// The lines so far, or the fault that something is still open behind the last line.
     pub(crate) fn end(self) -> Result<Vec<Line>, ScriptFault>
-        ensures ok { IfOk result (λ lines. (lines.items ≡ self.lines.items) × ((before : List ParsedLine) → Stands self before → open_behind before ≡ [])) }
-        ensures fault { IfErr result (λ fault. (before : List ParsedLine) → Stands self before → Refuses (unclosed (length before + 1) (open_behind before)) fault) }
+        ensures ok { IfOk result (λ lines. (lines.items ≡ self.lines.items)
+            × ((before : List ParsedLine) → Stands self before → open_behind before ≡ [])) }
+        ensures fault { IfErr result (λ fault. (before : List ParsedLine) → Stands self before
+            → Refuses (unclosed (length before + 1) (open_behind before)) fault) }
     {
         if !self.blocks.is_empty() {
             return Err(self.fault(PLACE));

@@ -18,7 +18,8 @@ const MOST_BYTES: usize = 262_144;
 
 /// The procedures that the lines of a text begin.
 pub(crate) fn read_headers(alloc: Global, bytes: &[u8]) -> Result<Headers, NoMemory>
-    ensures { IfOk result (λ headers. (names : List (List ℕ)) → Knows headers (parsed_lines names bytes.now)) }
+    ensures { IfOk result (λ headers. (names : List (List ℕ))
+        → Knows headers (parsed_lines names bytes.now)) }
 {
     let mut headers = Headers::new(alloc);
     let mut rest = bytes;
@@ -31,7 +32,8 @@ pub(crate) fn read_headers(alloc: Global, bytes: &[u8]) -> Result<Headers, NoMem
     Ok(headers)
 }
 
-/// The script that a text is, over the names of principals, or the first line that breaks a rule with the lowest rule that it breaks.
+/// The script that a text is, over the names of principals, or the first line that breaks a rule
+/// with the lowest rule that it breaks.
 pub fn read_script(alloc: Global, bytes: &[u8], names: &Names) -> Result<Script, ScriptFault>
     ensures script { IfOk result (IsScript names.now bytes.now) }
     ensures over { IfOk result (IsOver names.now) }

@@ -55,7 +55,8 @@ pub(crate) fn opens_block(line: &Line) -> bool
 
 /// The rule on calls that a line breaks, if there is one.
 pub(crate) fn broken_call(headers: &Headers, line: &Line) -> Option<u32>
-    ensures { (all : List ParsedLine) → Knows headers.now all → result ≡ spec.broken_call all (line_call line.now) }
+    ensures { (all : List ParsedLine)
+        → Knows headers.now all → result ≡ spec.broken_call all (line_call line.now) }
 {
     let (name, count) = line.call()?;
     match headers.find(name) {

@@ -18,7 +18,8 @@ struct Kept {
     procedures: Procedures,
 }
 
-/// A script, seen as the list of its procedures. It keeps its lines, without those that say nothing, and they break no rule.
+/// A script, seen as the list of its procedures. It keeps its lines, without those that say
+/// nothing, and they break no rule.
 #[derive(Drop)]
 pub struct Script {
     kept: Arc<Kept>,
@@ -40,7 +41,10 @@ impl Model for Script {
 
     ghost view = { λ script. script_of_lines script.kept.value.lines.items };
 
-    ghost invariant = { λ script. KeepsRules script.kept.value.lines.items × (script.kept.value.ends.items ≡ ends_behind 0 script.kept.value.lines.items) × SaysLiterals script.kept.value.lines.items × Lists script.kept.value.procedures script.kept.value.lines.items };
+    ghost invariant = { λ script. KeepsRules script.kept.value.lines.items
+        × (script.kept.value.ends.items ≡ ends_behind 0 script.kept.value.lines.items)
+        × SaysLiterals script.kept.value.lines.items
+        × Lists script.kept.value.procedures script.kept.value.lines.items };
 }
 
 impl Script {
@@ -68,7 +72,8 @@ impl Script {
         })
     }
 
-    /// Its lines in order, without those that say nothing. They break no rule, and their literals are neither privileges nor handles.
+    /// Its lines in order, without those that say nothing. They break no rule, and their literals
+    /// are neither privileges nor handles.
     pub fn lines(&self) -> &[Line]
         ensures lines { script_lines self.now ≡ result.now }
         ensures rules { KeepsRules result.now }
@@ -86,7 +91,8 @@ impl Script {
         })
     }
 
-    /// The place of the line at which the innermost block ends that is open behind the line at a place. It takes the same time at any depth.
+    /// The place of the line at which the innermost block ends that is open behind the line at a
+    /// place. It takes the same time at any depth.
     pub fn end_behind(&self, at: usize) -> usize
         requires { at < length (script_lines self.now) }
         ensures { result ≡ end_of (script_lines self.now) (at + 1) }
@@ -103,7 +109,8 @@ impl Script {
         self.kept.procedures.number(name)
     }
 
-    /// The place of the line that begins the procedure with a number. Its body begins behind that line.
+    /// The place of the line that begins the procedure with a number. Its body begins behind that
+    /// line.
     pub fn procedure_line(&self, number: usize) -> usize
         requires { number < length self.now }
         ensures { BeginsAt self.now number result }

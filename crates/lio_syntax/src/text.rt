@@ -18,7 +18,8 @@ fn line_len(text: &[u8]) -> usize
 
 /// The first line, without its line end, and what follows it.
 pub(crate) fn split_line(text: &[u8]) -> Option<(&[u8], &[u8])>
-    ensures { MatchOption result (text_lines text.now ≡ []) (λ parts. (text_lines text.now ≡ parts.0.now ∷ text_lines parts.1.now) × (length parts.1.now < length text.now)) }
+    ensures { MatchOption result (text_lines text.now ≡ []) (λ parts. (text_lines text.now
+        ≡ parts.0.now ∷ text_lines parts.1.now) × (length parts.1.now < length text.now)) }
 {
     if text.is_empty() {
         return None;

@@ -24,7 +24,8 @@ impl Task {
         script: &Script,
     ) -> Result<Task, NoMemory>
         requires { CanBeBorn script.now at.now birth.now }
-        ensures { IfOk result (λ task. (longest : ℕ) → state_in script.now task ≡ child_of (program_of script.now longest) at.now birth.now) }
+        ensures { IfOk result (λ task. (longest : ℕ) → state_in script.now task
+            ≡ child_of (program_of script.now longest) at.now birth.now) }
     {
         let procedure = Procedure::numbered(script, birth.proc_at);
         let environment = procedure.environment(alloc, &birth.args)?;
@@ -50,7 +51,8 @@ impl Task {
         script: &Script,
     ) -> Result<Option<Task>, NoMemory>
         requires { CanBear script.now at.now act.now }
-        ensures { IfOk result (λ child. (longest : ℕ) → option_map (state_in script.now) child ≡ born (program_of script.now longest) at.now act.now) }
+        ensures { IfOk result (λ child. (longest : ℕ) → option_map (state_in script.now) child
+            ≡ born (program_of script.now longest) at.now act.now) }
     {
         match act {
             Act::Fork(birth) => Ok(Some(Task::of_birth(alloc, birth.get(), at, script)?)),

@@ -14,7 +14,8 @@ impl Task {
 
     /// A task that stands at another place, and is equal else.
     pub(crate) fn moved(&self, alloc: Global, continuation: Continuation) -> Result<Task, NoMemory>
-        ensures { IfOk result (λ task. (lines : List Line) → state_of lines task ≡ at (state_of lines self.now) (place_of lines continuation)) }
+        ensures { IfOk result (λ task. (lines : List Line)
+            → state_of lines task ≡ at (state_of lines self.now) (place_of lines continuation)) }
     {
         let label = self.label.copy(alloc)?;
         let clearance = self.clearance.copy(alloc)?;
@@ -31,7 +32,8 @@ impl Task {
 
     /// An equal task.
     pub fn copy(&self, alloc: Global) -> Result<Task, NoMemory>
-        ensures { IfOk result (λ task. (script : List Procedure) → state_in script task ≡ state_in script self.now) }
+        ensures { IfOk result (λ task. (script : List Procedure)
+            → state_in script task ≡ state_in script self.now) }
     {
         let continuation = self.continuation.copy(alloc)?;
         self.moved(alloc, continuation)

@@ -17,7 +17,8 @@ use std::alloc::Global;
 type Done = Result<(), NoMemory>;
 
 impl Task {
-    ghost use Rattle.std.specs.Prelude.{◌≡◌, ◌+◌, ◌-◌, ◌≤◌, List, [], ◌∷◌, IsTrue, OnOk, OnErr, true};
+    ghost use Rattle.std.specs.Prelude.{◌≡◌, ◌+◌, ◌-◌, ◌≤◌, List, [], ◌∷◌, IsTrue, OnOk, OnErr};
+    ghost use Rattle.std.specs.Prelude.{true};
     ghost use Rattle.lio_lines.specs.declared.line.Line.{Line};
     ghost use Rattle.lio_task.specs.StateOf.{state_in, state_of};
     ghost use Rattle.lio_labels.specs.Flow.{flows};
@@ -47,7 +48,8 @@ impl Task {
     #[inline(always)]
     fn go_bind(&mut self, alloc: Global, script: &Script, name: &Text, value: Value) -> Done
         requires { AtStatement (state_in script.now self.old).items }
-        ensures ok { OnOk result (state_in script.now self.new ≡ going.binding (spent (state_in script.now self.old)) name.now value) }
+        ensures ok { OnOk result (state_in script.now self.new
+            ≡ going.binding (spent (state_in script.now self.old)) name.now value) }
         ensures err { OnErr result (state_in script.now self.new ≡ state_in script.now self.old) }
     {
         self.continuation.bind(alloc, script, name, value)?;
@@ -65,7 +67,8 @@ impl Task {
         plain: Plain,
     ) -> Done
         requires { AtStatement (state_in script.now self.old).items }
-        ensures ok { OnOk result (state_in script.now self.new ≡ going.binding (spent (state_in script.now self.old)) name.now (value.Sealed label (content.Kept plain))) }
+        ensures ok { OnOk result (state_in script.now self.new ≡ going.binding (spent
+            (state_in script.now self.old)) name.now (value.Sealed label (content.Kept plain))) }
         ensures err { OnErr result (state_in script.now self.new ≡ state_in script.now self.old) }
     {
         let content = Held::new(alloc, Content::Kept(plain))?;
@@ -75,7 +78,8 @@ impl Task {
     /// A fault is thrown.
     fn go_throw(&mut self, alloc: Global, script: &Script, fault: Fault) -> Done
         requires { AtStatement (state_in script.now self.old).items }
-        ensures ok { OnOk result (state_in script.now self.new ≡ going.throwing (spent (state_in script.now self.old)) fault) }
+        ensures ok { OnOk result (state_in script.now self.new
+            ≡ going.throwing (spent (state_in script.now self.old)) fault) }
         ensures err { OnErr result (state_in script.now self.new ≡ state_in script.now self.old) }
     {
         self.continuation.throw(alloc, script, fault)?;
@@ -86,7 +90,8 @@ impl Task {
     /// What a task was given is bound to a name, or the fault that it is is thrown.
     fn go_given(&mut self, alloc: Global, script: &Script, name: &Text, content: Content) -> Done
         requires { AtStatement (state_in script.now self.old).items }
-        ensures ok { OnOk result (state_in script.now self.new ≡ going.given (spent (state_in script.now self.old)) name.now content) }
+        ensures ok { OnOk result (state_in script.now self.new
+            ≡ going.given (spent (state_in script.now self.old)) name.now content) }
         ensures err { OnErr result (state_in script.now self.new ≡ state_in script.now self.old) }
     {
         match content {
@@ -107,7 +112,9 @@ impl Task {
     ) -> Done
         requires { AtStatement (state_in script.now self.old).items }
         ensures ok { OnOk result (let was = spent (state_in script.now self.old) in
-            state_in script.now self.new ≡ record was { environment = environment; items = enter (block_at (script_lines script.now) body) (Back was.environment name.now ∷ was.items) }) }
+            state_in script.now self.new
+            ≡ record was { environment = environment; items = enter (block_at
+            (script_lines script.now) body) (Back was.environment name.now ∷ was.items) }) }
         ensures err { OnErr result (state_in script.now self.new ≡ state_in script.now self.old) }
     {
         self.continuation
@@ -120,7 +127,8 @@ impl Task {
     fn go_return(&mut self, alloc: Global, script: &Script, value: Value) -> Done
         requires { AtStatement (state_in script.now self.old).items }
         ensures ok { OnOk result (let was = spent (state_in script.now self.old) in
-            state_in script.now self.new ≡ going.at was (returned value was.environment was.items)) }
+            state_in script.now self.new
+            ≡ going.at was (returned value was.environment was.items)) }
         ensures err { OnErr result (state_in script.now self.new ≡ state_in script.now self.old) }
     {
         self.continuation.give_back(alloc, script, value)?;
@@ -132,7 +140,8 @@ impl Task {
     fn go_raise(&mut self, script: &Script, label: Label)
         requires own { IsOwn (state_in script.now self.old).items }
         requires cleared { IsTrue (flows label self.old.clearance) }
-        ensures { state_in script.now self.new ≡ record (spent (state_in script.now self.old)) { label = label } }
+        ensures { state_in script.now self.new
+            ≡ record (spent (state_in script.now self.old)) { label = label } }
     {
         self.go_past(script);
         self.label = label;
@@ -142,8 +151,10 @@ impl Task {
     fn go_raise_to(&mut self, script: &Script, label: Label) -> Done
         requires at { AtStatement (state_in script.now self.old).items }
         requires cleared { IsTrue (flows label self.old.clearance) }
-        ensures ok { OnOk result ((simple : Simply) → Begins (state_in script.now self.old).items (statement.Do simple) → let was = spent (state_in script.now self.old) in
-            state_in script.now self.new ≡ record was { label = label; items = Access simple ∷ was.items }) }
+        ensures ok { OnOk result ((simple : Simply) → Begins (state_in script.now self.old).items
+            (statement.Do simple) → let was = spent (state_in script.now self.old) in
+            state_in script.now self.new
+            ≡ record was { label = label; items = Access simple ∷ was.items }) }
         ensures err { OnErr result (state_in script.now self.new ≡ state_in script.now self.old) }
     {
         self.continuation.access(script)?;
@@ -156,7 +167,8 @@ impl Task {
     fn go_lower(&mut self, script: &Script, clearance: Label)
         requires own { IsOwn (state_in script.now self.old).items }
         requires cleared { IsTrue (flows self.old.label clearance) }
-        ensures { state_in script.now self.new ≡ record (spent (state_in script.now self.old)) { clearance = clearance } }
+        ensures { state_in script.now self.new
+            ≡ record (spent (state_in script.now self.old)) { clearance = clearance } }
     {
         self.go_past(script);
         self.clearance = clearance;
@@ -164,7 +176,8 @@ impl Task {
 
     /// The task ends. It takes no memory.
     pub(crate) fn go_to_end(&mut self, script: &Script)
-        ensures { state_in script.now self.new ≡ record (spent (state_in script.now self.old)) { environment = []; items = []; ended = true } }
+        ensures { state_in script.now self.new ≡ record
+            (spent (state_in script.now self.old)) { environment = []; items = []; ended = true } }
     {
         self.continuation.end();
         self.turns = self.turns.saturating_sub(1);
@@ -174,7 +187,8 @@ impl Task {
     /// Numbers of the range are taken: the first, and so many behind it. It takes no memory.
     fn take_numbers(&mut self, count: u32)
         requires { 1 + count ≤ self.old.cells }
-        ensures { (lines : List Line) → state_of lines self.new ≡ going.taking (state_of lines self.old) count }
+        ensures { (lines : List Line)
+            → state_of lines self.new ≡ going.taking (state_of lines self.old) count }
     {
         self.first += 1 + count;
         self.cells -= 1 + count;
@@ -184,7 +198,8 @@ impl Task {
     fn go_enter(&mut self, script: &Script, block: usize) -> Done
         requires { AtStatement (state_in script.now self.old).items }
         ensures ok { OnOk result (let was = spent (state_in script.now self.old) in
-            state_in script.now self.new ≡ record was { items = enter (block_at (script_lines script.now) block) was.items }) }
+            state_in script.now self.new
+            ≡ record was { items = enter (block_at (script_lines script.now) block) was.items }) }
         ensures err { OnErr result (state_in script.now self.new ≡ state_in script.now self.old) }
     {
         self.continuation.enter(script, block)?;
@@ -195,7 +210,8 @@ impl Task {
     /// The block of a loop begins, in front of the loop.
     fn go_repeat(&mut self, script: &Script, block: usize) -> Done
         ensures ok { OnOk result (let was = state_in script.now self.old in
-            state_in script.now self.new ≡ record (spent was) { items = enter (block_at (script_lines script.now) block) was.items }) }
+            state_in script.now self.new ≡ record
+            (spent was) { items = enter (block_at (script_lines script.now) block) was.items }) }
         ensures err { OnErr result (state_in script.now self.new ≡ state_in script.now self.old) }
     {
         self.continuation.repeat(script, block)?;
@@ -207,7 +223,9 @@ impl Task {
     fn go_guard(&mut self, script: &Script, block: usize, catch: usize) -> Done
         requires { AtStatement (state_in script.now self.old).items }
         ensures ok { OnOk result (let was = spent (state_in script.now self.old) in
-            state_in script.now self.new ≡ record was { items = enter (block_at (script_lines script.now) block) (mark_at (script_lines script.now) catch was.items) }) }
+            state_in script.now self.new
+            ≡ record was { items = enter (block_at (script_lines script.now) block)
+            (mark_at (script_lines script.now) catch was.items) }) }
         ensures err { OnErr result (state_in script.now self.new ≡ state_in script.now self.old) }
     {
         self.continuation.guard(script, block, catch)?;
@@ -219,7 +237,8 @@ impl Task {
     fn go_leave(&mut self, alloc: Global, script: &Script) -> Done
         requires { IsBack (state_in script.now self.old).items }
         ensures ok { OnOk result (let was = state_in script.now self.old in
-            state_in script.now self.new ≡ record (going.at was (returned (value.Bare unit) was.environment was.items)) { turns = was.turns - 1 }) }
+            state_in script.now self.new ≡ record (going.at was
+            (returned (value.Bare unit) was.environment was.items)) { turns = was.turns - 1 }) }
         ensures err { OnErr result (state_in script.now self.new ≡ state_in script.now self.old) }
     {
         self.continuation.leave(alloc, script)?;
@@ -227,7 +246,8 @@ impl Task {
         Ok(())
     }
 
-    /// A name is bound to the handle of what was made, which took numbers of the range: the first, and so many behind it.
+    /// A name is bound to the handle of what was made, which took numbers of the range: the first,
+    /// and so many behind it.
     fn go_hold(
         &mut self,
         alloc: Global,
@@ -238,7 +258,8 @@ impl Task {
     ) -> Done
         requires at { AtStatement (state_in script.now self.old).items }
         requires room { 1 + count ≤ self.old.cells }
-        ensures ok { OnOk result (state_in script.now self.new ≡ going.taking (going.binding (spent (state_in script.now self.old)) name.now (value.Bare handle)) count) }
+        ensures ok { OnOk result (state_in script.now self.new ≡ going.taking (going.binding
+            (spent (state_in script.now self.old)) name.now (value.Bare handle)) count) }
         ensures err { OnErr result (state_in script.now self.new ≡ state_in script.now self.old) }
     {
         self.go_bind(alloc, script, name, Value::Bare(handle))?;
@@ -256,7 +277,8 @@ impl Task {
         }
     }
 
-    /// A child took numbers of the range and turns, and a name is bound to the handle of its result.
+    /// A child took numbers of the range and turns, and a name is bound to the handle of its
+    /// result.
     fn go_fork(
         &mut self,
         alloc: Global,
@@ -269,7 +291,8 @@ impl Task {
         requires at { AtStatement (state_in script.now self.old).items }
         requires room { 1 + cells ≤ self.old.cells }
         ensures ok { OnOk result (let was = spent (state_in script.now self.old) in
-            state_in script.now self.new ≡ record (going.taking (going.binding was name.now (value.Bare handle)) cells) { turns = was.turns - turns }) }
+            state_in script.now self.new ≡ record (going.taking (going.binding was name.now
+            (value.Bare handle)) cells) { turns = was.turns - turns }) }
         ensures err { OnErr result (state_in script.now self.new ≡ state_in script.now self.old) }
     {
         self.go_hold(alloc, script, name, handle, cells)?;
@@ -282,14 +305,16 @@ impl Task {
         requires own { IsOwn (state_in script.now self.old).items }
         requires room { 1 + cells ≤ self.old.cells }
         ensures { let was = spent (state_in script.now self.old) in
-            state_in script.now self.new ≡ record (going.taking was cells) { turns = was.turns - turns } }
+            state_in script.now self.new
+            ≡ record (going.taking was cells) { turns = was.turns - turns } }
     {
         self.go_past(script);
         self.take_numbers(cells);
         self.turns = self.turns.saturating_sub(turns);
     }
 
-    /// The current label is raised, and what was sealed is bound to a name, or the fault that it is is thrown.
+    /// The current label is raised, and what was sealed is bound to a name, or the fault that it is
+    /// is thrown.
     fn go_unlabel(
         &mut self,
         alloc: Global,
@@ -300,7 +325,8 @@ impl Task {
     ) -> Done
         requires at { AtStatement (state_in script.now self.old).items }
         requires cleared { IsTrue (flows label self.old.clearance) }
-        ensures ok { OnOk result (state_in script.now self.new ≡ going.given (record (spent (state_in script.now self.old)) { label = label }) name.now content) }
+        ensures ok { OnOk result (state_in script.now self.new ≡ going.given
+            (record (spent (state_in script.now self.old)) { label = label }) name.now content) }
         ensures err { OnErr result (state_in script.now self.new ≡ state_in script.now self.old) }
     {
         self.go_given(alloc, script, name, content)?;
@@ -311,7 +337,8 @@ impl Task {
     /// A reply is given.
     fn go_reply(&mut self, alloc: Global, script: &Script, name: &Text, reply: &Reply) -> Done
         requires { AtStatement (state_in script.now self.old).items }
-        ensures ok { OnOk result (state_in script.now self.new ≡ going.replied (spent (state_in script.now self.old)) name.now reply.now) }
+        ensures ok { OnOk result (state_in script.now self.new
+            ≡ going.replied (spent (state_in script.now self.old)) name.now reply.now) }
         ensures err { OnErr result (state_in script.now self.new ≡ state_in script.now self.old) }
     {
         match reply {
@@ -340,7 +367,9 @@ impl Task {
         act: &Act,
     ) -> Done
         requires { AtStatement (state_in script.now self.old).items }
-        ensures ok { OnOk result (state_in script.now self.new ≡ going.binding (spent (state_in script.now self.old)) name.now (value.Sealed label (going.released act.now))) }
+        ensures ok { OnOk result (state_in script.now self.new
+            ≡ going.binding (spent (state_in script.now self.old)) name.now
+            (value.Sealed label (going.released act.now))) }
         ensures err { OnErr result (state_in script.now self.new ≡ state_in script.now self.old) }
     {
         let content = released(alloc, act)?;

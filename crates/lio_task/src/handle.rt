@@ -24,7 +24,8 @@ fn met<'s>(environment: &'s Environment, simple: &'s Simple) -> Option<&'s Handl
     }
 }
 
-/// The handle of the node that a statement writes or sends to, where its operands are of the needed kind.
+/// The handle of the node that a statement writes or sends to, where its operands are of the needed
+/// kind.
 fn written<'s>(environment: &'s Environment, simple: &'s Simple) -> Option<&'s Handle>
     ensures { option_copied result ≡ handle_written environment.now simple.now }
 {
@@ -45,10 +46,11 @@ impl Task {
     ghost use Rattle.lio_calculus.specs.Handles.{handle_ahead};
     ghost use Rattle.lio_task.specs.StateOf.{state_in};
 
-    /// The handle that its first item names, where this is the access of a `read`, `take`, `put` or `wait`, or a `write` or `send` whose
-    /// operands are of the needed kind. It takes no memory.
+    /// The handle that its first item names, where this is the access of a `read`, `take`, `put` or
+    /// `wait`, or a `write` or `send` whose operands are of the needed kind. It takes no memory.
     pub fn handle<'s>(&'s self, script: &'s Script) -> Option<&'s Handle>
-        ensures { let state = state_in script.now self.now in option_copied result ≡ handle_ahead state.environment state.items }
+        ensures { let state = state_in script.now self.now in
+            option_copied result ≡ handle_ahead state.environment state.items }
     {
         let environment = self.continuation.environment();
         match self.continuation.front(script) {

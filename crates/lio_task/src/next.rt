@@ -41,8 +41,11 @@ impl Task {
         script: &'s Script,
         longest: u32,
     ) -> Result<Planned<'s>, NoMemory>
-        ensures plan { IfOk result (λ planned. let state = state_in script.now self.now in plan_of (script_lines script.now) state.items planned ≡ plan.plan (program_of script.now longest) state) }
-        ensures leads { IfOk result (LeadsOn (script_lines script.now) (state_in script.now self.now).items) }
+        ensures plan { IfOk result (λ planned. let state = state_in script.now self.now in
+            plan_of (script_lines script.now) state.items planned
+            ≡ plan.plan (program_of script.now longest) state) }
+        ensures leads { IfOk result
+            (LeadsOn (script_lines script.now) (state_in script.now self.now).items) }
     {
         self.plan_by(alloc, script, longest, self.front(script))
     }
@@ -56,15 +59,19 @@ impl Task {
         front: Front<'_, 's>,
     ) -> Result<Planned<'s>, NoMemory>
         requires { IsFront (script_lines script.now) (state_in script.now self.now).items front }
-        ensures plan { IfOk result (λ planned. let state = state_in script.now self.now in plan_of (script_lines script.now) state.items planned ≡ plan.plan (program_of script.now longest) state) }
-        ensures leads { IfOk result (LeadsOn (script_lines script.now) (state_in script.now self.now).items) }
+        ensures plan { IfOk result (λ planned. let state = state_in script.now self.now in
+            plan_of (script_lines script.now) state.items planned
+            ≡ plan.plan (program_of script.now longest) state) }
+        ensures leads { IfOk result
+            (LeadsOn (script_lines script.now) (state_in script.now self.now).items) }
     {
         plan_next(alloc, &self.standing(), script, longest, front)
     }
 
     /// What its next turn does. Over comes exactly where it has ended.
     pub fn next(&self, alloc: Global, script: &Script, longest: u32) -> Result<Next, NoMemory>
-        ensures { IfOk result (λ next. next ≡ next_of (program_of script.now longest) (state_in script.now self.now)) }
+        ensures { IfOk result (λ next. next
+            ≡ next_of (program_of script.now longest) (state_in script.now self.now)) }
     {
         match self.plan(alloc, script, longest)? {
             Planned::Over => Ok(Next::Over),
@@ -85,7 +92,8 @@ impl Task {
         }
     }
 
-    /// Goes on after the turn that `next` gives, with the turn's act and its reply. After a refusal of memory it is as before.
+    /// Goes on after the turn that `next` gives, with the turn's act and its reply. After a refusal
+    /// of memory it is as before.
     pub fn resume(
         &mut self,
         alloc: Global,
@@ -94,7 +102,8 @@ impl Task {
         act: &Act,
         reply: &Reply,
     ) -> Result<(), NoMemory>
-        ensures ok { OnOk result (state_in script.now self.new ≡ resumed (program_of script.now longest) (state_in script.now self.old) act.now reply.now) }
+        ensures ok { OnOk result (state_in script.now self.new ≡ resumed (program_of script.now
+            longest) (state_in script.now self.old) act.now reply.now) }
         ensures err { OnErr result (state_in script.now self.new ≡ state_in script.now self.old) }
     {
         match self.plan(alloc, script, longest)? {

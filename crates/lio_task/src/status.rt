@@ -16,7 +16,8 @@ use lio_values::Handle;
 pub enum Status {
     /// Its next turn waits for nothing.
     Running,
-    /// At the access of a `take`, a `put` or a `wait`: the number of the node, and what it is to give.
+    /// At the access of a `take`, a `put` or a `wait`: the number of the node, and what it is to
+    /// give.
     Access(u32, Wish),
     /// At the access of a `read`: the number of the reference.
     Reading(u32),
@@ -41,7 +42,9 @@ impl Task {
 
     /// Where it stands, by what comes first in it. It takes no memory.
     pub fn status_by(&self, front: &Front<'_, '_>) -> Status
-        ensures { (script : List Procedure) → IsFront (script_lines script) (state_in script self.now).items front.now → result ≡ status_of (state_in script self.now) }
+        ensures { (script : List Procedure)
+            → IsFront (script_lines script) (state_in script self.now).items front.now
+            → result ≡ status_of (state_in script self.now) }
     {
         if self.ended {
             return Status::Ended;

@@ -6,8 +6,8 @@ use lio_control::Continuation;
 use lio_labels::Label;
 use lio_turns::Standing;
 
-/// A task: where it stands in its script, its current label and its clearance, the turns that it has left, and the numbers that it owns.
-/// Source: the tasks of LIO, ICFP 2012.
+/// A task: where it stands in its script, its current label and its clearance, the turns that it
+/// has left, and the numbers that it owns. Source: the tasks of LIO, ICFP 2012.
 #[derive(Drop)]
 pub struct Task {
     pub(crate) continuation: Continuation,

@@ -91,7 +91,8 @@ impl Standing<'_> {
 
 /// A value is put into a variable.
 fn putting<'s>(alloc: Global, handle: &Handle, value: Value) -> Attempt<'s>
-    ensures { IfOk result (λ planned. planned ≡ turn.Visit (act.Put value) (target.Variable handle.now) onward.Advance) }
+    ensures { IfOk result (λ planned. planned
+        ≡ turn.Visit (act.Put value) (target.Variable handle.now) onward.Advance) }
 {
     match both(Held::new(alloc, value), handle.copy(alloc)) {
         Ok((value, handle)) => Ok(Turn::Visit(

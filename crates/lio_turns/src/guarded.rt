@@ -55,7 +55,8 @@ impl Standing<'_> {
 
     /// What a guard says of an operation on a thing with this label.
     pub fn verdict(&self, alloc: Global, op: Op, target: &Label) -> Result<Verdict, NoMemory>
-        ensures { IfOk result (λ verdict. verdict ≡ guarded op self.now.label.now self.now.clearance.now target.now) }
+        ensures { IfOk result
+            (λ verdict. verdict ≡ guarded op self.now.label.now self.now.clearance.now target.now) }
     {
         guard(alloc, op, self.label, self.clearance, target)
     }
@@ -80,7 +81,8 @@ impl Standing<'_> {
 
 /// An act that is refused with a fault, which its reply shows.
 fn throwing<'s>(alloc: Global, act: Act, fault: Held<Fault>) -> Attempt<'s>
-    ensures { IfOk result (λ planned. planned ≡ turn.Own act (reply.Refused fault) (onward.Throw fault)) }
+    ensures { IfOk result
+        (λ planned. planned ≡ turn.Own act (reply.Refused fault) (onward.Throw fault)) }
 {
     match fault.copy(alloc) {
         Ok(shown) => Ok(Turn::Own(act, Reply::Refused(shown), Onward::Throw(fault))),

@@ -101,7 +101,8 @@ impl Standing<'_> {
         label: &Label,
         kind: FaultKind,
     ) -> Attempt<'s>
-        ensures { IfOk result (λ planned. planned ≡ refusal self.now (act.Raise op label.now) kind) }
+        ensures { IfOk result
+            (λ planned. planned ≡ refusal self.now (act.Raise op label.now) kind) }
     {
         match label.copy(alloc) {
             Ok(asked) => self.refused(alloc, Act::Raise(op, asked), kind),
@@ -162,7 +163,8 @@ impl Standing<'_> {
         label: &Operand,
         power: &Operand,
     ) -> Attempt<'s>
-        ensures { IfOk result (Plans self.now (line.Relabel name.now value.now label.now power.now)) }
+        ensures { IfOk result (Plans self.now
+            (line.Relabel name.now value.now label.now power.now)) }
     {
         let environment = self.environment();
         let Some((source, content)) = operands::sealed(environment, value) else {
@@ -187,7 +189,9 @@ impl Standing<'_> {
         target: &Label,
         power: &Priv,
     ) -> Attempt<'s>
-        ensures { IfOk result (λ planned. Is self.now planned (λ (lines : List Line). plan.releasing (state_of lines self.now) name.now (record { label = source.now; content = content.now }) target.now power.now)) }
+        ensures { IfOk result (λ planned. Is self.now planned
+            (λ (lines : List Line). plan.releasing (state_of lines self.now) name.now
+            (record { label = source.now; content = content.now }) target.now power.now)) }
     {
         match guard_relabel(alloc, self.label, self.clearance, source, target, power) {
             Ok(Verdict::Go(current)) => {
@@ -208,7 +212,8 @@ impl Standing<'_> {
         power: &Priv,
         kind: FaultKind,
     ) -> Attempt<'s>
-        ensures { IfOk result (λ planned. planned ≡ refusal self.now (act.Release source.now target.now power.now content.Hidden) kind) }
+        ensures { IfOk result (λ planned. planned
+            ≡ refusal self.now (act.Release source.now target.now power.now content.Hidden) kind) }
     {
         match hidden_release(alloc, source, target, power) {
             Ok(act) => self.refused(alloc, act, kind),
@@ -222,7 +227,8 @@ impl Standing<'_> {
 
 /// The turn that seals a plain value.
 fn sealed<'s>(alloc: Global, name: &'s Text, label: &Label, plain: &Plain) -> Attempt<'s>
-    ensures { IfOk result (λ made. made ≡ turn.Own (act.Seal label.now) reply.Done (onward.Seal name.entry label.now plain.now)) }
+    ensures { IfOk result (λ made. made
+        ≡ turn.Own (act.Seal label.now) reply.Done (onward.Seal name.entry label.now plain.now)) }
 {
     match both(held_plain(alloc, plain), two_labels(alloc, label)) {
         Ok((plain, (asked, label))) => Ok(Turn::Own(
@@ -236,7 +242,8 @@ fn sealed<'s>(alloc: Global, name: &'s Text, label: &Label, plain: &Plain) -> At
 
 /// The turn that raises the label to this one, by a taint.
 fn tainted<'s>(alloc: Global, label: &Label, current: Label) -> Attempt<'s>
-    ensures { IfOk result (λ made. made ≡ turn.Own (act.Raise op.Taint label.now) reply.Done (onward.Raise current)) }
+    ensures { IfOk result
+        (λ made. made ≡ turn.Own (act.Raise op.Taint label.now) reply.Done (onward.Raise current)) }
 {
     match label.copy(alloc) {
         Ok(asked) => Ok(Turn::Own(
@@ -253,7 +260,8 @@ fn tainted<'s>(alloc: Global, label: &Label, current: Label) -> Attempt<'s>
 
 /// The turn that lowers the clearance to a label.
 fn lowered<'s>(alloc: Global, label: &Label) -> Attempt<'s>
-    ensures { IfOk result (λ made. made ≡ turn.Own (act.Lower label.now) reply.Done (onward.Lower label.now)) }
+    ensures { IfOk result
+        (λ made. made ≡ turn.Own (act.Lower label.now) reply.Done (onward.Lower label.now)) }
 {
     match two_labels(alloc, label) {
         Ok((asked, clearance)) => {
@@ -272,7 +280,8 @@ fn unlabelled<'s>(
     content: &Content,
     current: Label,
 ) -> Attempt<'s>
-    ensures { IfOk result (λ made. made ≡ turn.Own (act.Raise op.Unlabel label.now) reply.Done (onward.Unlabel name.entry current label.now content.now)) }
+    ensures { IfOk result (λ made. made ≡ turn.Own (act.Raise op.Unlabel label.now) reply.Done
+        (onward.Unlabel name.entry current label.now content.now)) }
 {
     let sealed = both(held_label(alloc, label), held_content(alloc, content));
     match both(label.copy(alloc), sealed) {
@@ -324,7 +333,8 @@ fn released<'s>(
     target: &Label,
     power: &Priv,
 ) -> Attempt<'s>
-    ensures { IfOk result (λ made. made ≡ turn.Own (act.Release source.now target.now power.now content.now) reply.Done (onward.Release name.entry target.now)) }
+    ensures { IfOk result (λ made. made ≡ turn.Own (act.Release source.now
+        target.now power.now content.now) reply.Done (onward.Release name.entry target.now)) }
 {
     match both(held_content(alloc, content), target.copy(alloc)) {
         Ok((content, label)) => match releasing(alloc, source, target, power, content) {
@@ -345,7 +355,8 @@ fn hidden_release(
     target: &Label,
     power: &Priv,
 ) -> Result<Act, NoMemory>
-    ensures { IfOk result (λ made. made ≡ act.Release source.now target.now power.now content.Hidden) }
+    ensures { IfOk result
+        (λ made. made ≡ act.Release source.now target.now power.now content.Hidden) }
 {
     let hidden = Held::new(alloc, Content::Hidden)?;
     releasing(alloc, source, target, power, hidden)

@@ -1,4 +1,5 @@
-//! The turns of statements on labels and of accesses: what each does, and how the task goes on after it.
+//! The turns of statements on labels and of accesses: what each does, and how the task goes on
+//! after it.
 #![tactic(auto)]
 
 mod access;

@@ -37,7 +37,8 @@ pub enum Onward<'s> {
     Bind(&'s Text, Value),
     /// The name is bound to the plain value, sealed under the label.
     Seal(&'s Text, Label, Held<Plain>),
-    /// With the body of a procedure, which begins at a place, in this environment; the name is bound to what it returns.
+    /// With the body of a procedure, which begins at a place, in this environment; the name is
+    /// bound to what it returns.
     Call(&'s Text, Environment, usize),
     /// With the caller, to which the value is returned.
     Return(Value),
@@ -45,7 +46,8 @@ pub enum Onward<'s> {
     Raise(Label),
     /// At the raised label, with the access of the statement.
     RaiseTo(Label),
-    /// At the first label, with the content, which was sealed under the second, bound to the name, or thrown.
+    /// At the first label, with the content, which was sealed under the second, bound to the name,
+    /// or thrown.
     Unlabel(&'s Text, Label, Held<Label>, Held<Content>),
     /// With the lower clearance.
     Lower(Label),
@@ -55,7 +57,8 @@ pub enum Onward<'s> {
     HoldReference(&'s Text, Label),
     /// The name is bound to the handle of the new variable.
     HoldVariable(&'s Text, Label),
-    /// The name is bound to the handle of the child's result; so many numbers behind its own and so many turns went to the child.
+    /// The name is bound to the handle of the child's result; so many numbers behind its own and so
+    /// many turns went to the child.
     Fork(&'s Text, Label, u32, u32),
     /// So many numbers behind its own and so many turns went to the child.
     Spawn(u32, u32),

@@ -41,8 +41,8 @@ pub enum Op {
     Put,
 }
 
-/// A new task: its procedure's place in the script and its arguments, the label of its result, its clearance, its turns, and the
-/// numbers that it is given.
+/// A new task: its procedure's place in the script and its arguments, the label of its result, its
+/// clearance, its turns, and the numbers that it is given.
 #[derive(PartialEq, Eq, Drop)]
 pub struct Birth {
     pub proc_at: u32,
@@ -163,7 +163,8 @@ pub(crate) fn released(
     power: &Priv,
     content: Held<Content>,
 ) -> Result<Act, NoMemory>
-    ensures { IfOk result (λ release. release ≡ act.Release source.now target.now power.now content) }
+    ensures { IfOk result
+        (λ release. release ≡ act.Release source.now target.now power.now content) }
 {
     match copied_labels(alloc, source, target) {
         Ok((source, target)) => match power.copy(alloc) {

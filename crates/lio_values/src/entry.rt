@@ -7,7 +7,8 @@ use lio_labels::Label;
 use std::alloc::Global;
 use std::mem::size_of;
 
-/// One turn of one task, as a journal records it. Source: the small steps of the concurrent calculus of LIO, ICFP 2012.
+/// One turn of one task, as a journal records it. Source: the small steps of the concurrent
+/// calculus of LIO, ICFP 2012.
 #[derive(PartialEq, Eq, Drop)]
 pub struct Entry {
     /// How many turns came before it.
@@ -22,7 +23,8 @@ pub struct Entry {
     pub reply: Reply,
 }
 
-// An entry is made in every turn and kept in the journal, so its size and that of what stands in it are held here.
+// An entry is made in every turn and kept in the journal, so its size and that of what stands in it
+// are held here.
 const _: () = prove!(size_of::<Formula>() == 16);
 
 const _: () = prove!(size_of::<Label>() == 32);

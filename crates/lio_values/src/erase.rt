@@ -1,7 +1,8 @@
 //! What an observer sees of values and entries.
 ghost use Rattle.std.specs.Prelude.{◌≡◌, IfOk, map};
 ghost use Rattle.std.specs.Option.{option_map};
-ghost use Rattle.lio_values.specs.Erasure.{erase_content, erase_value, erase_birth, erase_act, erase_reply, erase_entry};
+ghost use Rattle.lio_values.specs.Erasure.{erase_content, erase_value, erase_birth, erase_act};
+ghost use Rattle.lio_values.specs.Erasure.{erase_reply, erase_entry};
 
 use crate::act::{Act, Birth, Reply, released};
 use crate::entry::Entry;
@@ -32,8 +33,9 @@ impl Held<Content> {
 }
 
 impl Value {
-    /// The value as an observer at the label `observer` sees it: the content of a sealed one is hidden where its label doesn't flow
-    /// to the observer's. Source: the erasure of the concurrent calculus of LIO, ICFP 2012.
+    /// The value as an observer at the label `observer` sees it: the content of a sealed one is
+    /// hidden where its label doesn't flow to the observer's. Source: the erasure of the concurrent
+    /// calculus of LIO, ICFP 2012.
     pub fn erase(&self, alloc: Global, observer: &Label) -> Result<Value, NoMemory>
         ensures { IfOk result (λ value. value ≡ erase_value observer.now self.now) }
     {
@@ -153,9 +155,9 @@ impl Reply {
 }
 
 impl Entry {
-    /// The entry as an observer at the label `observer` sees it: all its values are erased, and the content of a release is hidden
-    /// where the label that it comes to doesn't flow to the observer's.
-    /// Source: the erasure of the concurrent calculus of LIO, ICFP 2012.
+    /// The entry as an observer at the label `observer` sees it: all its values are erased, and the
+    /// content of a release is hidden where the label that it comes to doesn't flow to the
+    /// observer's. Source: the erasure of the concurrent calculus of LIO, ICFP 2012.
     pub fn erase(&self, alloc: Global, observer: &Label) -> Result<Entry, NoMemory>
         ensures { IfOk result (λ entry. entry ≡ erase_entry observer.now self.now) }
     {

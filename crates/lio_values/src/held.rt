@@ -5,7 +5,8 @@ use lio_clauses::NoMemory;
 use std::alloc::Global;
 use std::marker::Model;
 
-/// A value on the heap, which contracts see as if it stood in place. It keeps the values of a turn small.
+/// A value on the heap, which contracts see as if it stood in place. It keeps the values of a turn
+/// small.
 #[derive(Debug, Drop)]
 pub struct Held<T> {
     value: Box<T>,

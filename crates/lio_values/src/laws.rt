@@ -1,6 +1,7 @@
 //! The laws of erasure and of equality. Each function does nothing: its contract is the law.
 ghost use Rattle.lio_values.specs.Equality.{IsEquality};
-ghost use Rattle.lio_values.specs.Laws.{EntryErasedBelow, EntryErasedTwice, ValueErasedBelow, ValueErasedTwice};
+ghost use Rattle.lio_values.specs.Laws.{EntryErasedBelow, EntryErasedTwice, ValueErasedBelow};
+ghost use Rattle.lio_values.specs.Laws.{ValueErasedTwice};
 
 use crate::act::{Act, Birth, Reply};
 use crate::entry::Entry;

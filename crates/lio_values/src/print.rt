@@ -1,10 +1,13 @@
-//! Printing texts, labels and plain values, as scripts and journals have them. After want of memory what is printed to is as before.
-ghost use Rattle.std.specs.Prelude.{◌≡◌, ◌++◌, ◌^◌, ◌<◌, List, ℕ, codes, decimal, take, OnOk, OnErr};
+//! Printing texts, labels and plain values, as scripts and journals have them. After want of memory
+//! what is printed to is as before.
+ghost use Rattle.std.specs.Prelude.{◌≡◌, ◌++◌, ◌^◌, ◌<◌, List, ℕ, codes, decimal, take, OnOk};
+ghost use Rattle.std.specs.Prelude.{OnErr};
 ghost use Rattle.std.specs.Fmt.{signed_decimal};
 ghost use Rattle.lio_clauses.specs.FormulaPrint.{Extends};
 ghost use Rattle.lio_labels.specs.LabelPrint.{AreNamed};
 ghost use Rattle.lio_values.specs.Quoted.{hex_digit, escaped, quoted};
-ghost use Rattle.lio_values.specs.PlainText.{label_in_brackets, power_text, handle_text, plain_text, IsPowerNamed, IsPlainNamed};
+ghost use Rattle.lio_values.specs.PlainText.{label_in_brackets, power_text, handle_text};
+ghost use Rattle.lio_values.specs.PlainText.{plain_text, IsPowerNamed, IsPlainNamed};
 
 use crate::value::{Handle, Plain};
 use itoa::Buffer;
@@ -97,7 +100,8 @@ pub fn print_quoted(out: &mut Vec<u8>, bytes: &[u8]) -> Result<(), NoMemory>
 /// Appends a label between `<` and `>`. After want of memory a part of it may stand at the end.
 fn append_label(out: &mut Vec<u8>, label: &Label, names: &Names) -> Result<(), NoMemory>
     requires { AreNamed names.now label.now }
-    ensures ok { OnOk result (out.new.items ≡ out.old.items ++ label_in_brackets names.now label.now) }
+    ensures ok { OnOk result (out.new.items
+        ≡ out.old.items ++ label_in_brackets names.now label.now) }
     ensures kept { Extends out.old.items out.new.items }
 {
     out.push(b'<')?;
@@ -111,7 +115,8 @@ fn append_label(out: &mut Vec<u8>, label: &Label, names: &Names) -> Result<(), N
 /// Appends a label between `<` and `>`.
 pub fn print_label(out: &mut Vec<u8>, label: &Label, names: &Names) -> Result<(), NoMemory>
     requires { AreNamed names.now label.now }
-    ensures ok { OnOk result (out.new.items ≡ out.old.items ++ label_in_brackets names.now label.now) }
+    ensures ok { OnOk result (out.new.items
+        ≡ out.old.items ++ label_in_brackets names.now label.now) }
     ensures err { OnErr result (out.new.items ≡ out.old.items) }
 {
     let len = out.len();
@@ -150,7 +155,8 @@ fn append_handle(
     names: &Names,
 ) -> Result<(), NoMemory>
     requires { AreNamed names.now handle.now.label }
-    ensures ok { OnOk result (out.new.items ≡ out.old.items ++ handle_text names.now kind.now handle.now) }
+    ensures ok { OnOk result (out.new.items
+        ≡ out.old.items ++ handle_text names.now kind.now handle.now) }
     ensures kept { Extends out.old.items out.new.items }
 {
     out.extend_from_slice(kind)?;
@@ -166,7 +172,8 @@ fn print_handle(
     names: &Names,
 ) -> Result<(), NoMemory>
     requires { AreNamed names.now handle.now.label }
-    ensures ok { OnOk result (out.new.items ≡ out.old.items ++ handle_text names.now kind.now handle.now) }
+    ensures ok { OnOk result (out.new.items
+        ≡ out.old.items ++ handle_text names.now kind.now handle.now) }
     ensures err { OnErr result (out.new.items ≡ out.old.items) }
 {
     let len = out.len();
@@ -175,7 +182,8 @@ fn print_handle(
 }
 
 impl Plain {
-    /// Appends its text: `unit`, `true`, `-5`, `"text"`, `<label>`, `power<formula>`, `ref#3<label>` and so on.
+    /// Appends its text: `unit`, `true`, `-5`, `"text"`, `<label>`, `power<formula>`,
+    /// `ref#3<label>` and so on.
     pub fn print_to(&self, out: &mut Vec<u8>, names: &Names) -> Result<(), NoMemory>
         requires { IsPlainNamed names.now self.now }
         ensures ok { OnOk result (out.new.items ≡ out.old.items ++ plain_text names.now self.now) }

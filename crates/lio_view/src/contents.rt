@@ -53,9 +53,11 @@ impl Contents {
         &self.items[self.taken..]
     }
 
-    /// Takes the first content out, if there is one, at the same cost however many there are. It takes no memory.
+    /// Takes the first content out, if there is one, at the same cost however many there are. It
+    /// takes no memory.
     pub fn take_front(&mut self) -> Option<Content>
-        ensures { MatchOption result ((self.old ≡ []) × (self.new ≡ [])) (λ content. self.old ≡ content ∷ self.new) }
+        ensures { MatchOption result ((self.old ≡ []) × (self.new ≡ []))
+            (λ content. self.old ≡ content ∷ self.new) }
     {
         let first = self.items.get_mut(self.taken)?;
         let content = mem::replace(first, Content::Hidden);

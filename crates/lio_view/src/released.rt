@@ -11,17 +11,20 @@ use lio_labels::Label;
 use lio_values::{Act, Content, Entry, Reply};
 use std::alloc::Global;
 
-/// Whether a release from one label to another comes to an observer: from a label that doesn't flow to the observer's to one that does.
+/// Whether a release from one label to another comes to an observer: from a label that doesn't flow
+/// to the observer's to one that does.
 fn comes_to(source: &Label, target: &Label, observer: &Label) -> bool
     ensures { result ≡ (not (flows source.now observer.now) && flows target.now observer.now) }
 {
     !source.flows(observer) && target.flows(observer)
 }
 
-/// The content that a turn releases to an observer, if it does: that of a release that was carried out.
+/// The content that a turn releases to an observer, if it does: that of a release that was carried
+/// out.
 #[tactic(auto, unfolding(lio_calculus::specs::Erased::released_to))]
 fn released_by<'a>(act: &'a Act, reply: &Reply, observer: &Label) -> Option<&'a Content>
-    ensures { MatchOption result (released_to observer.now act.entry.now reply.now ≡ []) (λ content. released_to observer.now act.entry.now reply.now ≡ content.now ∷ []) }
+    ensures { MatchOption result (released_to observer.now act.entry.now reply.now ≡ [])
+        (λ content. released_to observer.now act.entry.now reply.now ≡ content.now ∷ []) }
 {
     match act {
         Act::Release(source, target, _, content) => match reply {
@@ -39,7 +42,8 @@ fn append_released(
     entry: &Entry,
     observer: &Label,
 ) -> Result<(), NoMemory>
-    ensures { OnOk result (contents.new ≡ contents.old ++ released_to observer.now entry.now.act entry.now.reply) }
+    ensures { OnOk result (contents.new
+        ≡ contents.old ++ released_to observer.now entry.now.act entry.now.reply) }
 {
     if let Some(content) = released_by(&entry.act, &entry.reply, observer) {
         contents.push(content.copy(alloc)?)?;

@@ -12,7 +12,8 @@ use std::alloc::Global;
 
 /// An entry as an observer sees it, with another ticket.
 fn seen(alloc: Global, entry: &Entry, observer: &Label, ticket: u64) -> Result<Entry, NoMemory>
-    ensures { IfOk result (λ seen. seen ≡ erase_entry observer.now (record entry.now { ticket = ticket })) }
+    ensures { IfOk result
+        (λ seen. seen ≡ erase_entry observer.now (record entry.now { ticket = ticket })) }
 {
     let mut seen = entry.erase(alloc, observer)?;
     seen.ticket = ticket;
@@ -27,7 +28,8 @@ fn append_seen(
     observer: &Label,
 ) -> Result<(), NoMemory>
     requires { AreBelow (length view.old) view.old }
-    ensures view { OnOk result (view.new ≡ view.old ++ spec.view observer.now (length view.old) (entry.now ∷ [])) }
+    ensures view { OnOk result
+        (view.new ≡ view.old ++ spec.view observer.now (length view.old) (entry.now ∷ [])) }
     ensures below { OnOk result (AreBelow (length view.new) view.new) }
 {
     if entry.at.flows(observer) {
@@ -37,8 +39,9 @@ fn append_seen(
     Ok(())
 }
 
-/// The view of an observer: the entries of the turns that tasks took at labels that flow to the observer's, each erased, with tickets
-/// from 0. Source: the erasure of the concurrent calculus of LIO, ICFP 2012.
+/// The view of an observer: the entries of the turns that tasks took at labels that flow to the
+/// observer's, each erased, with tickets from 0. Source: the erasure of the concurrent calculus of
+/// LIO, ICFP 2012.
 pub fn view(alloc: Global, journal: &Journal, observer: &Label) -> Result<Journal, NoMemory>
     ensures { IfOk result (λ seen. seen ≡ spec.view observer.now 0 journal.now) }
 {

@@ -1,4 +1,5 @@
-//! The words of the lines of scripts: how a line is cut into them, and which are names, literals, operators and first words of forms.
+//! The words of the lines of scripts: how a line is cut into them, and which are names, literals,
+//! operators and first words of forms.
 #![tactic(auto)]
 
 mod keyword;

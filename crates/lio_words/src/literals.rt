@@ -1,11 +1,14 @@
 //! Names and literals.
-ghost use Rattle.std.specs.Prelude.{◌≡◌, ◌≢◌, ◌≤◌, ◌<◌, ℕ, List, [], ◌∷◌, ◌++◌, length, Some, None, IsTrue, IfOk, IfSome, MatchOption};
+ghost use Rattle.std.specs.Prelude.{◌≡◌, ◌≢◌, ◌≤◌, ◌<◌, ℕ, List, [], ◌∷◌, ◌++◌, length, Some, None};
+ghost use Rattle.std.specs.Prelude.{IsTrue, IfOk, IfSome, MatchOption};
 ghost use Rattle.std.specs.List.{list_all};
 ghost use Rattle.std.specs.Option.{option_map};
 ghost use Rattle.lio_labels.specs.IsLabel.{IsLabel};
 ghost use Rattle.lio_labels.specs.LabelPrint.{AreNamed};
 ghost use Rattle.lio_words.specs.Literals as spec;
-ghost use Rattle.lio_words.specs.Literals.{constant_of, number_from, digits_of, whole_of, put_before, both_digits, escape_of, text_of, label_of, literal_of, at_end, IsLiteral};
+ghost use Rattle.lio_words.specs.Literals.{constant_of, number_from, digits_of, whole_of};
+ghost use Rattle.lio_words.specs.Literals.{put_before, both_digits, escape_of, text_of, label_of};
+ghost use Rattle.lio_words.specs.Literals.{literal_of, at_end, IsLiteral};
 
 use crate::keyword::Keyword;
 use crate::operators::{One, Two};
@@ -160,7 +163,9 @@ fn escape_of(sign: u8) -> Option<u8>
 /// The byte of an escape, whose backslash stands before these bytes, and what stands behind it.
 #[tactic(auto, unfolding(crate::specs::Literals::escaped, crate::specs::Literals::first_digit, crate::specs::Literals::second_digit))]
 fn split_escape(bytes: &[u8]) -> Option<(u8, &[u8])>
-    ensures { MatchOption result (spec.escaped bytes.now ≡ None) (λ parts. (spec.escaped bytes.now ≡ put_before (Some parts.0) (spec.unquoted parts.1.now)) × (length parts.1.now < length bytes.now)) }
+    ensures { MatchOption result (spec.escaped bytes.now ≡ None)
+        (λ parts. (spec.escaped bytes.now ≡ put_before (Some parts.0) (spec.unquoted parts.1.now))
+        × (length parts.1.now < length bytes.now)) }
 {
     match bytes {
         [b'x', high, low, rest @ ..] => Some((byte_of(*high, *low)?, rest)),
@@ -173,7 +178,9 @@ fn split_escape(bytes: &[u8]) -> Option<(u8, &[u8])>
 #[tactic(auto, unfolding(crate::specs::Literals::unquoted))]
 fn split_byte(bytes: &[u8]) -> Option<(u8, &[u8])>
     requires { (rest : List ℕ) → bytes.now ≢ 34 ∷ rest }
-    ensures { MatchOption result (spec.unquoted bytes.now ≡ None) (λ parts. (spec.unquoted bytes.now ≡ put_before (Some parts.0) (spec.unquoted parts.1.now)) × (length parts.1.now < length bytes.now)) }
+    ensures { MatchOption result (spec.unquoted bytes.now ≡ None)
+        (λ parts. (spec.unquoted bytes.now ≡ put_before (Some parts.0) (spec.unquoted parts.1.now))
+        × (length parts.1.now < length bytes.now)) }
 {
     match bytes {
         [b'\\', rest @ ..] => split_escape(rest),
@@ -221,7 +228,8 @@ fn read_text(alloc: Global, word: &[u8]) -> Result<Option<Text>, NoMemory>
 /// What stands between `<` and `>`.
 #[tactic(auto, unfolding(crate::specs::Literals::bracketed))]
 fn bracketed(word: &[u8]) -> Option<&[u8]>
-    ensures { MatchOption result (spec.bracketed word.now ≡ None) (λ text. spec.bracketed word.now ≡ Some text.now) }
+    ensures { MatchOption result (spec.bracketed word.now ≡ None)
+        (λ text. spec.bracketed word.now ≡ Some text.now) }
 {
     word.strip_prefix(b"<")?.strip_suffix(b">")
 }

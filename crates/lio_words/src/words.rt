@@ -88,7 +88,8 @@ fn word_len(mut place: Place, bytes: &[u8]) -> usize
 #[tactic(auto, unfolding(crate::specs::Words::cut))]
 fn past_blanks(bytes: &[u8]) -> &[u8]
     ensures same { words result.now ≡ words bytes.entry.now }
-    ensures at_word { (byte : ℕ) (rest : List ℕ) → result.now ≡ byte ∷ rest → spec.is_blank byte ≡ false }
+    ensures at_word { (byte : ℕ) (rest : List ℕ)
+        → result.now ≡ byte ∷ rest → spec.is_blank byte ≡ false }
 {
     let mut rest = bytes;
     while let [b' ' | b'\t', more @ ..] = rest {
@@ -99,7 +100,8 @@ fn past_blanks(bytes: &[u8]) -> &[u8]
 
 /// The first word, and what stands behind it.
 pub fn split_word(line: &[u8]) -> Option<(&[u8], &[u8])>
-    ensures { MatchOption result (words line.now ≡ []) (λ parts. words line.now ≡ parts.0.now ∷ words parts.1.now) }
+    ensures { MatchOption result (words line.now ≡ [])
+        (λ parts. words line.now ≡ parts.0.now ∷ words parts.1.now) }
 {
     let rest = past_blanks(line);
     let [first, behind @ ..] = rest else {

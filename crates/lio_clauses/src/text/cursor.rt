@@ -1,5 +1,8 @@
 //! A place in a text, from which its tokens are read one after another.
-ghost use Rattle.std.specs.Prelude.{◌≡◌, ◌≢◌, ◌+◌, ◌^◌, ◌<◌, ◌≤◌, ℕ, List, length, drop, slice_get, Option, Some, None, OnOk, IfOk, IfErr, Ok, Err};
+#![tactic(auto, unfolding(crate::specs::Token::front))]
+
+ghost use Rattle.std.specs.Prelude.{◌≡◌, ◌≢◌, ◌+◌, ◌^◌, ◌<◌, ◌≤◌, ℕ, List, length, drop, slice_get};
+ghost use Rattle.std.specs.Prelude.{Option, Some, None, OnOk, IfOk, IfErr, Ok, Err};
 ghost use Rattle.std.specs.List.{prefix_len};
 ghost use Rattle.lio_clauses.specs.declared.text.token.Token.TheVariants.{Principal};
 ghost use Rattle.lio_clauses.specs.Names as name;
@@ -43,8 +46,8 @@ fn is_name_byte(byte: u8) -> bool
     matches!(byte, b'a'..=b'z' | b'0'..=b'9' | b'_')
 }
 
-/// The token at the front of bytes that are not empty and do not begin with a blank, and how many bytes it has.
-#[tactic(auto, unfolding(crate::specs::Token::front))]
+/// The token at the front of bytes that are not empty and do not begin with a blank, and how many
+/// bytes it has.
 fn front(names: &Names, bytes: &[u8]) -> (Token, usize)
     requires { 0 < length bytes.now }
     ensures token { result.0 ≡ (spec.front names.now bytes.now).token }
@@ -94,7 +97,8 @@ fn name_or_stray(names: &Names, bytes: &[u8]) -> (Token, usize)
 /// The bytes past the blanks at the front, and their place.
 fn past_blanks(bytes: &[u8], place: usize) -> (&[u8], usize)
     requires { place + length bytes.now < 2 ^ 64 }
-    ensures same { (names : List (List ℕ)) → tokens names result.1 0 result.0.now ≡ tokens names place 0 bytes.entry.now }
+    ensures same { (names : List (List ℕ))
+        → tokens names result.1 0 result.0.now ≡ tokens names place 0 bytes.entry.now }
     ensures at_token { slice_get result.0.now 0 ≢ Some 32 }
     ensures fits { result.1 + length result.0.now < 2 ^ 64 }
 {

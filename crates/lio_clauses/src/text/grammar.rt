@@ -1,5 +1,5 @@
-//! The productions of the grammar. Each reads from a cursor, and gives the cursor behind what it read, or the fault of the
-//! first token that may not stand where it does.
+//! The productions of the grammar. Each reads from a cursor, and gives the cursor behind what it
+//! read, or the fault of the first token that may not stand where it does.
 ghost use Rattle.std.specs.Prelude.{◌≡◌, ◌<◌, IfOk, IfErr, Err};
 
 use super::clauses::Clauses;
@@ -10,7 +10,8 @@ use std::alloc::Global;
 
 impl<'a> TokenCursor<'a> {
     ghost use Rattle.lio_clauses.specs.declared.text.token.Token.TheVariants.{Or, And};
-    ghost use Rattle.lio_clauses.specs.FormulaText.{name_at, listed, names_at, clause_at, formula_at};
+    ghost use Rattle.lio_clauses.specs.FormulaText.{name_at, listed, names_at, clause_at};
+    ghost use Rattle.lio_clauses.specs.FormulaText.{formula_at};
     ghost use Rattle.lio_clauses.specs.Cursor.{left, seen, with_value, mask_of, Gives};
 
     /// A name, as the number of its principal.
@@ -53,7 +54,8 @@ impl<'a> TokenCursor<'a> {
 
     /// `clause { "/\" clause }`
     fn conjunction(&self, alloc: Global) -> Result<(Clauses, TokenCursor<'a>), TextFault>
-        ensures ok { IfOk result (λ r. Gives (listed And clause_at (left self.now)) r.0 (left r.1)) }
+        ensures ok { IfOk result
+            (λ r. Gives (listed And clause_at (left self.now)) r.0 (left r.1)) }
         ensures fault { IfErr result (λ fault. listed And clause_at (left self.now) ≡ Err fault) }
     {
         let mut clauses = Clauses::new(alloc);

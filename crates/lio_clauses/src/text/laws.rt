@@ -1,9 +1,11 @@
 //! The laws of the text of formulas. Each function does nothing: its contract is the law.
-ghost use Rattle.lio_clauses.specs.Grammar.{DerivedIsRead, DerivedTwoAreRead, ReadIsDerived, ReadTwoAreDerived};
+#![tactic(auto, using(crate::proofs::PrintedLemmas::laws))]
+
+ghost use Rattle.lio_clauses.specs.Grammar.{DerivedIsRead, DerivedTwoAreRead, ReadIsDerived};
+ghost use Rattle.lio_clauses.specs.Grammar.{ReadTwoAreDerived};
 ghost use Rattle.lio_clauses.specs.PrintedText.{ReadsPrinted, ReadsTwoPrinted};
 
 /// What is read is of the grammar, with the clauses that were read.
-#[tactic(auto, using(crate::proofs::GrammarLemmas::read_is_derived))]
 pub fn read_is_derived()
     ensures { ReadIsDerived }
 {}
@@ -14,7 +16,6 @@ pub fn derived_is_read()
 {}
 
 /// The two formulas that are read are of the grammar.
-#[tactic(auto, using(crate::proofs::GrammarLemmas::read_two_are_derived))]
 pub fn read_two_are_derived()
     ensures { ReadTwoAreDerived }
 {}
@@ -25,13 +26,11 @@ pub fn derived_two_are_read()
 {}
 
 /// What is printed is read as the same formula, over the same names.
-#[tactic(auto, using(crate::proofs::PrintedLemmas::reads_printed))]
 pub fn printed_is_read()
     ensures { ReadsPrinted }
 {}
 
 /// Two formulas that are printed are read as the same ones, over the same names.
-#[tactic(auto, using(crate::proofs::PrintedLemmas::reads_two_printed))]
 pub fn printed_two_are_read()
     ensures { ReadsTwoPrinted }
 {}

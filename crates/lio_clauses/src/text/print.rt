@@ -1,9 +1,11 @@
 //! Printing formulas.
-ghost use Rattle.std.specs.Prelude.{◌≡◌, ◌<◌, ◌++◌, List, ℕ, [], map, codes, length, OnOk, OnErr, IfOk, Ok, if◌then◌else◌};
+ghost use Rattle.std.specs.Prelude.{◌≡◌, ◌<◌, ◌++◌, List, ℕ, [], map, codes, length, OnOk, OnErr};
+ghost use Rattle.std.specs.Prelude.{IfOk, Ok, if◌then◌else◌};
 ghost use Rattle.std.specs.List.{All};
 ghost use Rattle.lio_clauses.specs.Principals.{principals};
 ghost use Rattle.lio_clauses.specs.FormulaText.{reading};
-ghost use Rattle.lio_clauses.specs.FormulaPrint.{AreNamed, Extends, formula_text, clause_text, joined, name_of};
+ghost use Rattle.lio_clauses.specs.FormulaPrint.{AreNamed, Extends, formula_text, clause_text};
+ghost use Rattle.lio_clauses.specs.FormulaPrint.{joined, name_of};
 
 use crate::faults::NoMemory;
 use crate::formula::Formula;
@@ -30,7 +32,8 @@ fn append_sign(text: &mut Vec<u8>, sign: &[u8], first: bool) -> Result<(), NoMem
 /// Appends the names of a clause's principals, in rising number.
 fn append_names(text: &mut Vec<u8>, clause: u64, names: &Names) -> Result<(), NoMemory>
     requires { All (λ n. n < length names.now) (principals clause) }
-    ensures ok { OnOk result (text.new.items ≡ text.old.items ++ joined (codes " \\/ ") (map (name_of names.now) (principals clause))) }
+    ensures ok { OnOk result (text.new.items
+        ≡ text.old.items ++ joined (codes " \\/ ") (map (name_of names.now) (principals clause))) }
     ensures kept { Extends text.old.items text.new.items }
 {
     let mut first = true;
@@ -47,7 +50,8 @@ fn append_names(text: &mut Vec<u8>, clause: u64, names: &Names) -> Result<(), No
 /// Appends a clause.
 fn append_clause(text: &mut Vec<u8>, clause: u64, names: &Names) -> Result<(), NoMemory>
     requires { All (λ n. n < length names.now) (principals clause) }
-    ensures ok { OnOk result (text.new.items ≡ text.old.items ++ clause_text names.now (principals clause)) }
+    ensures ok { OnOk result (text.new.items
+        ≡ text.old.items ++ clause_text names.now (principals clause)) }
     ensures kept { Extends text.old.items text.new.items }
 {
     let first = clause.trailing_zeros();
@@ -62,7 +66,8 @@ fn append_clause(text: &mut Vec<u8>, clause: u64, names: &Names) -> Result<(), N
 /// Appends a formula. After want of memory a part of it may stand at the end.
 fn append_formula(text: &mut Vec<u8>, formula: &Formula, names: &Names) -> Result<(), NoMemory>
     requires { AreNamed names.now formula.now }
-    ensures ok { OnOk result (text.new.items ≡ text.old.items ++ formula_text names.now formula.now) }
+    ensures ok { OnOk result (text.new.items
+        ≡ text.old.items ++ formula_text names.now formula.now) }
     ensures kept { Extends text.old.items text.new.items }
 {
     let clauses = formula.clauses();
@@ -80,11 +85,13 @@ fn append_formula(text: &mut Vec<u8>, formula: &Formula, names: &Names) -> Resul
 }
 
 impl Formula {
-    /// Appends the canonical text: `True`, `False`, or clauses with ` /\ ` between them. A clause of one principal is its name,
-    /// another is like `(a \/ b)`. After want of memory the text is as before.
+    /// Appends the canonical text: `True`, `False`, or clauses with ` /\ ` between them. A clause
+    /// of one principal is its name, another is like `(a \/ b)`. After want of memory the text is
+    /// as before.
     pub fn print_to(&self, text: &mut Vec<u8>, names: &Names) -> Result<(), NoMemory>
         requires { AreNamed names.now self.now }
-        ensures ok { OnOk result (text.new.items ≡ text.old.items ++ formula_text names.now self.now) }
+        ensures ok { OnOk result (text.new.items
+            ≡ text.old.items ++ formula_text names.now self.now) }
         ensures err { OnErr result (text.new.items ≡ text.old.items) }
     {
         let len = text.len();

@@ -43,11 +43,13 @@ impl Formula {
     ///     formula = "True" | "False" | clause { "/\" clause }
     ///     clause  = name | "(" name { "\/" name } ")"
     ///
-    /// Blanks between tokens are skipped. The fault is that of the first token that may not stand where it does.
+    /// Blanks between tokens are skipped. The fault is that of the first token that may not stand
+    /// where it does.
     pub fn read(alloc: Global, text: &[u8], names: &Names) -> Result<Formula, TextFault>
         ensures ok { IfOk result (λ formula. reading names.now text.now ≡ Ok formula) }
         ensures named { IfOk result (AreNamed names.now) }
-        ensures fault { IfErr result (λ fault. (fault ≡ TextFault.NoMemory) ⊎ (reading names.now text.now ≡ Err fault)) }
+        ensures fault { IfErr result
+            (λ fault. (fault ≡ TextFault.NoMemory) ⊎ (reading names.now text.now ≡ Err fault)) }
 
         // A text that is not of the grammar is refused for that, also where memory is wanting.
         ensures grammar { IfErr (written names.now text.now) (λ fault. result ≡ Err fault) }
@@ -55,15 +57,18 @@ impl Formula {
         read_clauses(alloc, text, names)?.canonical(alloc)
     }
 
-    /// The canonical forms of a text of two formulas with `%%` between them. Wide comes only where the whole text is of the grammar.
+    /// The canonical forms of a text of two formulas with `%%` between them. Wide comes only where
+    /// the whole text is of the grammar.
     pub fn read_two(
         alloc: Global,
         text: &[u8],
         names: &Names,
     ) -> Result<(Formula, Formula), TextFault>
         ensures ok { IfOk result (λ both. reading_two names.now text.now ≡ Ok both) }
-        ensures named { IfOk result (λ both. AreNamed names.now both.0 × AreNamed names.now both.1) }
-        ensures fault { IfErr result (λ fault. (fault ≡ TextFault.NoMemory) ⊎ (reading_two names.now text.now ≡ Err fault)) }
+        ensures named { IfOk result
+            (λ both. AreNamed names.now both.0 × AreNamed names.now both.1) }
+        ensures fault { IfErr result
+            (λ fault. (fault ≡ TextFault.NoMemory) ⊎ (reading_two names.now text.now ≡ Err fault)) }
 
         // A text that is not of the grammar is refused for that, also where memory is wanting.
         ensures grammar { IfErr (written_two names.now text.now) (λ fault. result ≡ Err fault) }

@@ -28,8 +28,10 @@ impl Task {
         reply: &Reply,
     ) -> Done
         requires at { AtStatement (state_in script.now self.old).items }
-        requires affords { Affords (state_in script.now self.old) (onward_of (script_lines script.now) (simple_of (state_in script.now self.old).items) onward) }
-        ensures ok { OnOk result (GoesOn script.now self.old self.new onward.entry act.now reply.now) }
+        requires affords { Affords (state_in script.now self.old) (onward_of
+            (script_lines script.now) (simple_of (state_in script.now self.old).items) onward) }
+        ensures ok { OnOk result
+            (GoesOn script.now self.old self.new onward.entry act.now reply.now) }
         ensures err { OnErr result (state_in script.now self.new ≡ state_in script.now self.old) }
     {
         match onward {
