@@ -1,4 +1,4 @@
-//! What the calls of this crate answer in place of a result. Want of memory converts to each of
+//! What the calls of this crate answer in place of a result. `NoMemory` converts to each of
 //! them by `?`.
 use std::alloc::{AllocError, AllocFailed};
 use thiserror::Error;

@@ -1,3 +1,4 @@
 pub mod WidthLemmas
 pub mod FaultLemmas
 pub mod GuardLemmas
+pub mod AllLaws

@@ -1,4 +1,6 @@
 //! The tests of guards: each gives the fault of the first that fails.
+#![tactic(auto, unfolding(crate::specs::Guard::write_fault, crate::specs::Guard::release_fault))]
+
 ghost use Rattle.std.specs.Prelude.{◌≡◌, IfOk, Some, None, if◌then◌else◌};
 ghost use Rattle.lio_labels.specs.Bounds.{join};
 ghost use Rattle.lio_guards.specs.Width.{is_wide};
@@ -10,7 +12,6 @@ use lio_values::FaultKind;
 use std::alloc::Global;
 
 /// The fault of making a target or of writing to it, if it may not be.
-#[tactic(auto, unfolding(crate::specs::Guard::write_fault))]
 pub fn write_fault(
     alloc: Global,
     current: &Label,
@@ -29,7 +30,6 @@ pub fn write_fault(
 }
 
 /// The fault of a release from one label to another by a privilege, if it may not be.
-#[tactic(auto, unfolding(crate::specs::Guard::release_fault))]
 pub fn release_fault(
     alloc: Global,
     source: &Label,

@@ -1,4 +1,6 @@
 //! The guards.
+#![tactic(auto, unfolding(crate::specs::Guard::guarded, crate::specs::Guard::guarded_relabel))]
+
 ghost use Rattle.std.specs.Prelude.{◌≡◌, IfOk, IsTrue};
 ghost use Rattle.lio_labels.specs.Flow.{flows};
 ghost use Rattle.lio_labels.specs.Bounds.{join};
@@ -55,7 +57,6 @@ fn raise(
 
 /// Whether a task with this current label and clearance may do the operation on a target with this
 /// label, and the current label at which it goes on. For `Lower` the target is the new clearance.
-#[tactic(auto, unfolding(crate::specs::Guard::guarded))]
 pub fn guard(
     alloc: Global,
     op: Op,
@@ -75,7 +76,6 @@ pub fn guard(
 
 /// Whether a task with this current label and clearance may release to `target`, by a privilege,
 /// what has the label `source`.
-#[tactic(auto, unfolding(crate::specs::Guard::guarded_relabel))]
 pub fn guard_relabel(
     alloc: Global,
     current: &Label,

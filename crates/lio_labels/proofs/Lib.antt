@@ -4,3 +4,4 @@ pub mod PrivilegeLemmas
 pub mod WidthLemmas
 pub mod NamedLemmas
 pub mod TextLemmas
+pub mod AllLaws

@@ -1,5 +1,7 @@
 //! The laws of labels, of flow, of bounds, and of flow with a privilege. Each function does
 //! nothing: its contract is the law.
+#![tactic(auto, using(crate::proofs::AllLaws::laws))]
+
 ghost use Rattle.lio_labels.specs.Laws.{AllFlowToGreatest, FlowIsAntisymmetric, FlowIsReflexive};
 ghost use Rattle.lio_labels.specs.Laws.{FlowIsTested, FlowIsTransitive, FlowIsWithPrivilege};
 ghost use Rattle.lio_labels.specs.Laws.{FlowThenPrivilege, JoinIsLabel, JoinIsLeast, JoinWithAbove};
@@ -22,61 +24,51 @@ pub fn label_is_canonical(label: &Label)
 }
 
 /// The test of flow and flow over all sets of principals agree.
-#[tactic(auto, using(crate::proofs::FlowLemmas::flow_is_tested))]
 pub fn flow_is_tested()
     ensures { FlowIsTested }
 {}
 
 /// A label flows to itself.
-#[tactic(auto, using(crate::proofs::FlowLemmas::flow_is_reflexive))]
 pub fn flow_is_reflexive()
     ensures { FlowIsReflexive }
 {}
 
 /// A label flows where a label flows to which it flows.
-#[tactic(auto, using(crate::proofs::FlowLemmas::flow_is_transitive))]
 pub fn flow_is_transitive()
     ensures { FlowIsTransitive }
 {}
 
 /// Labels that flow to each other are equal.
-#[tactic(auto, using(crate::proofs::FlowLemmas::flow_is_antisymmetric))]
 pub fn flow_is_antisymmetric()
     ensures { FlowIsAntisymmetric }
 {}
 
 /// A label flows to its join with another.
-#[tactic(auto, using(crate::proofs::BoundLemmas::left_flows_to_join))]
 pub fn left_flows_to_join()
     ensures { LeftFlowsToJoin }
 {}
 
 /// A label flows to another label's join with it.
-#[tactic(auto, using(crate::proofs::BoundLemmas::right_flows_to_join))]
 pub fn right_flows_to_join()
     ensures { RightFlowsToJoin }
 {}
 
 /// The join flows to each label that both labels flow to.
-#[tactic(auto, using(crate::proofs::BoundLemmas::join_is_least))]
 pub fn join_is_least()
     ensures { JoinIsLeast }
 {}
 
 /// The meet of a label with another flows to it.
-#[tactic(auto, using(crate::proofs::BoundLemmas::meet_flows_to_left))]
 pub fn meet_flows_to_left()
     ensures { MeetFlowsToLeft }
 {}
 
 /// The meet of another label with a label flows to it.
-#[tactic(auto, using(crate::proofs::BoundLemmas::meet_flows_to_right))]
 pub fn meet_flows_to_right()
     ensures { MeetFlowsToRight }
 {}
 
 /// Each label that flows to both labels flows to their meet.
-#[tactic(auto, using(crate::proofs::BoundLemmas::meet_is_greatest))]
 pub fn meet_is_greatest()
     ensures { MeetIsGreatest }
 {}
@@ -92,61 +84,51 @@ pub fn meet_is_label()
 {}
 
 /// The join of a label with one that it flows to is that one.
-#[tactic(auto, using(crate::proofs::BoundLemmas::join_with_above))]
 pub fn join_with_above()
     ensures { JoinWithAbove }
 {}
 
 /// The meet of a label with one that it flows to is that label.
-#[tactic(auto, using(crate::proofs::BoundLemmas::meet_with_above))]
 pub fn meet_with_above()
     ensures { MeetWithAbove }
 {}
 
 /// The least label flows to each label.
-#[tactic(auto, using(crate::proofs::FlowLemmas::least_flows_to_all))]
 pub fn least_flows_to_all()
     ensures { LeastFlowsToAll }
 {}
 
 /// Each label flows to the greatest label.
-#[tactic(auto, using(crate::proofs::FlowLemmas::all_flow_to_greatest))]
 pub fn all_flow_to_greatest()
     ensures { AllFlowToGreatest }
 {}
 
 /// The test of flow with a privilege and flow with a privilege over all sets of principals agree.
-#[tactic(auto, using(crate::proofs::PrivilegeLemmas::privilege_is_tested))]
 pub fn privilege_is_tested()
     ensures { PrivilegeIsTested }
 {}
 
 /// What flows with a privilege flows with each privilege that implies it.
-#[tactic(auto, using(crate::proofs::PrivilegeLemmas::privilege_grows))]
 pub fn privilege_grows()
     ensures { PrivilegeGrows }
 {}
 
 /// With the privilege True, flow with a privilege is flow.
-#[tactic(auto, using(crate::proofs::PrivilegeLemmas::true_privilege_is_flow))]
 pub fn true_privilege_is_flow()
     ensures { TruePrivilegeIsFlow }
 {}
 
 /// What flows, flows with each privilege.
-#[tactic(auto, using(crate::proofs::PrivilegeLemmas::flow_is_with_privilege))]
 pub fn flow_is_with_privilege()
     ensures { FlowIsWithPrivilege }
 {}
 
 /// Flow followed by flow with a privilege is flow with that privilege.
-#[tactic(auto, using(crate::proofs::PrivilegeLemmas::flow_then_privilege))]
 pub fn flow_then_privilege()
     ensures { FlowThenPrivilege }
 {}
 
 /// Flow with a privilege followed by flow is flow with that privilege.
-#[tactic(auto, using(crate::proofs::PrivilegeLemmas::privilege_then_flow))]
 pub fn privilege_then_flow()
     ensures { PrivilegeThenFlow }
 {}
@@ -172,7 +154,6 @@ pub fn derived_is_read()
 {}
 
 /// What is printed is read as the same label, over the same names.
-#[tactic(auto, using(crate::proofs::TextLemmas::printed_is_read))]
 pub fn printed_is_read()
     ensures { ReadsPrinted }
 {}

@@ -24,7 +24,7 @@ impl Label {
         ensures fault { IfErr result
             (λ fault. (fault ≡ TextFault.NoMemory) ⊎ (reading names.now text.now ≡ Err fault)) }
 
-        // A text that is not of the grammar is refused for that, also where memory is wanting.
+        // A text that is not of the grammar is refused for that, also where memory runs out.
         ensures grammar { IfErr (written_two names.now text.now) (λ fault. result ≡ Err fault) }
     {
         let (secrecy, integrity) = Formula::read_two(alloc, text, names)?;

@@ -216,7 +216,7 @@ impl Simple {
 }
 
 impl Line {
-    /// Appends its text, without a line end. After want of memory a part of it may stand at the
+    /// Appends its text, without a line end. Where memory runs out, a part of it may stand at the
     /// end.
     pub fn print_to(&self, out: &mut Vec<u8>, names: &Names) -> Result<(), NoMemory>
         requires { IsLine names.now self.now }

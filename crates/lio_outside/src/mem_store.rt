@@ -14,7 +14,7 @@ use std::marker::Model;
 
 /// A store in memory that tells its files. It numbers its calls of `fetch` and `keep` from 0, and
 /// fails those in its list. A call that fails changes no file, and raises the count of faults by
-/// one. A call that is refused for want of memory is not numbered.
+/// one. A call that runs out of memory is not numbered.
 #[derive(Debug, Drop)]
 pub struct MemStore {
     files: NamedFiles,

@@ -13,7 +13,7 @@ use lio_syntax::Script;
 use lio_values::{Act, Content, Fault, Handle, Held, Plain, Reply, Text, Value};
 use std::alloc::Global;
 
-/// Done, or want of memory, after which all is as before.
+/// Done, or out of memory, after which all is as before.
 type Done = Result<(), NoMemory>;
 
 impl Task {

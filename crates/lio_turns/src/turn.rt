@@ -15,7 +15,7 @@ pub enum Turn<'s> {
     Visit(Act, Target, Onward<'s>),
 }
 
-/// The turn of a statement or of its access, or want of memory.
+/// The turn of a statement or of its access, or out of memory.
 pub type Attempt<'s> = Result<Turn<'s>, NoMemory>;
 
 /// The node that a turn meets: that of a handle, or the one that is to be made at a number.

@@ -1,3 +1,4 @@
 pub mod ErasureLemmas
 pub mod DerivedEquality
 pub mod EqualityLemmas
+pub mod AllLaws

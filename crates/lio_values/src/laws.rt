@@ -1,4 +1,5 @@
 //! The laws of erasure and of equality. Each function does nothing: its contract is the law.
+#![tactic(auto, using(crate::proofs::AllLaws::laws))]
 ghost use Rattle.lio_values.specs.Equality.{IsEquality};
 ghost use Rattle.lio_values.specs.Laws.{EntryErasedBelow, EntryErasedTwice, ValueErasedBelow};
 ghost use Rattle.lio_values.specs.Laws.{ValueErasedTwice};
@@ -9,31 +10,26 @@ use crate::fault::{Fault, FaultKind};
 use crate::value::{Content, Handle, Plain, Value};
 
 /// Erasing a value twice at one label is erasing it once.
-#[tactic(auto, using(crate::proofs::ErasureLemmas::value_erased_twice))]
 pub fn value_erased_twice()
     ensures { ValueErasedTwice }
 {}
 
 /// Erasing a value at a lower label after a higher one is erasing it at the lower.
-#[tactic(auto, using(crate::proofs::ErasureLemmas::value_erased_below))]
 pub fn value_erased_below()
     ensures { ValueErasedBelow }
 {}
 
 /// Erasing an entry twice at one label is erasing it once.
-#[tactic(auto, using(crate::proofs::ErasureLemmas::entry_erased_twice))]
 pub fn entry_erased_twice()
     ensures { EntryErasedTwice }
 {}
 
 /// Erasing an entry at a lower label after a higher one is erasing it at the lower.
-#[tactic(auto, using(crate::proofs::ErasureLemmas::entry_erased_below))]
 pub fn entry_erased_below()
     ensures { EntryErasedBelow }
 {}
 
 /// `==` of handles, plain values, contents and values is true exactly where they are equal.
-#[tactic(auto, using(crate::proofs::EqualityLemmas::handle_equality, crate::proofs::EqualityLemmas::plain_equality, crate::proofs::EqualityLemmas::content_equality, crate::proofs::EqualityLemmas::value_equality))]
 pub fn equality_of_values()
     ensures handles { IsEquality ⟦<Handle as PartialEq>⟧.eq }
     ensures plains { IsEquality ⟦<Plain as PartialEq>⟧.eq }
@@ -42,14 +38,12 @@ pub fn equality_of_values()
 {}
 
 /// `==` of faults and of their kinds is true exactly where they are equal.
-#[tactic(auto, using(crate::proofs::EqualityLemmas::kind_equality, crate::proofs::EqualityLemmas::fault_equality))]
 pub fn equality_of_faults()
     ensures kinds { IsEquality ⟦<FaultKind as PartialEq>⟧.eq }
     ensures faults { IsEquality ⟦<Fault as PartialEq>⟧.eq }
 {}
 
 /// `==` of births, acts, replies and entries is true exactly where they are equal.
-#[tactic(auto, using(crate::proofs::EqualityLemmas::birth_equality, crate::proofs::EqualityLemmas::act_equality, crate::proofs::EqualityLemmas::reply_equality, crate::proofs::EqualityLemmas::entry_equality))]
 pub fn equality_of_turns()
     ensures births { IsEquality ⟦<Birth as PartialEq>⟧.eq }
     ensures acts { IsEquality ⟦<Act as PartialEq>⟧.eq }

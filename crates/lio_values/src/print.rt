@@ -1,5 +1,5 @@
-//! Printing texts, labels and plain values, as scripts and journals have them. After want of memory
-//! what is printed to is as before.
+//! Printing texts, labels and plain values, as scripts and journals have them. Where memory runs
+//! out, what is printed to is as before.
 ghost use Rattle.std.specs.Prelude.{◌≡◌, ◌++◌, ◌^◌, ◌<◌, List, ℕ, codes, decimal, take, OnOk};
 ghost use Rattle.std.specs.Prelude.{OnErr};
 ghost use Rattle.std.specs.Fmt.{signed_decimal};
@@ -74,7 +74,7 @@ fn restore(out: &mut Vec<u8>, len: usize, printed: Result<(), NoMemory>) -> Resu
     printed
 }
 
-/// Appends bytes in quotes. After want of memory a part of them may stand at the end.
+/// Appends bytes in quotes. Where memory runs out, a part of them may stand at the end.
 fn append_quoted(out: &mut Vec<u8>, bytes: &[u8]) -> Result<(), NoMemory>
     ensures ok { OnOk result (out.new.items ≡ out.old.items ++ quoted bytes.now) }
     ensures kept { Extends out.old.items out.new.items }
@@ -97,7 +97,7 @@ pub fn print_quoted(out: &mut Vec<u8>, bytes: &[u8]) -> Result<(), NoMemory>
     restore(out, len, printed)
 }
 
-/// Appends a label between `<` and `>`. After want of memory a part of it may stand at the end.
+/// Appends a label between `<` and `>`. Where memory runs out, a part of it may stand at the end.
 fn append_label(out: &mut Vec<u8>, label: &Label, names: &Names) -> Result<(), NoMemory>
     requires { AreNamed names.now label.now }
     ensures ok { OnOk result (out.new.items
@@ -124,7 +124,7 @@ pub fn print_label(out: &mut Vec<u8>, label: &Label, names: &Names) -> Result<()
     restore(out, len, printed)
 }
 
-/// Appends a privilege. After want of memory a part of it may stand at the end.
+/// Appends a privilege. Where memory runs out, a part of it may stand at the end.
 fn append_power(out: &mut Vec<u8>, privilege: &Priv, names: &Names) -> Result<(), NoMemory>
     requires { IsPowerNamed names.now privilege.now }
     ensures ok { OnOk result (out.new.items ≡ out.old.items ++ power_text names.now privilege.now) }
@@ -147,7 +147,7 @@ pub fn print_power(out: &mut Vec<u8>, privilege: &Priv, names: &Names) -> Result
     restore(out, len, printed)
 }
 
-/// Appends a handle of a kind. After want of memory a part of it may stand at the end.
+/// Appends a handle of a kind. Where memory runs out, a part of it may stand at the end.
 fn append_handle(
     out: &mut Vec<u8>,
     kind: &[u8],

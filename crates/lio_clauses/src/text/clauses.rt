@@ -9,8 +9,8 @@ use crate::faults::TextFault;
 use crate::formula::Formula;
 use std::alloc::Global;
 
-/// Clauses in the order of a text, with principal n at bit n. Want of memory is told only once the
-/// whole text was read, since a text that is not of the grammar is refused for that.
+/// Clauses in the order of a text, with principal n at bit n. A lack of memory is told only once
+/// the whole text was read, since a text that is not of the grammar is refused for that.
 #[derive(Drop)]
 pub(super) struct Clauses {
     masks: Vec<u64>,

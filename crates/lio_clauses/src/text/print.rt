@@ -63,7 +63,7 @@ fn append_clause(text: &mut Vec<u8>, clause: u64, names: &Names) -> Result<(), N
     append(text, b")")
 }
 
-/// Appends a formula. After want of memory a part of it may stand at the end.
+/// Appends a formula. Where memory runs out, a part of it may stand at the end.
 fn append_formula(text: &mut Vec<u8>, formula: &Formula, names: &Names) -> Result<(), NoMemory>
     requires { AreNamed names.now formula.now }
     ensures ok { OnOk result (text.new.items
@@ -86,7 +86,7 @@ fn append_formula(text: &mut Vec<u8>, formula: &Formula, names: &Names) -> Resul
 
 impl Formula {
     /// Appends the canonical text: `True`, `False`, or clauses with ` /\ ` between them. A clause
-    /// of one principal is its name, another is like `(a \/ b)`. After want of memory the text is
+    /// of one principal is its name, another is like `(a \/ b)`. Where memory runs out, the text is
     /// as before.
     pub fn print_to(&self, text: &mut Vec<u8>, names: &Names) -> Result<(), NoMemory>
         requires { AreNamed names.now self.now }

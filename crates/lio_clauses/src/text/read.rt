@@ -51,7 +51,7 @@ impl Formula {
         ensures fault { IfErr result
             (λ fault. (fault ≡ TextFault.NoMemory) ⊎ (reading names.now text.now ≡ Err fault)) }
 
-        // A text that is not of the grammar is refused for that, also where memory is wanting.
+        // A text that is not of the grammar is refused for that, also where memory runs out.
         ensures grammar { IfErr (written names.now text.now) (λ fault. result ≡ Err fault) }
     {
         read_clauses(alloc, text, names)?.canonical(alloc)
@@ -70,7 +70,7 @@ impl Formula {
         ensures fault { IfErr result
             (λ fault. (fault ≡ TextFault.NoMemory) ⊎ (reading_two names.now text.now ≡ Err fault)) }
 
-        // A text that is not of the grammar is refused for that, also where memory is wanting.
+        // A text that is not of the grammar is refused for that, also where memory runs out.
         ensures grammar { IfErr (written_two names.now text.now) (λ fault. result ≡ Err fault) }
     {
         let (first, second) = read_two_clauses(alloc, text, names)?;
