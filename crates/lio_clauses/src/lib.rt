@@ -13,6 +13,6 @@ mod text;
 
 pub use faults::{FormFault, NameFault, NoMemory, TextFault};
 pub use formula::Formula;
-pub use keep::beside;
+pub use keep::{assign, beside};
 pub use names::{Names, name_fault};
 pub use text::laws as text_laws;

@@ -6,7 +6,7 @@ use crate::fault::Fault;
 use crate::held::Held;
 use crate::text::Text;
 use crate::value::{Content, Value, Values};
-use lio_clauses::NoMemory;
+use lio_clauses::{NoMemory, beside};
 use lio_labels::{Label, Priv};
 use std::alloc::Global;
 
@@ -166,21 +166,9 @@ pub(crate) fn released(
     ensures { IfOk result
         (λ release. release ≡ act.Release source.now target.now power.now content) }
 {
-    match copied_labels(alloc, source, target) {
-        Ok((source, target)) => match power.copy(alloc) {
-            Ok(power) => Ok(Act::Release(source, target, power, content)),
-            Err(error) => {
-                drop(source);
-                drop(target);
-                drop(content);
-                Err(error)
-            }
-        },
-        Err(error) => {
-            drop(content);
-            Err(error)
-        }
-    }
+    let (content, power) = beside(content, power.copy(alloc))?;
+    let (content, (source, target)) = beside(content, copied_labels(alloc, source, target))?;
+    Ok(Act::Release(source, target, power, content))
 }
 
 impl Act {

@@ -1,4 +1,6 @@
 //! What an observer sees of values and entries.
+#![tactic(auto, unfolding(crate::specs::Erasure::erase_content))]
+
 ghost use Rattle.std.specs.Prelude.{◌≡◌, IfOk, map};
 ghost use Rattle.std.specs.Option.{option_map};
 ghost use Rattle.lio_values.specs.Erasure.{erase_content, erase_value, erase_birth, erase_act};
@@ -15,7 +17,6 @@ use std::alloc::Global;
 
 impl Held<Content> {
     /// The content under a label, hidden where the label doesn't flow to the observer's.
-    #[tactic(auto, unfolding(crate::specs::Erasure::erase_content))]
     fn erase(
         &self,
         alloc: Global,

@@ -1,5 +1,6 @@
 //! The laws of erasure and of equality. Each function does nothing: its contract is the law.
 #![tactic(auto, using(crate::proofs::AllLaws::laws))]
+
 ghost use Rattle.lio_values.specs.Equality.{IsEquality};
 ghost use Rattle.lio_values.specs.Laws.{EntryErasedBelow, EntryErasedTwice, ValueErasedBelow};
 ghost use Rattle.lio_values.specs.Laws.{ValueErasedTwice};

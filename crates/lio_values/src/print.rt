@@ -1,5 +1,7 @@
 //! Printing texts, labels and plain values, as scripts and journals have them. Where memory runs
 //! out, what is printed to is as before.
+#![tactic(auto, unfolding(crate::specs::Quoted::escaped))]
+
 ghost use Rattle.std.specs.Prelude.{◌≡◌, ◌++◌, ◌^◌, ◌<◌, List, ℕ, codes, decimal, take, OnOk};
 ghost use Rattle.std.specs.Prelude.{OnErr};
 ghost use Rattle.std.specs.Fmt.{signed_decimal};
@@ -47,7 +49,6 @@ fn hex_digit(digit: u8) -> u8
 }
 
 /// Appends a byte as it stands in quotes.
-#[tactic(auto, unfolding(crate::specs::Quoted::escaped))]
 fn print_escaped(out: &mut Vec<u8>, byte: u8) -> Result<(), NoMemory>
     ensures ok { OnOk result (out.new.items ≡ out.old.items ++ escaped byte) }
     ensures err { OnErr result (out.new.items ≡ out.old.items) }

@@ -1,4 +1,6 @@
 //! The first words of lines.
+#![tactic(auto, unfolding(crate::specs::Keyword::keyword_of))]
+
 ghost use Rattle.std.specs.Prelude.{◌≡◌};
 ghost use Rattle.lio_words.specs.Keyword.{word_of, keyword_of};
 
@@ -105,7 +107,6 @@ impl Keyword {
     }
 
     /// The keyword that a word is.
-    #[tactic(auto, unfolding(crate::specs::Keyword::keyword_of))]
     pub fn find(word: &[u8]) -> Option<Keyword>
         ensures { result ≡ keyword_of word.now }
     {

@@ -1,4 +1,6 @@
 //! Names and literals.
+#![tactic(auto, unfolding(crate::specs::Literals::is_name, crate::specs::Literals::unquoted))]
+
 ghost use Rattle.std.specs.Prelude.{◌≡◌, ◌≢◌, ◌≤◌, ◌<◌, ℕ, List, [], ◌∷◌, ◌++◌, length, Some, None};
 ghost use Rattle.std.specs.Prelude.{IsTrue, IfOk, IfSome, MatchOption};
 ghost use Rattle.std.specs.List.{list_all};
@@ -47,7 +49,6 @@ fn is_reserved(word: &[u8]) -> bool
 }
 
 /// Whether a word is a name.
-#[tactic(auto, unfolding(crate::specs::Literals::is_name))]
 pub fn is_name(word: &[u8]) -> bool
     ensures { result ≡ spec.is_name word.now }
 {
@@ -175,7 +176,6 @@ fn split_escape(bytes: &[u8]) -> Option<(u8, &[u8])>
 }
 
 /// The first byte of a text whose last quote isn't first here, and what stands behind it.
-#[tactic(auto, unfolding(crate::specs::Literals::unquoted))]
 fn split_byte(bytes: &[u8]) -> Option<(u8, &[u8])>
     requires { (rest : List ℕ) → bytes.now ≢ 34 ∷ rest }
     ensures { MatchOption result (spec.unquoted bytes.now ≡ None)

@@ -1,4 +1,6 @@
 //! Operators.
+#![tactic(auto, unfolding(crate::specs::Operators::one_of, crate::specs::Operators::two_of))]
+
 ghost use Rattle.std.specs.Prelude.{◌≡◌};
 ghost use Rattle.lio_words.specs.Operators.{one_word, one_of, two_word, two_of};
 
@@ -82,7 +84,6 @@ impl One {
     }
 
     /// The operator that a word is.
-    #[tactic(auto, unfolding(crate::specs::Operators::one_of))]
     pub fn find(word: &[u8]) -> Option<One>
         ensures { result ≡ one_of word.now }
     {
@@ -117,7 +118,6 @@ impl Two {
     }
 
     /// The operator that a word is.
-    #[tactic(auto, unfolding(crate::specs::Operators::two_of))]
     pub fn find(word: &[u8]) -> Option<Two>
         ensures { result ≡ two_of word.now }
     {

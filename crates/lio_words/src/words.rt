@@ -1,4 +1,6 @@
 //! The words of a line.
+#![tactic(auto, unfolding(crate::specs::Words::cut, crate::specs::Words::word_len))]
+
 ghost use Rattle.std.specs.Prelude.{◌≡◌, ◌≤◌, ◌∷◌, [], length, ℕ, List, false, MatchOption};
 ghost use Rattle.lio_words.specs.Words as spec;
 ghost use Rattle.lio_words.specs.Words.{cut, word_len, words, without_return};
@@ -70,7 +72,6 @@ fn ends(place: Place, byte: u8) -> bool
 }
 
 /// How many bytes belong to a word that has begun.
-#[tactic(auto, unfolding(crate::specs::Words::word_len))]
 fn word_len(mut place: Place, bytes: &[u8]) -> usize
     ensures len { result ≡ word_len place bytes.now }
     ensures within { result ≤ length bytes.now }
@@ -85,7 +86,6 @@ fn word_len(mut place: Place, bytes: &[u8]) -> usize
 }
 
 /// What stands behind the blanks at the front.
-#[tactic(auto, unfolding(crate::specs::Words::cut))]
 fn past_blanks(bytes: &[u8]) -> &[u8]
     ensures same { words result.now ≡ words bytes.entry.now }
     ensures at_word { (byte : ℕ) (rest : List ℕ)
