@@ -8,7 +8,7 @@ use crate::room::Room;
 use crate::state::State;
 use crate::wish::Wish;
 use crate::{ready, reply, reserve, served};
-use lio_clauses::NoMemory;
+use lio_clauses::{NoMemory, assign, beside};
 use lio_values::{Act, Reply, Text};
 use std::alloc::Global;
 use std::marker::Model;
@@ -40,27 +40,19 @@ impl Node {
     pub fn of(alloc: Global, state: State) -> Result<Node, NoMemory>
         ensures { IfOk result (λ node. node ≡ node_of state) }
     {
-        match Text::of(alloc, b"") {
-            Ok(spare) => Ok(Node {
-                state,
-                room: Room::Nothing,
-                spare,
-            }),
-            Err(refused) => {
-                drop(state);
-                Err(refused)
-            }
-        }
+        let (state, spare) = beside(state, Text::of(alloc, b""))?;
+        Ok(Node {
+            state,
+            room: Room::Nothing,
+            spare,
+        })
     }
 
     /// A node of an equal state, which keeps nothing ready.
     pub fn copy(&self, alloc: Global) -> Result<Node, NoMemory>
         ensures { IfOk result (λ node. node ≡ node_of self.now.state) }
     {
-        match self.state.copy(alloc) {
-            Ok(state) => Node::of(alloc, state),
-            Err(refused) => Err(refused),
-        }
+        Node::of(alloc, self.state.copy(alloc)?)
     }
 
     /// What it holds.
@@ -99,10 +91,10 @@ impl Node {
             ≡ record { state = self.old.state; room = room_for self.old.state act.now }) }
         ensures err { OnErr result (self.new ≡ node_of self.old.state) }
     {
-        drop(mem::replace(&mut self.room, Room::Nothing));
+        assign(&mut self.room, Room::Nothing);
         match reserve::room_for(alloc, &self.state, &mut self.spare, act)? {
             Room::Nothing => {}
-            room => drop(mem::replace(&mut self.room, room)),
+            room => assign(&mut self.room, room),
         }
         Ok(())
     }
@@ -119,6 +111,6 @@ impl Node {
         let state = mem::replace(&mut self.state, State::Absent);
         let room = mem::replace(&mut self.room, Room::Nothing);
         let state = served::with_room(state, room, &mut self.spare);
-        drop(mem::replace(&mut self.state, state));
+        assign(&mut self.state, state);
     }
 }

@@ -1,4 +1,6 @@
 //! What a node is, and which acts it is ready for.
+#![tactic(auto, unfolding(crate::specs::State::ready))]
+
 ghost use Rattle.std.specs.Prelude.{◌≡◌, is_some};
 ghost use Rattle.lio_cells.specs.State.{full_with, grants, is_absent, is_channel, is_empty, is_job};
 ghost use Rattle.lio_cells.specs.State.{is_reference, is_variable, ready, result_of};
@@ -82,7 +84,6 @@ pub fn has_ended(state: &State) -> bool
 }
 
 /// Whether a node of this state is ready for the act.
-#[tactic(auto, unfolding(crate::specs::State::ready))]
 pub fn ready(state: &State, act: &Act) -> bool
     ensures { result ≡ ready state.now act.now }
 {

@@ -1,4 +1,6 @@
 //! What a node answers.
+#![tactic(auto, unfolding(crate::specs::State::answer))]
+
 ghost use Rattle.std.specs.Prelude.{◌≡◌, IfOk};
 ghost use Rattle.std.specs.Option.{option_map_or};
 ghost use Rattle.lio_cells.specs.State.{answer, full_with, held, result_of};
@@ -12,10 +14,7 @@ use std::alloc::Global;
 fn answer_held(alloc: Global, value: &Value) -> Result<Reply, NoMemory>
     ensures { IfOk result (λ reply. reply ≡ Reply.Got value.now) }
 {
-    match value.copy(alloc) {
-        Ok(value) => Ok(Reply::Got(Held::new(alloc, value)?)),
-        Err(refused) => Err(refused),
-    }
+    Ok(Reply::Got(Held::new(alloc, value.copy(alloc)?)?))
 }
 
 /// What a reference holds, where it is one.
@@ -62,7 +61,6 @@ fn answer_wait(alloc: Global, state: &State) -> Result<Reply, NoMemory>
 }
 
 /// What a node of this state answers the act.
-#[tactic(auto, unfolding(crate::specs::State::answer))]
 pub fn answer(alloc: Global, state: &State, act: &Act) -> Result<Reply, NoMemory>
     ensures { IfOk result (λ reply. reply ≡ answer state.now act.now) }
 {

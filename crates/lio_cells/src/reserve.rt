@@ -1,4 +1,6 @@
 //! What is taken of memory for an act.
+#![tactic(auto, unfolding(crate::specs::Room::room_for))]
+
 ghost use Rattle.std.specs.Prelude.{◌≡◌, ◌++◌, IfOk, if◌then◌else◌};
 ghost use Rattle.lio_cells.specs.State.{is_absent, is_job, is_reference, is_variable};
 ghost use Rattle.lio_cells.specs.Node.{Begins};
@@ -17,10 +19,7 @@ use std::mem;
 fn room_to_hold(alloc: Global, value: &Value) -> Result<Room, NoMemory>
     ensures { IfOk result (λ room. room ≡ Room.Holds value.now) }
 {
-    match value.copy(alloc) {
-        Ok(value) => Ok(Room::Holds(value)),
-        Err(refused) => Err(refused),
-    }
+    Ok(Room::Holds(value.copy(alloc)?))
 }
 
 /// For a reference, a copy of the value that is written.
@@ -108,10 +107,7 @@ fn room_for_reference(
         state.now then Room.Becomes (State.Ref label.now value.now) else Room.Nothing)) }
 {
     if is_absent(state) {
-        match copy_reference(alloc, label, value) {
-            Ok(new) => Ok(Room::Becomes(new)),
-            Err(refused) => Err(refused),
-        }
+        Ok(Room::Becomes(copy_reference(alloc, label, value)?))
     } else {
         Ok(Room::Nothing)
     }
@@ -128,10 +124,7 @@ fn room_for_variable(
         state.now then Room.Becomes (State.Var label.now value.now) else Room.Nothing)) }
 {
     if is_absent(state) {
-        match copy_variable(alloc, label, value) {
-            Ok(new) => Ok(Room::Becomes(new)),
-            Err(refused) => Err(refused),
-        }
+        Ok(Room::Becomes(copy_variable(alloc, label, value)?))
     } else {
         Ok(Room::Nothing)
     }
@@ -155,10 +148,7 @@ fn room_to_end(alloc: Global, state: &State, content: &Content) -> Result<Room, 
         (λ room. room ≡ (if is_job state.now then Room.Ends content.now else Room.Nothing)) }
 {
     if is_job(state) {
-        match content.copy(alloc) {
-            Ok(content) => Ok(Room::Ends(content)),
-            Err(refused) => Err(refused),
-        }
+        Ok(Room::Ends(content.copy(alloc)?))
     } else {
         Ok(Room::Nothing)
     }
@@ -166,7 +156,6 @@ fn room_to_end(alloc: Global, state: &State, content: &Content) -> Result<Room, 
 
 /// The room for an act in a node of this state. `spare` has first bytes of what a channel has
 /// received, before and after.
-#[tactic(auto, unfolding(crate::specs::Room::room_for))]
 pub fn room_for(alloc: Global, state: &State, spare: &mut Text, act: &Act) -> Result<Room, NoMemory>
     requires { Begins spare.old (bytes_of state.now) }
     ensures ok { IfOk result (λ room. room ≡ room_for state.now act.now) }

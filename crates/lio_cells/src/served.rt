@@ -5,8 +5,8 @@ ghost use Rattle.lio_cells.specs.Room.{left_by, left_with, state_with, with_byte
 
 use crate::room::Room;
 use crate::state::State;
+use lio_clauses::assign;
 use lio_values::{Content, Text, Value};
-use std::mem;
 
 /// A reference or a variable that holds the value.
 fn hold(state: State, value: Value) -> State
@@ -87,7 +87,7 @@ fn receive(state: State, bytes: Text, spare: &mut Text) -> State
 {
     match state {
         State::Chan(label, received) => {
-            drop(mem::replace(spare, received));
+            assign(spare, received);
             State::Chan(label, bytes)
         }
         State::Absent => State::Absent,

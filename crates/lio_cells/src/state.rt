@@ -26,10 +26,7 @@ fn copy_value(alloc: Global, value: &Option<Value>) -> Result<Option<Value>, NoM
     ensures { IfOk result (λ copy. copy ≡ value.now) }
 {
     match value {
-        Some(value) => match value.copy(alloc) {
-            Ok(value) => Ok(Some(value)),
-            Err(refused) => Err(refused),
-        },
+        Some(value) => Ok(Some(value.copy(alloc)?)),
         None => Ok(None),
     }
 }
@@ -39,10 +36,7 @@ fn copy_result(alloc: Global, content: &Option<Content>) -> Result<Option<Conten
     ensures { IfOk result (λ copy. copy ≡ content.now) }
 {
     match content {
-        Some(content) => match content.copy(alloc) {
-            Ok(content) => Ok(Some(content)),
-            Err(refused) => Err(refused),
-        },
+        Some(content) => Ok(Some(content.copy(alloc)?)),
         None => Ok(None),
     }
 }
@@ -52,13 +46,8 @@ pub fn copy_reference(alloc: Global, label: &Label, value: &Value) -> Result<Sta
     ensures { IfOk result (λ state. state ≡ State.Ref label.now value.now) }
 {
     let label = label.copy(alloc)?;
-    match value.copy(alloc) {
-        Ok(value) => Ok(State::Ref(label, value)),
-        Err(refused) => {
-            drop(label);
-            Err(refused)
-        }
-    }
+    let value = value.copy(alloc)?;
+    Ok(State::Ref(label, value))
 }
 
 /// A variable with copies of its label and, if it is full, its value.
@@ -66,13 +55,8 @@ pub fn copy_variable(alloc: Global, label: &Label, value: &Option<Value>) -> Res
     ensures { IfOk result (λ state. state ≡ State.Var label.now value.now) }
 {
     let label = label.copy(alloc)?;
-    match copy_value(alloc, value) {
-        Ok(value) => Ok(State::Var(label, value)),
-        Err(refused) => {
-            drop(label);
-            Err(refused)
-        }
-    }
+    let value = copy_value(alloc, value)?;
+    Ok(State::Var(label, value))
 }
 
 /// A channel with copies of its label and of what it has received.
@@ -80,13 +64,8 @@ fn copy_channel(alloc: Global, label: &Label, received: &Text) -> Result<State, 
     ensures { IfOk result (λ state. state ≡ State.Chan label.now received.now) }
 {
     let label = label.copy(alloc)?;
-    match received.copy(alloc) {
-        Ok(received) => Ok(State::Chan(label, received)),
-        Err(refused) => {
-            drop(label);
-            Err(refused)
-        }
-    }
+    let received = received.copy(alloc)?;
+    Ok(State::Chan(label, received))
 }
 
 /// A job with copies of its label and, once the task has ended, its result.
@@ -94,13 +73,8 @@ fn copy_job(alloc: Global, label: &Label, content: &Option<Content>) -> Result<S
     ensures { IfOk result (λ state. state ≡ State.Job label.now content.now) }
 {
     let label = label.copy(alloc)?;
-    match copy_result(alloc, content) {
-        Ok(content) => Ok(State::Job(label, content)),
-        Err(refused) => {
-            drop(label);
-            Err(refused)
-        }
-    }
+    let content = copy_result(alloc, content)?;
+    Ok(State::Job(label, content))
 }
 
 impl State {

@@ -218,3 +218,13 @@ unfolding operate2
 two_give_short longest op (Bare a) (Bare b) = short_of longest (on_plains longest op a b) (plains_give longest op a b)
 two_give_short longest op (Bare a) (Sealed label content) = tt
 two_give_short longest op (Sealed label content) b = tt
+
+-- all of them, for the functions whose contracts they are
+pub ruleset laws = (
+  hidden_from_one,
+  hidden_from_two,
+  one_gives_simple,
+  two_give_simple,
+  one_gives_short,
+  two_give_short,
+)

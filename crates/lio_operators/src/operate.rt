@@ -1,4 +1,6 @@
 //! Operators on values: which of the tables is asked, by the kinds of the operands.
+#![tactic(auto, unfolding(crate::specs::Operators::operate2, crate::specs::Operators::operate1))]
+
 ghost use Rattle.std.specs.Prelude.{◌≡◌, Result, Ok};
 ghost use Rattle.lio_operators.specs.Answers.{Answers};
 ghost use Rattle.lio_values.specs.declared.value.Plain.{Plain};
@@ -143,7 +145,6 @@ fn bare(given: Result<Plain, OpFault>) -> Result<Value, OpFault>
 }
 
 /// What an operator on one value gives. A text that is made has at most `longest` bytes.
-#[tactic(auto, unfolding(crate::specs::Operators::operate1))]
 pub fn operate1(alloc: Global, op: One, a: &Value, longest: u32) -> Result<Value, OpFault>
     ensures { Answers (spec.operate1 longest op a.now) result }
 {
@@ -219,7 +220,6 @@ fn on_plains(alloc: Global, op: Two, a: &Plain, b: &Plain, longest: u32) -> Resu
 }
 
 /// What an operator on two bare values gives. A text that is made has at most `longest` bytes.
-#[tactic(auto, unfolding(crate::specs::Operators::operate2))]
 pub fn operate_plains(
     alloc: Global,
     op: Two,
@@ -233,7 +233,6 @@ pub fn operate_plains(
 }
 
 /// What an operator on two values gives. A text that is made has at most `longest` bytes.
-#[tactic(auto, unfolding(crate::specs::Operators::operate2))]
 pub fn operate2(
     alloc: Global,
     op: Two,

@@ -1,4 +1,6 @@
 //! Operators on two texts, and on a text and a whole.
+#![tactic(auto, using(crate::proofs::TextLemmas::first_place_found))]
+
 ghost use Rattle.std.specs.Prelude.{◌≡◌, ◌≤◌, ◌++◌, length, min, take, drop, IfSome};
 ghost use Rattle.lio_operators.specs.Answers.{Answers};
 ghost use Rattle.lio_operators.specs.Texts as spec;
@@ -33,7 +35,6 @@ fn joined(alloc: Global, a: &[u8], b: &[u8], longest: u32) -> Result<Plain, OpFa
 }
 
 /// The first place at which a text stands in another.
-#[tactic(auto, using(crate::proofs::TextLemmas::first_place_found))]
 fn first_place(part: &[u8], text: &[u8]) -> Option<usize>
     ensures value { result ≡ first_place part.now text.now }
     ensures inside { IfSome result (λ place. place ≤ length text.now) }

@@ -25,8 +25,8 @@ returns c =
     let node = c.args.self.now in
     let inside = c.self.inside in
     let same : c.match-matches.self-inside ≡ inside = elim c.match-matches.branch [ in-Nothing w ↦ w.self-inside-is | in_default w ↦ w.self-inside-is ] in
-    same-node c.replace.new.dest (state_after node.state c.args.act.now) c.replace-room.new.dest Nothing
-    (c.replace.ensures.after ∙ served-state node.state c.replace-state.result c.with_room-state.result c.replace-room.result c.args.act.now
+    same-node c.assign.new.place (state_after node.state c.args.act.now) c.replace-room.new.dest Nothing
+    (c.assign.ensures ∙ served-state node.state c.replace-state.result c.with_room-state.result c.replace-room.result c.args.act.now
     (taken-state inside.state c.replace-state.result inside.room node c.self.view_is (c.replace-state.ensures.value ∙ ap (λ (i : Inside). i.state) same))
     (taken-room inside.state inside.room c.replace-room.result node c.args.act.now c.self.view_is c.requires.reserved (c.replace-room.ensures.value ∙ ap (λ (i : Inside). i.room) same))
     c.with_room-state.ensures.state)
@@ -37,7 +37,7 @@ invariant_of-self c =
     let node = c.args.self.now in
     let inside = c.self.inside in
     let same : c.match-matches.self-inside ≡ inside = elim c.match-matches.branch [ in-Nothing w ↦ w.self-inside-is | in_default w ↦ w.self-inside-is ] in
-    subst (λ s. Begins c.with_room-state.new.spare (bytes_of s)) (sym c.replace.ensures.after)
+    subst (λ s. Begins c.with_room-state.new.spare (bytes_of s)) (sym c.assign.ensures)
     (served-spare node.state c.replace-state.result c.with_room-state.result c.replace-room.result c.args.act.now inside.spare c.with_room-state.new.spare
     (taken-state inside.state c.replace-state.result inside.room node c.self.view_is (c.replace-state.ensures.value ∙ ap (λ (i : Inside). i.state) same))
     (taken-room inside.state inside.room c.replace-room.result node c.args.act.now c.self.view_is c.requires.reserved (c.replace-room.ensures.value ∙ ap (λ (i : Inside). i.room) same))
