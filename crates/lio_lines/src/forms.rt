@@ -1,4 +1,6 @@
 //! What stands behind the first word of a line.
+#![tactic(auto, unfolding(crate::specs::Operands::operand_of))]
+
 ghost use Rattle.std.specs.Prelude.{◌≡◌, ◌≤◌, ◌∷◌, [], ◌++◌, length, Some, None, IfOk, IfErr, OnOk};
 ghost use Rattle.std.specs.Prelude.{OnErr, MatchOption, All, Ok, Err};
 ghost use Rattle.lio_lines.specs.Forms as spec;
@@ -30,7 +32,6 @@ impl<'a> Model for Words<'a> {
 }
 
 /// The operand that a word is.
-#[tactic(auto, unfolding(crate::specs::Operands::operand_of))]
 pub(crate) fn read_operand(alloc: Global, names: &Names, word: &[u8]) -> Result<Operand, LineFault>
     ensures ok { IfOk result (λ operand. operand_of names.now word.now ≡ Some operand) }
     ensures sound { IfOk result (IsOperand names.now) }

@@ -1,4 +1,6 @@
 //! The procedures that lines begin and call.
+#![tactic(auto, unfolding(crate::specs::Forms::header))]
+
 ghost use Rattle.std.specs.Prelude.{◌≡◌, List, ℕ, Some, None, MatchOption};
 ghost use Rattle.std.specs.Option.{option_map};
 ghost use Rattle.lio_lines.specs.Forms as spec;
@@ -30,7 +32,6 @@ impl<'a> Words<'a> {
     }
 
     /// `P X ..`, as the name and how many follow it.
-    #[tactic(auto, unfolding(crate::specs::Forms::header))]
     fn first_line(&mut self) -> Option<(&'a [u8], usize)>
         ensures { MatchOption result (spec.header self.old ≡ None) (λ h. option_map signature
             (spec.header self.old) ≡ Some (record { name = h.0.now; count = h.1 })) }

@@ -1,4 +1,6 @@
 //! Printing lines.
+#![tactic(auto, unfolding(crate::specs::LineText::names_spaced))]
+
 ghost use Rattle.std.specs.Prelude.{◌≡◌, ◌++◌, OnOk, All};
 ghost use Rattle.lio_words.specs.Keyword.{word_of};
 ghost use Rattle.lio_lines.specs.LineText.{line_text, names_spaced, operand_spaced};
@@ -54,7 +56,6 @@ fn print_operands(out: &mut Vec<u8>, names: &Names, operands: &[Operand]) -> Res
 }
 
 /// Appends names, each behind a blank.
-#[tactic(auto, unfolding(crate::specs::LineText::names_spaced))]
 fn print_names(out: &mut Vec<u8>, parameters: &[Text]) -> Result<(), NoMemory>
     ensures { OnOk result (out.new.items ≡ out.old.items ++ names_spaced parameters.now) }
 {

@@ -1,4 +1,6 @@
 //! Reading a line.
+#![tactic(auto, unfolding(crate::specs::Forms::form, crate::specs::Forms::unary))]
+
 ghost use Rattle.std.specs.Prelude.{◌≡◌, Some, None, IfOk, IfErr};
 ghost use Rattle.lio_lines.specs.Forms as spec;
 ghost use Rattle.lio_lines.specs.Forms.{line_of};
@@ -7,13 +9,12 @@ ghost use Rattle.lio_lines.specs.WellFormed.{IsName, IsSimple, IsLine, IsParsed}
 use crate::fault::LineFault;
 use crate::forms::{Words, read_operand};
 use crate::line::{Line, ParsedLine, Simple};
-use lio_clauses::{Names, NoMemory};
+use lio_clauses::{Names, NoMemory, beside};
 use lio_values::Text;
 use lio_words::{Keyword, One, Two, without_return};
 use std::alloc::Global;
 
 /// `OP A`, behind `let X =`
-#[tactic(auto, unfolding(crate::specs::Forms::unary))]
 fn unary(alloc: Global, names: &Names, x: Text, op: &[u8], a: &[u8]) -> Result<Simple, LineFault>
     requires { IsName x }
     ensures ok { IfOk result (λ simple. spec.unary names.now x op.now a.now ≡ Some simple) }
@@ -48,13 +49,8 @@ fn binary(
         return Err(LineFault::Invalid);
     };
     let a = read_operand(alloc, names, a)?;
-    match read_operand(alloc, names, b) {
-        Ok(b) => Ok(Simple::LetTwo(x, a, op, b)),
-        Err(fault) => {
-            drop(a);
-            Err(fault)
-        }
-    }
+    let (a, b) = beside(a, read_operand(alloc, names, b))?;
+    Ok(Simple::LetTwo(x, a, op, b))
 }
 
 /// What stands behind `let X =`
@@ -188,7 +184,6 @@ fn read_simple(
 }
 
 /// The line that begins with the keyword.
-#[tactic(auto, unfolding(crate::specs::Forms::form))]
 fn read_form(
     alloc: Global,
     names: &Names,

@@ -1,4 +1,6 @@
 //! The shapes of lines: what stands behind a first word, up to the end of the line.
+#![tactic(auto, unfolding(crate::specs::Forms::one, crate::specs::Forms::two))]
+
 ghost use Rattle.std.specs.Prelude.{◌≡◌, ◌≤◌, length, Some, None, IfOk, IfErr, All};
 ghost use Rattle.lio_lines.specs.Forms as spec;
 ghost use Rattle.lio_lines.specs.Operands.{IsOperand};
@@ -7,7 +9,7 @@ ghost use Rattle.lio_lines.specs.WellFormed.{IsName, IsSimple};
 use crate::fault::LineFault;
 use crate::forms::{Words, read_operand};
 use crate::line::{Operand, Operands, Texts};
-use lio_clauses::Names;
+use lio_clauses::{Names, beside};
 use lio_values::{List, Text};
 use lio_words::is_name;
 use std::alloc::Global;
@@ -17,7 +19,6 @@ pub(crate) const MOST_PARAMETERS: usize = 8;
 
 impl<'a> Words<'a> {
     /// `A`
-    #[tactic(auto, unfolding(crate::specs::Forms::one))]
     pub(crate) fn one(&mut self, alloc: Global, names: &Names) -> Result<Operand, LineFault>
         ensures ok { IfOk result (λ a. spec.one names.now self.old ≡ Some a) }
         ensures sound { IfOk result (IsOperand names.now) }
@@ -25,17 +26,11 @@ impl<'a> Words<'a> {
             (λ fault. fault ≡ LineFault.Invalid → spec.one names.now self.old ≡ None) }
     {
         let a = self.operand(alloc, names)?;
-        match self.end() {
-            Ok(()) => Ok(a),
-            Err(fault) => {
-                drop(a);
-                Err(fault)
-            }
-        }
+        let (a, _) = beside(a, self.end())?;
+        Ok(a)
     }
 
     /// `A A`
-    #[tactic(auto, unfolding(crate::specs::Forms::two))]
     pub(crate) fn two(
         &mut self,
         alloc: Global,
@@ -47,13 +42,8 @@ impl<'a> Words<'a> {
             (λ fault. fault ≡ LineFault.Invalid → spec.two names.now self.old ≡ None) }
     {
         let a = self.operand(alloc, names)?;
-        match self.one(alloc, names) {
-            Ok(b) => Ok((a, b)),
-            Err(fault) => {
-                drop(a);
-                Err(fault)
-            }
-        }
+        let (a, b) = beside(a, self.one(alloc, names))?;
+        Ok((a, b))
     }
 
     /// `A A A`
@@ -70,13 +60,8 @@ impl<'a> Words<'a> {
             (λ fault. fault ≡ LineFault.Invalid → spec.three names.now self.old ≡ None) }
     {
         let a = self.operand(alloc, names)?;
-        match self.two(alloc, names) {
-            Ok((b, c)) => Ok((a, b, c)),
-            Err(fault) => {
-                drop(a);
-                Err(fault)
-            }
-        }
+        let (a, (b, c)) = beside(a, self.two(alloc, names))?;
+        Ok((a, b, c))
     }
 
     /// `X A`
@@ -242,21 +227,9 @@ impl<'a> Words<'a> {
             (λ fault. fault ≡ LineFault.Invalid → spec.spawn names.now self.old ≡ None) }
     {
         let t = self.operand(alloc, names)?;
-        let c = match self.operand(alloc, names) {
-            Ok(c) => c,
-            Err(fault) => {
-                drop(t);
-                return Err(fault);
-            }
-        };
-        match self.called(alloc, names) {
-            Ok((p, arguments)) => Ok((t, c, p, arguments)),
-            Err(fault) => {
-                drop(t);
-                drop(c);
-                Err(fault)
-            }
-        }
+        let (t, c) = beside(t, self.operand(alloc, names))?;
+        let ((t, c), (p, arguments)) = beside((t, c), self.called(alloc, names))?;
+        Ok((t, c, p, arguments))
     }
 
     /// `X L T C P A ..`
@@ -274,20 +247,8 @@ impl<'a> Words<'a> {
             (λ fault. fault ≡ LineFault.Invalid → spec.fork names.now self.old ≡ None) }
     {
         let x = self.name(alloc)?;
-        let l = match self.operand(alloc, names) {
-            Ok(l) => l,
-            Err(fault) => {
-                drop(x);
-                return Err(fault);
-            }
-        };
-        match self.spawn(alloc, names) {
-            Ok((t, c, p, arguments)) => Ok((x, l, t, c, p, arguments)),
-            Err(fault) => {
-                drop(x);
-                drop(l);
-                Err(fault)
-            }
-        }
+        let l = self.operand(alloc, names)?;
+        let (l, (t, c, p, arguments)) = beside(l, self.spawn(alloc, names))?;
+        Ok((x, l, t, c, p, arguments))
     }
 }
