@@ -9,3 +9,4 @@ pub mod LawLemmas
 pub mod ClosingLemmas
 pub mod BeginningLemmas
 pub mod PlaceLemmas
+pub mod AllLaws

@@ -1,4 +1,6 @@
 //! Printing a script.
+#![tactic(auto, unfolding(crate::specs::ScriptText::lines_text))]
+
 ghost use Rattle.std.specs.Prelude.{◌≡◌, ◌≤◌, ◌++◌, length, codes, All, IfOk, OnOk};
 ghost use Rattle.lio_lines.specs.LineText.{line_text};
 ghost use Rattle.lio_lines.specs.WellFormed.{IsLine};
@@ -21,7 +23,6 @@ fn print_line(out: &mut Vec<u8>, names: &Names, line: &Line) -> Result<(), NoMem
 }
 
 /// Appends lines.
-#[tactic(auto, unfolding(crate::specs::ScriptText::lines_text))]
 fn print_lines(out: &mut Vec<u8>, names: &Names, lines: &[Line]) -> Result<(), NoMemory>
     requires { All (IsLine names.now) lines.now }
     ensures { OnOk result (out.new.items ≡ out.old.items ++ lines_text names.now lines.now) }

@@ -1,4 +1,6 @@
 //! The rules on procedures: the parameters of one, and what a line calls.
+#![tactic(auto, unfolding(crate::specs::Rules::has_twice))]
+
 ghost use Rattle.std.specs.Prelude.{◌≡◌, ◌≤◌, List, length, bytes_eq};
 ghost use Rattle.std.specs.List.{list_any};
 ghost use Rattle.lio_lines.specs.declared.line.ParsedLine.{ParsedLine};
@@ -24,7 +26,6 @@ fn contains(names: &[Text], name: &[u8]) -> bool
 }
 
 /// Whether a name is there twice.
-#[tactic(auto, unfolding(crate::specs::Rules::has_twice))]
 pub(crate) fn has_twice(names: &[Text]) -> bool
     ensures { result ≡ spec.has_twice names.now }
 {
