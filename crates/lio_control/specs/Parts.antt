@@ -17,6 +17,8 @@ use Rattle.lio_control.specs.Environment.{Environment}
 use Rattle.lio_control.specs.Items.{Item, Do, Access, Mark, Back, Fail, enter, rest_of}
 use Rattle.lio_control.specs.Throwing.{thrown}
 use Rattle.lio_control.specs.Continuation.{block_at, part_over}
+-- what the code of a part opens
+pub use Rattle.lio_control.specs.Continuation.{access_at, mark_at}
 use Rattle.lio_control.specs.Front.{IsOwn, Begins}
 
 -- nothing comes first that the running procedure itself still has to do

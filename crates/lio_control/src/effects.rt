@@ -1,4 +1,6 @@
 //! How a task goes on.
+//!
+//! Where `#[tactic(none)]` stands each goal has its answer, so no tactic is tried.
 ghost use Rattle.std.specs.Prelude.{◌≡◌, ◌<◌, List, [], ◌∷◌, ◌++◌, IfOk, OnOk, OnErr, MatchBool};
 ghost use Rattle.std.specs.Prelude.{vec_len, vec_capacity};
 ghost use Rattle.lio_lines.specs.declared.line.Line.{Line};
@@ -53,8 +55,10 @@ impl Continuation {
     ) -> Result<(), NoMemory>
         requires { AtStatement (place_of (script_lines script.now) self.old).items }
         ensures ok { OnOk result (let was = place_of (script_lines script.now) self.old in
-            place_of (script_lines script.now) self.new ≡ record { environment = spec.bind
-            was.environment name.now value; items = rest_of was.items }) }
+            place_of (script_lines script.now) self.new ≡ record {
+              environment = spec.bind was.environment name.now value;
+              items = rest_of was.items;
+            }) }
         ensures err { OnErr result (place_of (script_lines script.now) self.new
             ≡ place_of (script_lines script.now) self.old) }
     {
@@ -67,8 +71,9 @@ impl Continuation {
     pub fn enter(&mut self, script: &Script, block: usize) -> Result<(), NoMemory>
         requires { AtStatement (place_of (script_lines script.now) self.old).items }
         ensures ok { OnOk result (let was = place_of (script_lines script.now) self.old in
-            place_of (script_lines script.now) self.new ≡ record
-            was { items = enter (block_at (script_lines script.now) block) (rest_of was.items) }) }
+            place_of (script_lines script.now) self.new ≡ record was {
+              items = enter (block_at (script_lines script.now) block) (rest_of was.items);
+            }) }
         ensures err { OnErr result (place_of (script_lines script.now) self.new
             ≡ place_of (script_lines script.now) self.old) }
     {
@@ -81,8 +86,9 @@ impl Continuation {
     /// Enters a block in front of all else: a loop's statement comes again behind it.
     pub fn repeat(&mut self, script: &Script, block: usize) -> Result<(), NoMemory>
         ensures ok { OnOk result (let was = place_of (script_lines script.now) self.old in
-            place_of (script_lines script.now) self.new
-            ≡ record was { items = enter (block_at (script_lines script.now) block) was.items }) }
+            place_of (script_lines script.now) self.new ≡ record was {
+              items = enter (block_at (script_lines script.now) block) was.items;
+            }) }
         ensures err { OnErr result (place_of (script_lines script.now) self.new
             ≡ place_of (script_lines script.now) self.old) }
     {
@@ -96,9 +102,10 @@ impl Continuation {
     pub fn guard(&mut self, script: &Script, block: usize, catch: usize) -> Result<(), NoMemory>
         requires { AtStatement (place_of (script_lines script.now) self.old).items }
         ensures ok { OnOk result (let was = place_of (script_lines script.now) self.old in
-            place_of (script_lines script.now) self.new
-            ≡ record was { items = enter (block_at (script_lines script.now) block)
-            (mark_at (script_lines script.now) catch (rest_of was.items)) }) }
+            place_of (script_lines script.now) self.new ≡ record was {
+              items = enter (block_at (script_lines script.now) block)
+                  (mark_at (script_lines script.now) catch (rest_of was.items));
+            }) }
         ensures err { OnErr result (place_of (script_lines script.now) self.new
             ≡ place_of (script_lines script.now) self.old) }
     {
@@ -121,9 +128,11 @@ impl Continuation {
     ) -> Result<(), NoMemory>
         requires { AtStatement (place_of (script_lines script.now) self.old).items }
         ensures ok { OnOk result (let was = place_of (script_lines script.now) self.old in
-            place_of (script_lines script.now) self.new
-            ≡ record { environment = environment; items = enter (block_at (script_lines script.now)
-            body) (Back was.environment name.now ∷ rest_of was.items) }) }
+            place_of (script_lines script.now) self.new ≡ record {
+              environment = environment;
+              items = enter (block_at (script_lines script.now) body)
+                  (Back was.environment name.now ∷ rest_of was.items);
+            }) }
         ensures err { OnErr result (place_of (script_lines script.now) self.new
             ≡ place_of (script_lines script.now) self.old) }
     {
@@ -172,8 +181,9 @@ impl Continuation {
     fn resume_caller(&mut self)
         ensures none { self.old.calls.items ≡ []
             → (self.new.calls.items ≡ []) × (self.new.frame ≡ self.old.frame) }
-        ensures some { (calls : List Caller) (call : Caller) → self.old.calls.items
-            ≡ calls ++ call ∷ [] → (self.new.calls.items ≡ calls) × (self.new.frame ≡ call.caller) }
+        ensures some { (calls : List Caller) (call : Caller)
+            → self.old.calls.items ≡ calls ++ call ∷ []
+            → (self.new.calls.items ≡ calls) × (self.new.frame ≡ call.caller) }
     {
         if let Some(call) = self.calls.pop() {
             let Call { caller, .. } = call;
@@ -184,8 +194,8 @@ impl Continuation {
     /// Goes back to the caller, in whose environment the call's name is bound to a value; where no
     /// call is open nothing is left.
     fn go_back(&mut self, alloc: Global, value: Value) -> Result<(), NoMemory>
-        ensures ok { OnOk result ((lines : List Line) → place_of lines self.new ≡ returned value
-            (place_of lines self.old).environment (place_of lines self.old).items) }
+        ensures ok { OnOk result ((lines : List Line) → let was = place_of lines self.old in
+            place_of lines self.new ≡ returned value was.environment was.items) }
         ensures err { OnErr result ((lines : List Line)
             → place_of lines self.new ≡ place_of lines self.old) }
     {
@@ -206,8 +216,10 @@ impl Continuation {
     fn fail(&mut self, alloc: Global, fault: Fault) -> Result<(), NoMemory>
         ensures err { OnErr result (self.new ≡ self.old) }
         ensures ok { OnOk result ((lines : List Line)
-            → place_of lines self.new ≡ record { environment = outermost self.old.calls.items
-            self.old.frame; items = Fail fault ∷ [] }) }
+            → place_of lines self.new ≡ record {
+              environment = outermost self.old.calls.items self.old.frame;
+              items = Fail fault ∷ [];
+            }) }
     {
         let fault = Held::new(alloc, fault)?;
         let mut parts = Vec::new(alloc);
@@ -221,14 +233,14 @@ impl Continuation {
     /// Begins the nearest handler of a fault, if there is one.
     #[tactic(none)]
     fn catch(&mut self, alloc: Global, script: &Script, fault: &Fault) -> Result<bool, NoMemory>
-        ensures caught { IfOk result (λ found. MatchBool found
+        ensures caught { IfOk result (λ found.
+            let was = place_of (script_lines script.now) self.old in MatchBool found
             (place_of (script_lines script.now) self.new
-            ≡ thrown fault.now (place_of (script_lines script.now) self.old).environment
-            (place_of (script_lines script.now) self.old).items)
-            (SameCalls self.old self.new × (thrown fault.now (place_of (script_lines script.now)
-            self.old).environment (place_of (script_lines script.now) self.old).items
-            ≡ record { environment = outermost self.old.calls.items
-            self.old.frame; items = Fail fault.now ∷ [] }))) }
+            ≡ thrown fault.now was.environment was.items)
+            (SameCalls self.old self.new × (thrown fault.now was.environment was.items ≡ record {
+              environment = outermost self.old.calls.items self.old.frame;
+              items = Fail fault.now ∷ [];
+            }))) }
         ensures err { OnErr result (SameCalls self.old self.new) }
     {
         if self.frame.catch(alloc, script, fault)? {

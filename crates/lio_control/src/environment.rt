@@ -6,13 +6,12 @@ ghost use Rattle.lio_control.specs.Bound.{IsBoundAt, IsBoundBefore};
 ghost use Rattle.lio_control.specs.Hiding.{hide_environment};
 
 use crate::binding::Binding;
-use lio_clauses::NoMemory;
+use lio_clauses::{NoMemory, assign, beside};
 use lio_labels::Label;
 use lio_values::{Text, Value};
 use std::alloc::Global;
 use std::cmp::Ordering;
 use std::marker::Model;
-use std::mem;
 
 /// What names are bound to, seen as the list of the bindings in the order of names.
 #[derive(Drop)]
@@ -72,16 +71,13 @@ impl Environment {
     {
         match self.place_for(name) {
             Ok(at) => {
-                drop(mem::replace(&mut self.bindings[at].value, value));
+                assign(&mut self.bindings[at].value, value);
                 Ok(())
             }
-            Err(at) => match name.copy(alloc) {
-                Ok(name) => Ok(self.bindings.insert(at, Binding { name, value })?),
-                Err(error) => {
-                    drop(value);
-                    Err(error)
-                }
-            },
+            Err(at) => {
+                let (value, name) = beside(value, name.copy(alloc))?;
+                Ok(self.bindings.insert(at, Binding { name, value })?)
+            }
         }
     }
 
@@ -113,41 +109,19 @@ impl Environment {
             ≡ bind (bind self.old first.now value) second.now other) }
         ensures err { OnErr result (self.new ≡ self.old) }
     {
-        match self.binding(alloc, first, value) {
-            Ok(mut environment) => match environment.bind(alloc, second, other) {
-                Ok(()) => {
-                    *self = environment;
-                    Ok(())
-                }
-                Err(error) => {
-                    drop(environment);
-                    Err(error)
-                }
-            },
-            Err(error) => {
-                drop(other);
-                Err(error)
-            }
-        }
+        let (other, mut environment) = beside(other, self.binding(alloc, first, value))?;
+        environment.bind(alloc, second, other)?;
+        *self = environment;
+        Ok(())
     }
 
     /// A copy in which a name is bound to a value.
     fn binding(&self, alloc: Global, name: &Text, value: Value) -> Result<Environment, NoMemory>
         ensures { IfOk result (λ environment. environment ≡ bind self.now name.now value) }
     {
-        match self.copy(alloc) {
-            Ok(mut environment) => match environment.bind(alloc, name, value) {
-                Ok(()) => Ok(environment),
-                Err(error) => {
-                    drop(environment);
-                    Err(error)
-                }
-            },
-            Err(error) => {
-                drop(value);
-                Err(error)
-            }
-        }
+        let (value, mut environment) = beside(value, self.copy(alloc))?;
+        environment.bind(alloc, name, value)?;
+        Ok(environment)
     }
 
     /// Forgets all bindings.

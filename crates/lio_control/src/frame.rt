@@ -64,8 +64,8 @@ impl Frame {
 
     /// What comes first in it.
     pub(crate) fn front<'t, 's>(&'t self, script: &'s Script) -> Option<Front<'t, 's>>
-        ensures { MatchOption result ((items : List Item)
-            → frame_over (script_lines script.now) self.now items ≡ items)
+        ensures { MatchOption result
+            ((items : List Item) → frame_over (script_lines script.now) self.now items ≡ items)
             (λ front. (items : List Item) → IsFront (script_lines script.now)
             (frame_over (script_lines script.now) self.now items) front) }
     {
@@ -82,8 +82,8 @@ impl Frame {
     /// Drops what comes first, and answers the place of a statement that did.
     pub(crate) fn advance(&mut self, script: &Script) -> usize
         ensures environment { self.new.environment ≡ self.old.environment }
-        ensures items { (items : List Item)
-            → IsOutside items → IsOwn (frame_over (script_lines script.now) self.old items)
+        ensures items { (items : List Item) → IsOutside items
+            → IsOwn (frame_over (script_lines script.now) self.old items)
             → IsRest (frame_over (script_lines script.now) self.old items)
             (frame_over (script_lines script.now) self.new items) }
         ensures place { (items : List Item) → IsOutside items → SaysFirst (script_lines script.now)
@@ -163,10 +163,12 @@ impl Frame {
         script: &Script,
         fault: &Fault,
     ) -> Result<bool, NoMemory>
-        ensures caught { IfOk result (λ found. MatchBool found ((items : List Item)
-            → thrown fault.now self.old.environment (frame_over (script_lines script.now)
-            self.old items) ≡ record { environment = self.new.environment; items = frame_over
-            (script_lines script.now) self.new items })
+        ensures caught { IfOk result (λ found. MatchBool found
+            ((items : List Item) → thrown fault.now self.old.environment
+            (frame_over (script_lines script.now) self.old items) ≡ record {
+              environment = self.new.environment;
+              items = frame_over (script_lines script.now) self.new items;
+            })
             ((self.new ≡ self.old) × ((environment : Bindings) (items : List Item)
             → thrown fault.now environment (frame_over (script_lines script.now) self.old items)
             ≡ thrown fault.now environment items))) }

@@ -1,4 +1,6 @@
 //! The parts of what a procedure still has to do.
+#![tactic(auto, unfolding(crate::specs::Parts::access_at, crate::specs::Parts::mark_at))]
+
 ghost use Rattle.std.specs.Prelude.{◌≡◌, List, MatchOption, IfOk};
 ghost use Rattle.lio_syntax.specs.Lines.{script_lines};
 ghost use Rattle.lio_control.specs.Items.{Item};
@@ -48,7 +50,6 @@ pub(crate) struct Handler<'s> {
 
 impl Part {
     /// What comes first in it.
-    #[tactic(auto, unfolding(crate::specs::Continuation::access_at, crate::specs::Continuation::mark_at))]
     pub(crate) fn front<'t, 's>(&'t self, script: &'s Script) -> Option<Front<'t, 's>>
         ensures { MatchOption result (StandsForNothing (script_lines script.now) self.now)
             (λ front. (items : List Item) → IsFront (script_lines script.now)
@@ -69,7 +70,6 @@ impl Part {
     }
 
     /// What is left of it behind its first item.
-    #[tactic(auto, unfolding(crate::specs::Continuation::access_at, crate::specs::Continuation::mark_at))]
     pub(crate) fn left(&self, script: &Script) -> Left
         ensures { IsLeft (script_lines script.now) self.now result }
     {
@@ -91,7 +91,6 @@ impl Part {
     }
 
     /// The handler that it marks.
-    #[tactic(auto, unfolding(crate::specs::Continuation::access_at, crate::specs::Continuation::mark_at))]
     pub(crate) fn handler<'s>(&self, script: &'s Script) -> Option<Handler<'s>>
         ensures { MatchOption result (CatchesNothing (script_lines script.now) self.now)
             (IsHandler (script_lines script.now) self.now) }

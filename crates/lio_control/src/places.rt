@@ -1,4 +1,6 @@
 //! Statements at places in a script.
+#![tactic(auto, unfolding(crate::specs::Places::else_at))]
+
 ghost use Rattle.std.specs.Prelude.{◌≡◌, ◌<◌, ◌+◌, ◌^◌, List, length, MatchOption, OnSome, IfSome};
 ghost use Rattle.std.specs.Prelude.{slice_get};
 ghost use Rattle.std.specs.Option.{option_copied};
@@ -40,7 +42,6 @@ fn block_end(script: &Script, at: usize) -> usize
 }
 
 /// The place of the `else` of the `if` at a place, if it has one.
-#[tactic(auto, unfolding(crate::specs::Places::else_at))]
 fn else_of(script: &Script, at: usize) -> Option<usize>
     requires { at < length (script_lines script.now) }
     ensures place { result ≡ else_at (script_lines script.now) at }

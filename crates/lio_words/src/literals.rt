@@ -162,7 +162,6 @@ fn escape_of(sign: u8) -> Option<u8>
 }
 
 /// The byte of an escape, whose backslash stands before these bytes, and what stands behind it.
-#[tactic(auto, unfolding(crate::specs::Literals::escaped, crate::specs::Literals::first_digit, crate::specs::Literals::second_digit))]
 fn split_escape(bytes: &[u8]) -> Option<(u8, &[u8])>
     ensures { MatchOption result (spec.escaped bytes.now ≡ None)
         (λ parts. (spec.escaped bytes.now ≡ put_before (Some parts.0) (spec.unquoted parts.1.now))
