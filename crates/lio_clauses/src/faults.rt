@@ -77,28 +77,6 @@ impl From<NoMemory> for FormFault {
     }
 }
 
-impl From<AllocError> for FormFault {
-    ghost use Rattle.std.specs.Prelude.{◌≡◌};
-    ghost use Rattle.lio_clauses.specs.declared.faults.FormFault.TheVariants.{NoMemory};
-
-    ghost from_gives = { λ _ fault. fault ≡ NoMemory };
-
-    fn from(_cause: AllocError) -> FormFault {
-        FormFault::NoMemory
-    }
-}
-
-impl<T: Drop> From<AllocFailed<T>> for FormFault {
-    ghost use Rattle.std.specs.Prelude.{◌≡◌};
-    ghost use Rattle.lio_clauses.specs.declared.faults.FormFault.TheVariants.{NoMemory};
-
-    ghost from_gives = { λ _ fault. fault ≡ NoMemory };
-
-    fn from(_cause: AllocFailed<T>) -> FormFault {
-        FormFault::NoMemory
-    }
-}
-
 impl From<NoMemory> for TextFault {
     ghost use Rattle.std.specs.Prelude.{◌≡◌};
     ghost use Rattle.lio_clauses.specs.declared.faults.TextFault.TheVariants.{NoMemory};
@@ -106,28 +84,6 @@ impl From<NoMemory> for TextFault {
     ghost from_gives = { λ _ fault. fault ≡ NoMemory };
 
     fn from(_cause: NoMemory) -> TextFault {
-        TextFault::NoMemory
-    }
-}
-
-impl From<AllocError> for TextFault {
-    ghost use Rattle.std.specs.Prelude.{◌≡◌};
-    ghost use Rattle.lio_clauses.specs.declared.faults.TextFault.TheVariants.{NoMemory};
-
-    ghost from_gives = { λ _ fault. fault ≡ NoMemory };
-
-    fn from(_cause: AllocError) -> TextFault {
-        TextFault::NoMemory
-    }
-}
-
-impl<T: Drop> From<AllocFailed<T>> for TextFault {
-    ghost use Rattle.std.specs.Prelude.{◌≡◌};
-    ghost use Rattle.lio_clauses.specs.declared.faults.TextFault.TheVariants.{NoMemory};
-
-    ghost from_gives = { λ _ fault. fault ≡ NoMemory };
-
-    fn from(_cause: AllocFailed<T>) -> TextFault {
         TextFault::NoMemory
     }
 }

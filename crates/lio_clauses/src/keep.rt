@@ -1,6 +1,7 @@
-//! Keeping a value while another one is got, and letting one go for another. The bodies are generic,
-//! so that they drop by the type's own drop function, which is proved once: a `?` or an assignment at
-//! a type that owns much would lay that drop out again where it stands, variant by variant.
+//! Keeping a value while another one is got, and letting one go for another. The bodies are
+//! generic, so that they drop by the type's own drop function, which is proved once: a `?` or an
+//! assignment at a type that owns much would lay that drop out again where it stands, variant by
+//! variant.
 ghost use Rattle.std.specs.Prelude.{◌≡◌, MatchResult, Ok, Err};
 
 /// Gives a value beside what was got. Where nothing was got, lets the value go.

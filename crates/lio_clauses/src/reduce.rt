@@ -1,6 +1,7 @@
 //! The minimal clauses of a conjunction, found in rising number and kept in lexicographic order.
 ghost use Rattle.std.specs.Prelude.{◌≡◌, ◌≢◌, ℕ, ◌+◌, ◌^◌, ◌<◌, ◌≤◌, true, false, List, [], ◌∷◌};
-ghost use Rattle.std.specs.Prelude.{◌++◌, length, map, IfOk, OnOk, OnErr, bit_and, slice_index};
+ghost use Rattle.std.specs.Prelude.{◌++◌, length, map, insert, IfOk, OnOk, OnErr, bit_and};
+ghost use Rattle.std.specs.Prelude.{slice_index};
 ghost use Rattle.std.specs.List.{All};
 ghost use Rattle.lio_clauses.specs.Principals.{principals};
 ghost use Rattle.lio_clauses.specs.Canonical.{canonical};
@@ -8,7 +9,7 @@ ghost use Rattle.lio_clauses.specs.Width.{IsWide};
 ghost use Rattle.lio_clauses.specs.Bits.{IsFormula, IsLeastUncovered, KeepsMinimal, mask_before};
 ghost use Rattle.lio_clauses.specs.Bits.{unions};
 
-use crate::faults::FormFault;
+use crate::faults::{FormFault, NoMemory};
 use crate::masks::is_covered;
 use smallvec::SmallVec;
 use std::alloc::Global;
@@ -39,6 +40,16 @@ pub(crate) fn keep(kept: &mut Kept, clause: u64) -> Result<(), FormFault>
         return Err(FormFault::Wide);
     }
     let place = place_of(kept.as_slice(), clause);
+    insert(kept, place, clause)?;
+    Ok(())
+}
+
+/// Puts a clause in at a place. After a fault the kept ones are as before.
+fn insert(kept: &mut Kept, place: usize, clause: u64) -> Result<(), NoMemory>
+    requires { place ≤ length kept.old.items }
+    ensures ok { OnOk result (kept.new.items ≡ insert kept.old.items place clause) }
+    ensures err { OnErr result (kept.new.items ≡ kept.old.items) }
+{
     kept.insert(place, clause)?;
     Ok(())
 }
