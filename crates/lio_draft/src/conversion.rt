@@ -27,22 +27,10 @@ pub fn each<X, Y: Drop, C: Conversion<X, Y>>(
 {
     let mut made = List::new(alloc);
     for (place, item) in items.iter().enumerate() {
-        match by.convert(alloc, item) {
-            Ok(Some(one)) => {
-                if let Err(refused) = made.push(one) {
-                    drop(made);
-                    return Err(refused);
-                }
-            }
-            Ok(None) => {
-                drop(made);
-                return Ok(Err(place));
-            }
-            Err(refused) => {
-                drop(made);
-                return Err(refused);
-            }
-        }
+        let Some(one) = by.convert(alloc, item)? else {
+            return Ok(Err(place));
+        };
+        made.push(one)?;
     }
     Ok(Ok(made))
 }

@@ -1,4 +1,6 @@
 //! Rules 1 and 2: the document and its shape.
+#![tactic(auto, unfolding(crate::specs::Shape::parts_of))]
+
 ghost use Rattle.std.specs.Prelude.{◌≡◌, ◌⊎◌, IfOk, IfErr, Some, None, option_map, Ok, Err};
 ghost use Rattle.serde_json.specs.View.{view};
 ghost use Rattle.lio_draft.specs.Shape.{parts_of};
@@ -52,7 +54,6 @@ struct Parts<'v> {
 }
 
 /// The parts of a document.
-#[tactic(auto, unfolding(crate::specs::Shape::parts_of))]
 fn parts_of<'v>(value: &'v Value) -> Option<Parts<'v>>
     ensures { option_map parts_view result ≡ parts_of (view value.now) }
 {
@@ -107,37 +108,17 @@ fn drafted(alloc: Global, parts: &Parts<'_>) -> Result<Draft, PolicyFault>
     let first_input = first_channel + parts.channels.len() as u128;
     let first_task = first_input + parts.inputs.len() as u128;
     let principals = each_entry(alloc, &Shape, parts.principals, SHAPE, FIRST_PRINCIPAL)?;
-    let channels = match each_entry(alloc, &Shape, parts.channels, SHAPE, first_channel) {
-        Ok(channels) => channels,
-        Err(fault) => {
-            drop(principals);
-            return Err(fault);
-        }
-    };
-    let inputs = match each_entry(alloc, &Shape, parts.inputs, SHAPE, first_input) {
-        Ok(inputs) => inputs,
-        Err(fault) => {
-            drop(principals);
-            drop(channels);
-            return Err(fault);
-        }
-    };
-    match each_entry(alloc, &Shape, parts.tasks, SHAPE, first_task) {
-        Ok(tasks) => Ok(Draft {
-            version: parts.version,
-            longest: parts.longest,
-            principals,
-            channels,
-            inputs,
-            tasks,
-        }),
-        Err(fault) => {
-            drop(principals);
-            drop(channels);
-            drop(inputs);
-            Err(fault)
-        }
-    }
+    let channels = each_entry(alloc, &Shape, parts.channels, SHAPE, first_channel)?;
+    let inputs = each_entry(alloc, &Shape, parts.inputs, SHAPE, first_input)?;
+    let tasks = each_entry(alloc, &Shape, parts.tasks, SHAPE, first_task)?;
+    Ok(Draft {
+        version: parts.version,
+        longest: parts.longest,
+        principals,
+        channels,
+        inputs,
+        tasks,
+    })
 }
 
 /// The draft that a text is, or the first rule on its shape that it breaks with the first entry

@@ -1,4 +1,6 @@
 //! Looking into a JSON value.
+#![tactic(auto, unfolding(crate::specs::Shape::of_32_bits))]
+
 ghost use Rattle.std.specs.Prelude.{◌≡◌, IfOk, map, option_map};
 ghost use Rattle.serde_json.specs.Find.{as_str};
 ghost use Rattle.serde_json.specs.View.{view};
@@ -73,7 +75,6 @@ pub(crate) fn whole_at(value: &Value, key: &str) -> Option<Option<u64>>
 }
 
 /// A number that has 32 bits.
-#[tactic(auto, unfolding(crate::specs::Shape::of_32_bits))]
 fn of_32_bits(number: u64) -> Option<u32>
     ensures { result ≡ spec.of_32_bits number }
 {

@@ -1,4 +1,6 @@
 //! From JSON values to drafts.
+#![tactic(auto, unfolding(crate::specs::Shape::arg_of, crate::specs::Shape::plain_arg_of))]
+
 ghost use Rattle.std.specs.Prelude.{◌≡◌, IfOk};
 ghost use Rattle.serde_json.specs.View.{view};
 ghost use Rattle.serde_json.specs.Find.{as_str};
@@ -58,23 +60,13 @@ fn file_draft(alloc: Global, value: &Value) -> Result<Option<FileDraft>, NoMemor
     let Some((name, label)) = texts_at(alloc, value, "name", "label")? else {
         return Ok(None);
     };
-    match text_at(alloc, value, "file") {
-        Ok(Some(file)) => Ok(Some(FileDraft { name, label, file })),
-        Ok(None) => {
-            drop(name);
-            drop(label);
-            Ok(None)
-        }
-        Err(refused) => {
-            drop(name);
-            drop(label);
-            Err(refused)
-        }
-    }
+    let Some(file) = text_at(alloc, value, "file")? else {
+        return Ok(None);
+    };
+    Ok(Some(FileDraft { name, label, file }))
 }
 
 /// The argument that a value is.
-#[tactic(auto, unfolding(crate::specs::Shape::arg_of))]
 fn arg_draft(alloc: Global, value: &Value) -> Result<Option<ArgDraft>, NoMemory>
     ensures { IfOk result (λ draft. draft ≡ spec.arg_of (view value.now)) }
 {
@@ -97,7 +89,6 @@ fn arg_draft(alloc: Global, value: &Value) -> Result<Option<ArgDraft>, NoMemory>
 }
 
 /// The argument that a value is, where it is a number, a truth value or nothing.
-#[tactic(auto, unfolding(crate::specs::Shape::plain_arg_of))]
 fn plain_arg(value: &Value) -> Option<ArgDraft>
     ensures { result ≡ spec.plain_arg_of (view value.now) }
 {
@@ -136,17 +127,10 @@ fn texts_at(
     let Some(first) = text_at(alloc, value, first)? else {
         return Ok(None);
     };
-    match text_at(alloc, value, second) {
-        Ok(Some(second)) => Ok(Some((first, second))),
-        Ok(None) => {
-            drop(first);
-            Ok(None)
-        }
-        Err(refused) => {
-            drop(first);
-            Err(refused)
-        }
-    }
+    let Some(second) = text_at(alloc, value, second)? else {
+        return Ok(None);
+    };
+    Ok(Some((first, second)))
 }
 
 /// The texts of a task.
@@ -165,28 +149,19 @@ fn task_texts(alloc: Global, value: &Value) -> Result<Option<TaskTexts>, NoMemor
     let Some((name, proc_name)) = texts_at(alloc, value, "name", "proc")? else {
         return Ok(None);
     };
-    match texts_at(alloc, value, "label", "clearance") {
-        Ok(Some((label, clearance))) => Ok(Some(TaskTexts {
-            name,
-            proc_name,
-            label,
-            clearance,
-        })),
-        Ok(None) => {
-            drop(name);
-            drop(proc_name);
-            Ok(None)
-        }
-        Err(refused) => {
-            drop(name);
-            drop(proc_name);
-            Err(refused)
-        }
-    }
+    let Some((label, clearance)) = texts_at(alloc, value, "label", "clearance")? else {
+        return Ok(None);
+    };
+    Ok(Some(TaskTexts {
+        name,
+        proc_name,
+        label,
+        clearance,
+    }))
 }
 
 /// The task that a value is.
-#[tactic(auto, using(crate::proofs::ShapeLemmas::no_texts), unfolding(crate::specs::Shape::task_of))]
+#[tactic(auto, unfolding(crate::specs::Shape::task_of))]
 fn task_draft(alloc: Global, value: &Value) -> Result<Option<TaskDraft>, NoMemory>
     ensures { IfOk result (λ draft. draft ≡ spec.task_of (view value.now)) }
 {
@@ -208,26 +183,18 @@ fn task_draft(alloc: Global, value: &Value) -> Result<Option<TaskDraft>, NoMemor
         return Ok(None);
     };
     let (Some(turns), Some(cells)) = (count_at(value, "turns"), count_at(value, "cells")) else {
-        drop(texts);
         return Ok(None);
     };
-    match args_at(alloc, value, "args") {
-        Ok(Some(args)) => Ok(Some(TaskDraft {
-            name: texts.name,
-            proc_name: texts.proc_name,
-            label: texts.label,
-            clearance: texts.clearance,
-            turns,
-            cells,
-            args,
-        })),
-        Ok(None) => {
-            drop(texts);
-            Ok(None)
-        }
-        Err(refused) => {
-            drop(texts);
-            Err(refused)
-        }
-    }
+    let Some(args) = args_at(alloc, value, "args")? else {
+        return Ok(None);
+    };
+    Ok(Some(TaskDraft {
+        name: texts.name,
+        proc_name: texts.proc_name,
+        label: texts.label,
+        clearance: texts.clearance,
+        turns,
+        cells,
+        args,
+    }))
 }
