@@ -1,4 +1,6 @@
 //! Rule 7: arguments.
+#![tactic(auto, unfolding(crate::specs::Rules::task_entry))]
+
 ghost use Rattle.std.specs.Prelude.{◌≡◌, IfOk};
 ghost use Rattle.std.specs.List.{filter_map};
 ghost use Rattle.lio_draft.specs.Failing.{entries, Passes};
@@ -89,18 +91,11 @@ fn copied_parts(alloc: Global, task: &LabelledTask) -> Result<(Text, Text, Label
         × (parts.2 ≡ task.now.label) × (parts.3 ≡ task.now.clearance)) }
 {
     let (name, proc_name) = copied_texts(alloc, &task.name, &task.proc_name)?;
-    match copied_labels(alloc, task) {
-        Ok((label, clearance)) => Ok((name, proc_name, label, clearance)),
-        Err(refused) => {
-            drop(name);
-            drop(proc_name);
-            Err(refused)
-        }
-    }
+    let (label, clearance) = copied_labels(alloc, task)?;
+    Ok((name, proc_name, label, clearance))
 }
 
 /// A task with its arguments, if what they name is known.
-#[tactic(auto, unfolding(crate::specs::Rules::task_entry))]
 fn task_entry(
     alloc: Global,
     task: &LabelledTask,
@@ -111,21 +106,16 @@ fn task_entry(
     let Ok(args) = each(alloc, known, task.args.as_slice())? else {
         return Ok(None);
     };
-    match copied_parts(alloc, task) {
-        Ok((name, proc_name, label, clearance)) => Ok(Some(TaskEntry {
-            name,
-            proc_name,
-            label,
-            clearance,
-            turns: task.turns,
-            cells: task.cells,
-            args,
-        })),
-        Err(error) => {
-            drop(args);
-            Err(error)
-        }
-    }
+    let (name, proc_name, label, clearance) = copied_parts(alloc, task)?;
+    Ok(Some(TaskEntry {
+        name,
+        proc_name,
+        label,
+        clearance,
+        turns: task.turns,
+        cells: task.cells,
+        args,
+    }))
 }
 
 /// The tasks of a draft with their arguments.

@@ -16,13 +16,8 @@ pub(crate) fn copied_texts(
     ensures { IfOk result (λ texts. (texts.0 ≡ first.now) × (texts.1 ≡ second.now)) }
 {
     let first = first.copy(alloc)?;
-    match second.copy(alloc) {
-        Ok(second) => Ok((first, second)),
-        Err(refused) => {
-            drop(first);
-            Err(refused)
-        }
-    }
+    let second = second.copy(alloc)?;
+    Ok((first, second))
 }
 
 /// Copies of the label and the clearance of a task.
@@ -31,11 +26,6 @@ pub(crate) fn copied_labels(alloc: Global, task: &LabelledTask) -> Result<(Label
         × (labels.1 ≡ task.now.clearance)) }
 {
     let label = task.label.copy(alloc)?;
-    match task.clearance.copy(alloc) {
-        Ok(clearance) => Ok((label, clearance)),
-        Err(refused) => {
-            drop(label);
-            Err(refused)
-        }
-    }
+    let clearance = task.clearance.copy(alloc)?;
+    Ok((label, clearance))
 }

@@ -74,7 +74,5 @@ pub(crate) fn check_files(alloc: Global, draft: &Draft) -> Result<(), PolicyFaul
     ensures { Passes RULE 0 (entries (files_fail draft.now)) result (λ _. Unit {0}) }
 {
     let mut files = Table::new(alloc);
-    let checked = add_files(alloc, draft, &mut files);
-    drop(files);
-    checked
+    add_files(alloc, draft, &mut files)
 }

@@ -51,19 +51,10 @@ impl Conversion<FileDraft, FileEntry> for Names {
 
     fn convert(&self, alloc: Global, from: &FileDraft) -> Result<Option<FileEntry>, NoMemory> {
         let (name, file) = copied_texts(alloc, &from.name, &from.file)?;
-        match label_of(alloc, &from.label, self) {
-            Ok(Some(label)) => Ok(Some(FileEntry { name, label, file })),
-            Ok(None) => {
-                drop(name);
-                drop(file);
-                Ok(None)
-            }
-            Err(refused) => {
-                drop(name);
-                drop(file);
-                Err(refused)
-            }
-        }
+        let Some(label) = label_of(alloc, &from.label, self)? else {
+            return Ok(None);
+        };
+        Ok(Some(FileEntry { name, label, file }))
     }
 }
 
@@ -109,17 +100,10 @@ fn labels_of(
     let Some(label) = label_of(alloc, &task.label, names)? else {
         return Ok(None);
     };
-    match label_of(alloc, &task.clearance, names) {
-        Ok(Some(clearance)) => Ok(Some((label, clearance))),
-        Ok(None) => {
-            drop(label);
-            Ok(None)
-        }
-        Err(refused) => {
-            drop(label);
-            Err(refused)
-        }
-    }
+    let Some(clearance) = label_of(alloc, &task.clearance, names)? else {
+        return Ok(None);
+    };
+    Ok(Some((label, clearance)))
 }
 
 /// A task with these labels and arguments.
@@ -132,27 +116,20 @@ fn with_args(
 ) -> Result<LabelledTask, NoMemory>
     ensures { IfOk result (λ made. made ≡ spec.with_args task.now label clearance args) }
 {
-    match copied_texts(alloc, &task.name, &task.proc_name) {
-        Ok((name, proc_name)) => Ok(LabelledTask {
-            name,
-            proc_name,
-            label,
-            clearance,
-            turns: task.turns,
-            cells: task.cells,
-            args,
-        }),
-        Err(refused) => {
-            drop(label);
-            drop(clearance);
-            drop(args);
-            Err(refused)
-        }
-    }
+    let (name, proc_name) = copied_texts(alloc, &task.name, &task.proc_name)?;
+    Ok(LabelledTask {
+        name,
+        proc_name,
+        label,
+        clearance,
+        turns: task.turns,
+        cells: task.cells,
+        args,
+    })
 }
 
 /// A task with its labels, if they can be read.
-#[tactic(auto, using(crate::proofs::RuleLemmas::no_labels), unfolding(crate::specs::Rules::labelled_task))]
+#[tactic(auto, unfolding(crate::specs::Rules::labelled_task))]
 fn labelled_task(
     alloc: Global,
     task: &TaskDraft,
@@ -163,19 +140,10 @@ fn labelled_task(
     let Some((label, clearance)) = labels_of(alloc, task, names)? else {
         return Ok(None);
     };
-    match each(alloc, names, task.args.as_slice()) {
-        Ok(Ok(args)) => Ok(Some(with_args(alloc, task, label, clearance, args)?)),
-        Ok(Err(_place)) => {
-            drop(label);
-            drop(clearance);
-            Ok(None)
-        }
-        Err(refused) => {
-            drop(label);
-            drop(clearance);
-            Err(refused)
-        }
-    }
+    let Ok(args) = each(alloc, names, task.args.as_slice())? else {
+        return Ok(None);
+    };
+    Ok(Some(with_args(alloc, task, label, clearance, args)?))
 }
 
 /// The channels, inputs and tasks of a draft with their labels.

@@ -66,13 +66,8 @@ fn add_principals(alloc: Global, principals: &[Text], first: u128) -> Result<Nam
         (λ names. names ≡ principals.now) }
 {
     let mut names = Names::new(alloc)?;
-    match add_all(alloc, &mut names, principals, first) {
-        Ok(()) => Ok(names),
-        Err(fault) => {
-            drop(names);
-            Err(fault)
-        }
-    }
+    add_all(alloc, &mut names, principals, first)?;
+    Ok(names)
 }
 
 /// Whether these bytes are no name.
@@ -142,31 +137,12 @@ pub(crate) fn read_names(alloc: Global, draft: &Draft) -> Result<Named, PolicyFa
         × (named.inputs ≡ file_names draft.now.inputs)) }
 {
     let names = add_principals(alloc, draft.principals.as_slice(), FIRST_PRINCIPAL)?;
-    let channels = match read_file_names(alloc, draft.channels.as_slice(), first_channel(draft)) {
-        Ok(channels) => channels,
-        Err(fault) => {
-            drop(names);
-            return Err(fault);
-        }
-    };
-    let inputs = match read_file_names(alloc, draft.inputs.as_slice(), first_input(draft)) {
-        Ok(inputs) => inputs,
-        Err(fault) => {
-            drop(names);
-            drop(channels);
-            return Err(fault);
-        }
-    };
-    let named = Named {
+    let channels = read_file_names(alloc, draft.channels.as_slice(), first_channel(draft))?;
+    let inputs = read_file_names(alloc, draft.inputs.as_slice(), first_input(draft))?;
+    check_task_names(alloc, draft.tasks.as_slice(), first_task(draft))?;
+    Ok(Named {
         names,
         channels,
         inputs,
-    };
-    match check_task_names(alloc, draft.tasks.as_slice(), first_task(draft)) {
-        Ok(()) => Ok(named),
-        Err(fault) => {
-            drop(named);
-            Err(fault)
-        }
-    }
+    })
 }

@@ -58,21 +58,9 @@ fn read_declarations(alloc: Global, draft: &Draft) -> Result<Declarations, Polic
 {
     check_version(draft)?;
     let named = read_names(alloc, draft)?;
-    let labelled = match read_labels(alloc, draft, &named.names) {
-        Ok(labelled) => labelled,
-        Err(fault) => {
-            drop(named);
-            return Err(fault);
-        }
-    };
-    match check_flow(draft, labelled.tasks.as_slice()) {
-        Ok(()) => Ok(Declarations { named, labelled }),
-        Err(fault) => {
-            drop(named);
-            drop(labelled);
-            Err(fault)
-        }
-    }
+    let labelled = read_labels(alloc, draft, &named.names)?;
+    check_flow(draft, labelled.tasks.as_slice())?;
+    Ok(Declarations { named, labelled })
 }
 
 /// What a draft does with what it declares: its tasks with their arguments, and its longest text.
@@ -111,23 +99,14 @@ fn judge(alloc: Global, draft: &Draft) -> Result<Policy, PolicyFault>
         channels: labelled.channels,
         input_names: named.inputs,
     };
-    let uses = read_uses(alloc, draft, &known, labelled.tasks.as_slice());
-    drop(labelled.tasks);
-    match uses {
-        Ok(uses) => Ok(Policy {
-            longest: uses.longest,
-            names: named.names,
-            channels: known.into_channels(),
-            inputs: labelled.inputs,
-            tasks: uses.tasks,
-        }),
-        Err(fault) => {
-            drop(named.names);
-            drop(known);
-            drop(labelled.inputs);
-            Err(fault)
-        }
-    }
+    let uses = read_uses(alloc, draft, &known, labelled.tasks.as_slice())?;
+    Ok(Policy {
+        longest: uses.longest,
+        names: named.names,
+        channels: known.into_channels(),
+        inputs: labelled.inputs,
+        tasks: uses.tasks,
+    })
 }
 
 /// The policy that a text is, or the first rule that it breaks with the first entry that does.
@@ -136,12 +115,6 @@ pub fn read_policy(alloc: Global, bytes: &[u8]) -> Result<Policy, PolicyFault>
     ensures fault { IfErr result (λ fault. (fault ≡ PolicyFault.NoMemory)
         ⊎ (policy_of bytes.now ≡ Err fault)) }
 {
-    match read_draft(alloc, bytes) {
-        Ok(draft) => {
-            let policy = judge(alloc, &draft);
-            drop(draft);
-            policy
-        }
-        Err(fault) => Err(fault),
-    }
+    let draft = read_draft(alloc, bytes)?;
+    judge(alloc, &draft)
 }

@@ -13,35 +13,38 @@ returns-in_err-names c =
     let h = rw c.as_slice.ensures at c.in_err-names.ensures in
     rw (p.1, p.2) (fault_at_principals RULE (names_fail d) c.in_err-names.field-0.0 refl h)
 
-pub returns-in-Err : goal.returns-in-Err
-returns-in-Err c =
+pub returns-in_err-channels : goal.returns-in_err-channels
+returns-in_err-channels c =
     let d = c.args.draft.now in
+    let p = err_from_is_err_and c.from_residual-in_err-channels.result c.from_residual-in_err-channels.ensures.1 in
     let np = rw c.as_slice.ensures at c.in_ok-names.ensures.0 in
-    let h = rw (c.as_slice-2.ensures, c.first_channel.ensures.number) at c.in-Err.ensures in
-    fault_in_channels RULE _ _ _ (names_fail d) c.in-Err.fault (names_lengths d) refl np h
+    let h = rw (c.as_slice-2.ensures, c.first_channel.ensures.number) at c.in_err-channels.ensures in
+    rw (p.1, p.2) (fault_in_channels RULE _ _ _ (names_fail d) c.in_err-channels.field-0.0 (names_lengths d) refl np h)
 
-pub returns-in-Err-read_file_names : goal.returns-in-Err-read_file_names
-returns-in-Err-read_file_names c =
+pub returns-in_err-inputs : goal.returns-in_err-inputs
+returns-in_err-inputs c =
     let d = c.args.draft.now in
+    let p = err_from_is_err_and c.from_residual-in_err-inputs.result c.from_residual-in_err-inputs.ensures.1 in
     let np = rw c.as_slice.ensures at c.in_ok-names.ensures.0 in
-    let nc = rw (c.as_slice-2.ensures, c.first_channel.ensures.number) at c.in-Ok.ensures.0 in
-    let h = rw (c.as_slice-3.ensures, c.first_input.ensures.number) at c.in-Err-read_file_names.ensures in
-    fault_in_inputs RULE _ _ _ (names_fail d) c.in-Err-read_file_names.fault (names_lengths d) refl np nc h
+    let nc = rw (c.as_slice-2.ensures, c.first_channel.ensures.number) at c.in_ok-channels.ensures.0 in
+    let h = rw (c.as_slice-3.ensures, c.first_input.ensures.number) at c.in_err-inputs.ensures in
+    rw (p.1, p.2) (fault_in_inputs RULE _ _ _ (names_fail d) c.in_err-inputs.field-0.0 (names_lengths d) refl np nc h)
 
-pub returns-in-Err-check_task_names : goal.returns-in-Err-check_task_names
-returns-in-Err-check_task_names c =
+pub returns-in_err-check_task_names : goal.returns-in_err-check_task_names
+returns-in_err-check_task_names c =
     let d = c.args.draft.now in
+    let p = err_from_is_err_and c.from_residual-in_err-check_task_names.result c.from_residual-in_err-check_task_names.ensures.1 in
     let np = rw c.as_slice.ensures at c.in_ok-names.ensures.0 in
-    let nc = rw (c.as_slice-2.ensures, c.first_channel.ensures.number) at c.in-Ok.ensures.0 in
-    let ni = rw (c.as_slice-3.ensures, c.first_input.ensures.number) at c.in-Ok-read_file_names.ensures.0 in
-    let h = rw (c.as_slice-4.ensures, c.first_task.ensures.number) at c.in-Err-check_task_names.ensures in
-    fault_in_tasks RULE _ _ _ (names_fail d) c.in-Err-check_task_names.fault (names_lengths d) refl np nc ni h
+    let nc = rw (c.as_slice-2.ensures, c.first_channel.ensures.number) at c.in_ok-channels.ensures.0 in
+    let ni = rw (c.as_slice-3.ensures, c.first_input.ensures.number) at c.in_ok-inputs.ensures.0 in
+    let h = rw (c.as_slice-4.ensures, c.first_task.ensures.number) at c.in_err-check_task_names.ensures in
+    rw (p.1, p.2) (fault_in_tasks RULE _ _ _ (names_fail d) c.in_err-check_task_names.field-0.0 (names_lengths d) refl np nc ni h)
 
-pub returns-in-Ok-check_task_names : goal.returns-in-Ok-check_task_names
-returns-in-Ok-check_task_names c =
+pub returns : goal.returns
+returns c =
     let d = c.args.draft.now in
     let np = rw c.as_slice.ensures at c.in_ok-names.ensures in
-    let nc = rw (c.as_slice-2.ensures, c.first_channel.ensures.number) at c.in-Ok.ensures in
-    let ni = rw (c.as_slice-3.ensures, c.first_input.ensures.number) at c.in-Ok-read_file_names.ensures in
-    let nt = rw (c.as_slice-4.ensures, c.first_task.ensures.number) at c.in-Ok-check_task_names.ensures in
+    let nc = rw (c.as_slice-2.ensures, c.first_channel.ensures.number) at c.in_ok-channels.ensures in
+    let ni = rw (c.as_slice-3.ensures, c.first_input.ensures.number) at c.in_ok-inputs.ensures in
+    let nt = rw (c.as_slice-4.ensures, c.first_task.ensures.number) at c.in_ok-check_task_names.ensures in
     (none_in_all _ _ _ (names_fail d) (names_lengths d) refl np.0 nc.0 ni.0 nt.0, (np.1, nc.1, ni.1))

@@ -12,15 +12,18 @@ returns-in_err-named c =
     let p = err_from_is_err_and c.from_residual-in_err-named.result c.from_residual-in_err-named.ensures.1 in
     rw (p.1, p.2) (names_decide c.args.draft.now c.in_err-named.field-0.0 c.in_ok-check_version.ensures.0 c.in_err-named.ensures)
 
-pub returns-in-Err : goal.returns-in-Err
-returns-in-Err c = labels_decide c.args.draft.now c.in-Err.fault c.in_ok-check_version.ensures.0 c.in_ok-named.ensures.0 c.in-Err.ensures
+pub returns-in_err-labelled : goal.returns-in_err-labelled
+returns-in_err-labelled c =
+    let p = err_from_is_err_and c.from_residual-in_err-labelled.result c.from_residual-in_err-labelled.ensures.1 in
+    rw (p.1, p.2) (labels_decide c.args.draft.now c.in_err-labelled.field-0.0 c.in_ok-check_version.ensures.0 c.in_ok-named.ensures.0 c.in_err-labelled.ensures)
 
-pub returns-in-Err-check_flow : goal.returns-in-Err-check_flow
-returns-in-Err-check_flow c =
-    flow_decides c.args.draft.now c.in-Err-check_flow.fault c.in_ok-check_version.ensures.0 c.in_ok-named.ensures.0 c.in-Ok.ensures.0 c.in-Err-check_flow.ensures
+pub returns-in_err-check_flow : goal.returns-in_err-check_flow
+returns-in_err-check_flow c =
+    let p = err_from_is_err_and c.from_residual-in_err-check_flow.result c.from_residual-in_err-check_flow.ensures.1 in
+    rw (p.1, p.2) (flow_decides c.args.draft.now c.in_err-check_flow.field-0.0 c.in_ok-check_version.ensures.0 c.in_ok-named.ensures.0 c.in_ok-labelled.ensures.0 c.in_err-check_flow.ensures)
 
-pub returns-in-Ok-check_flow : goal.returns-in-Ok-check_flow
-returns-in-Ok-check_flow c = (
-  declarations_pass c.args.draft.now c.in_ok-check_version.ensures.0 c.in_ok-named.ensures.0 c.in-Ok.ensures.0 c.in-Ok-check_flow.ensures.0,
-  (c.in_ok-named.ensures.1.0, c.in_ok-named.ensures.1.1, c.in_ok-named.ensures.1.2, c.in-Ok.ensures.1.0, c.in-Ok.ensures.1.1, c.in-Ok.ensures.1.2),
+pub returns : goal.returns
+returns c = (
+  declarations_pass c.args.draft.now c.in_ok-check_version.ensures.0 c.in_ok-named.ensures.0 c.in_ok-labelled.ensures.0 c.in_ok-check_flow.ensures.0,
+  (c.in_ok-named.ensures.1.0, c.in_ok-named.ensures.1.1, c.in_ok-named.ensures.1.2, c.in_ok-labelled.ensures.1.0, c.in_ok-labelled.ensures.1.1, c.in_ok-labelled.ensures.1.2),
 )
