@@ -1,4 +1,6 @@
 //! Journals.
+#![tactic(auto, using(crate::proofs::RisingLemmas::rising_with))]
+
 ghost use Rattle.std.specs.Prelude.{◌≡◌, ◌++◌, [], ◌∷◌, OnOk, OnErr};
 ghost use Rattle.lio_events.specs.Rising.{AreRising, IsLater};
 
@@ -45,7 +47,6 @@ impl Journal {
 
     /// Puts an entry last, whose ticket is greater than all that are there. After a refusal the
     /// journal is as before.
-    #[tactic(auto, using(crate::proofs::RisingLemmas::rising_with))]
     pub fn push(&mut self, entry: Entry) -> Result<(), NoMemory>
         requires { IsLater self.old entry }
         ensures ok { OnOk result (self.new ≡ self.old ++ entry ∷ []) }

@@ -1,4 +1,6 @@
 //! Printing entries and journals.
+#![tactic(auto, unfolding(crate::specs::EntryText::line_text))]
+
 ghost use Rattle.std.specs.Prelude.{◌≡◌, ◌++◌, Bool, List, ℕ, Option, All, codes, decimal, OnOk};
 ghost use Rattle.std.specs.Prelude.{IfOk, if◌then◌else◌};
 ghost use Rattle.lio_labels.specs.LabelPrint.{AreNamed};
@@ -235,7 +237,6 @@ fn print_target(out: &mut Vec<u8>, target: Option<u32>) -> Result<(), NoMemory>
 }
 
 /// Appends the line of an entry without its ticket.
-#[tactic(auto, unfolding(crate::specs::EntryText::line_text))]
 fn print_line(out: &mut Vec<u8>, entry: &Entry, names: &Names) -> Result<(), NoMemory>
     requires { IsPrintable names.now entry.now }
     ensures { OnOk result (out.new.items ≡ out.old.items ++ line_text names.now entry.now) }
