@@ -105,12 +105,7 @@ impl Node {
         requires takes_part { IsTrue (takes_part self.old.state act.now) }
         ensures { self.new ≡ node_of (state_after self.old.state act.now) }
     {
-        if matches!(&self.room, Room::Nothing) {
-            return;
-        }
-        let state = mem::replace(&mut self.state, State::Absent);
         let room = mem::replace(&mut self.room, Room::Nothing);
-        let state = served::with_room(state, room, &mut self.spare);
-        assign(&mut self.state, state);
+        served::serve(&mut self.state, room, &mut self.spare);
     }
 }

@@ -7,110 +7,63 @@ use crate::room::Room;
 use crate::state::State;
 use lio_clauses::assign;
 use lio_values::{Content, Text, Value};
+use std::mem;
 
-/// A reference or a variable that holds the value.
-fn hold(state: State, value: Value) -> State
-    ensures { result ≡ filled (written state value) (Some value) }
+/// Puts a value into a reference or a variable.
+fn hold(state: &mut State, value: Value)
+    ensures { state.new ≡ filled (written state.old value) (Some value) }
 {
     match state {
-        State::Ref(label, before) => {
-            drop(before);
-            State::Ref(label, value)
-        }
-        State::Var(label, before) => {
-            drop(before);
-            State::Var(label, Some(value))
-        }
-        State::Absent => {
-            drop(value);
-            State::Absent
-        }
-        State::Chan(label, received) => {
-            drop(value);
-            State::Chan(label, received)
-        }
-        State::Job(label, content) => {
-            drop(value);
-            State::Job(label, content)
-        }
+        State::Ref(_, held) => assign(held, value),
+        State::Var(_, held) => assign(held, Some(value)),
+        State::Absent | State::Chan(_, _) | State::Job(_, _) => drop(value),
     }
 }
 
-/// A variable that is empty.
-fn empty(state: State) -> State
-    ensures { result ≡ filled state None }
+/// Empties a variable.
+fn empty(state: &mut State)
+    ensures { state.new ≡ filled state.old None }
 {
     match state {
-        State::Var(label, taken) => {
-            drop(taken);
-            State::Var(label, None)
-        }
-        State::Absent => State::Absent,
-        State::Ref(label, value) => State::Ref(label, value),
-        State::Chan(label, received) => State::Chan(label, received),
-        State::Job(label, content) => State::Job(label, content),
+        State::Var(_, held) => assign(held, None),
+        State::Absent | State::Ref(_, _) | State::Chan(_, _) | State::Job(_, _) => {}
     }
 }
 
-/// A job whose task has ended with this content.
-fn end(state: State, content: Content) -> State
-    ensures { result ≡ ended state content }
+/// Ends the task of a job with this content.
+fn end(state: &mut State, content: Content)
+    ensures { state.new ≡ ended state.old content }
 {
     match state {
-        State::Job(label, before) => {
-            drop(before);
-            State::Job(label, Some(content))
-        }
-        State::Absent => {
-            drop(content);
-            State::Absent
-        }
-        State::Ref(label, value) => {
-            drop(content);
-            State::Ref(label, value)
-        }
-        State::Var(label, value) => {
-            drop(content);
-            State::Var(label, value)
-        }
-        State::Chan(label, received) => {
-            drop(content);
-            State::Chan(label, received)
-        }
+        State::Job(_, result) => assign(result, Some(content)),
+        State::Absent | State::Ref(_, _) | State::Var(_, _) | State::Chan(_, _) => drop(content),
     }
 }
 
-/// A channel that has received these bytes in all. What it had received before is left in `spare`.
-fn receive(state: State, bytes: Text, spare: &mut Text) -> State
-    ensures state { result ≡ with_bytes state bytes }
-    ensures spare { spare.new ≡ left_by state spare.old }
+/// Gives a channel the bytes that it has received in all. What it had received before is left in
+/// `spare`.
+fn receive(state: &mut State, bytes: Text, spare: &mut Text)
+    ensures state { state.new ≡ with_bytes state.old bytes }
+    ensures spare { spare.new ≡ left_by state.old spare.old }
 {
     match state {
-        State::Chan(label, received) => {
-            assign(spare, received);
-            State::Chan(label, bytes)
-        }
-        State::Absent => State::Absent,
-        State::Ref(label, value) => State::Ref(label, value),
-        State::Var(label, value) => State::Var(label, value),
-        State::Job(label, content) => State::Job(label, content),
+        State::Chan(_, received) => assign(spare, mem::replace(received, bytes)),
+        State::Absent | State::Ref(_, _) | State::Var(_, _) | State::Job(_, _) => {}
     }
 }
 
-/// The state that the room makes. What a channel had received before is left in `spare`.
-pub fn with_room(state: State, room: Room, spare: &mut Text) -> State
-    ensures state { result ≡ state_with state room }
-    ensures spare { spare.new ≡ left_with state room spare.old }
+/// Makes of a state what the room makes of it. What a channel had received before is left in
+/// `spare`.
+pub fn serve(state: &mut State, room: Room, spare: &mut Text)
+    ensures state { state.new ≡ state_with state.old room }
+    ensures spare { spare.new ≡ left_with state.old room spare.old }
 {
     match room {
-        Room::Nothing => state,
+        Room::Nothing => {}
         Room::Empties => empty(state),
         Room::Holds(value) => hold(state, value),
         Room::Receives(bytes) => receive(state, bytes, spare),
-        Room::Becomes(new) => {
-            drop(state);
-            new
-        }
+        Room::Becomes(new) => assign(state, new),
         Room::Ends(content) => end(state, content),
     }
 }
