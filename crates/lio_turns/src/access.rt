@@ -1,4 +1,6 @@
 //! The plan of an access, whose raise is done.
+#![tactic(auto, unfolding(lio_calculus::specs::Plan::plan_access))]
+
 ghost use Rattle.std.specs.Prelude.{◌≡◌, IfOk};
 ghost use Rattle.lio_values.specs.declared.act.Act.TheVariants as act;
 ghost use Rattle.lio_turns.specs.declared.turn.Turn.TheVariants as turn;
@@ -19,7 +21,6 @@ impl Standing<'_> {
     ghost use Rattle.lio_turns.specs.Turns.{PlansAccess};
 
     /// The turn of an access.
-    #[tactic(auto, unfolding(lio_calculus::specs::Plan::plan_access))]
     pub fn plan_access<'s>(&self, alloc: Global, simple: &'s Simple) -> Attempt<'s>
         ensures { IfOk result (PlansAccess self.now simple.now) }
     {
@@ -33,7 +34,6 @@ impl Standing<'_> {
     }
 
     /// The access of `read X R`
-    #[tactic(auto, unfolding(lio_calculus::specs::Plan::plan_access))]
     fn access_read<'s>(&self, alloc: Global, name: &'s Text, reference: &Operand) -> Attempt<'s>
         ensures { IfOk result (PlansAccess self.now (line.Read name.now reference.now)) }
     {
@@ -49,7 +49,6 @@ impl Standing<'_> {
     }
 
     /// The access of `take X V`
-    #[tactic(auto, unfolding(lio_calculus::specs::Plan::plan_access))]
     fn access_take<'s>(&self, alloc: Global, name: &'s Text, variable: &Operand) -> Attempt<'s>
         ensures { IfOk result (PlansAccess self.now (line.Take name.now variable.now)) }
     {
@@ -61,7 +60,6 @@ impl Standing<'_> {
     }
 
     /// The access of `put V A`
-    #[tactic(auto, unfolding(lio_calculus::specs::Plan::plan_access))]
     fn access_put<'s>(&self, alloc: Global, variable: &Operand, value: &Operand) -> Attempt<'s>
         ensures { IfOk result (PlansAccess self.now (line.Put variable.now value.now)) }
     {
@@ -77,7 +75,6 @@ impl Standing<'_> {
     }
 
     /// The access of `wait X R`
-    #[tactic(auto, unfolding(lio_calculus::specs::Plan::plan_access))]
     fn access_wait<'s>(&self, alloc: Global, name: &'s Text, task_result: &Operand) -> Attempt<'s>
         ensures { IfOk result (PlansAccess self.now (line.Wait name.now task_result.now)) }
     {

@@ -7,7 +7,7 @@ ghost use Rattle.lio_turns.specs.declared.turn.Onward.TheVariants as onward;
 
 use crate::standing::Standing;
 use crate::turn::{Attempt, Onward, Turn};
-use lio_clauses::NoMemory;
+use lio_clauses::{NoMemory, beside};
 use lio_guards::{Verdict, guard};
 use lio_labels::Label;
 use lio_values::{Act, Fault, FaultKind, Held, Op, Reply};
@@ -24,26 +24,16 @@ impl Standing<'_> {
     pub fn fault(&self, alloc: Global, kind: FaultKind) -> Result<Held<Fault>, NoMemory>
         ensures { IfOk result (λ fault. fault ≡ record { kind = kind; at = self.now.label.now }) }
     {
-        match self.label.copy(alloc) {
-            Ok(at) => Held::new(alloc, Fault { kind, at }),
-            Err(error) => {
-                drop(kind);
-                Err(error)
-            }
-        }
+        let (kind, at) = beside(kind, self.label.copy(alloc))?;
+        Held::new(alloc, Fault { kind, at })
     }
 
     /// A refused act, which throws the fault that its reply shows.
     pub fn refused<'s>(&self, alloc: Global, act: Act, kind: FaultKind) -> Attempt<'s>
         ensures { IfOk result (λ planned. planned ≡ refusal self.now act kind) }
     {
-        match self.fault(alloc, kind) {
-            Ok(fault) => throwing(alloc, act, fault),
-            Err(error) => {
-                drop(act);
-                Err(error)
-            }
-        }
+        let (act, fault) = beside(act, self.fault(alloc, kind))?;
+        throw_turn(alloc, act, fault)
     }
 
     /// The refusal where an operand isn't bound or isn't of the needed kind.
@@ -65,33 +55,22 @@ impl Standing<'_> {
     pub fn guarded<'s>(&self, alloc: Global, op: Op, label: &Label, turn: Turn<'s>) -> Attempt<'s>
         ensures { IfOk result (Guards self.now op label.now turn.entry) }
     {
-        match self.verdict(alloc, op, label) {
-            Ok(Verdict::Go(current)) => {
-                drop(current);
-                Ok(turn)
-            }
-            Ok(Verdict::No(kind)) => self.refused(alloc, turn.act(), kind),
-            Err(error) => {
-                drop(turn);
-                Err(error)
-            }
+        let (turn, verdict) = beside(turn, self.verdict(alloc, op, label))?;
+        match verdict {
+            Verdict::Go(_current) => Ok(turn),
+            Verdict::No(kind) => self.refused(alloc, turn.act(), kind),
         }
     }
 }
 
 /// An act that is refused with a fault, which its reply shows.
-fn throwing<'s>(alloc: Global, act: Act, fault: Held<Fault>) -> Attempt<'s>
+fn throw_turn<'s>(alloc: Global, act: Act, fault: Held<Fault>) -> Attempt<'s>
     ensures { IfOk result
         (λ planned. planned ≡ turn.Own act (reply.Refused fault) (onward.Throw fault)) }
 {
-    match fault.copy(alloc) {
-        Ok(shown) => Ok(Turn::Own(act, Reply::Refused(shown), Onward::Throw(fault))),
-        Err(error) => {
-            drop(act);
-            drop(fault);
-            Err(error)
-        }
-    }
+    let shown = fault.copy(alloc);
+    let ((act, fault), shown) = beside((act, fault), shown)?;
+    Ok(Turn::Own(act, Reply::Refused(shown), Onward::Throw(fault)))
 }
 
 /// Both values, where there was memory for them.
@@ -102,12 +81,5 @@ pub fn both<A: Drop, B: Drop>(
     ensures first { IfOk result (λ both. a ≡ Ok both.0) }
     ensures second { IfOk result (λ both. b ≡ Ok both.1) }
 {
-    match (a, b) {
-        (Ok(a), Ok(b)) => Ok((a, b)),
-        (a, b) => {
-            drop(a);
-            drop(b);
-            Err(NoMemory)
-        }
-    }
+    beside(a?, b)
 }

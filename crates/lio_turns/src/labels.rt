@@ -12,7 +12,7 @@ ghost use Rattle.lio_turns.specs.declared.turn.Onward.TheVariants as onward;
 use crate::guarded::both;
 use crate::standing::Standing;
 use crate::turn::{Attempt, Onward, Turn};
-use lio_clauses::NoMemory;
+use lio_clauses::{NoMemory, beside};
 use lio_guards::{Verdict, guard_relabel};
 use lio_labels::{Label, Priv};
 use lio_lines::Operand;
@@ -60,7 +60,7 @@ impl Standing<'_> {
     ) -> Attempt<'s>
         ensures { IfOk result (Seals self.now name.now label.now plain.now) }
     {
-        match sealed(alloc, name, label, plain) {
+        match seal_turn(alloc, name, label, plain) {
             Ok(turn) => self.guarded(alloc, Op::Seal, label, turn),
             Err(error) => Err(error),
         }
@@ -87,7 +87,7 @@ impl Standing<'_> {
         ensures { IfOk result (Unlabels self.now name.now label.now content.now) }
     {
         match self.verdict(alloc, Op::Unlabel, label) {
-            Ok(Verdict::Go(current)) => unlabelled(alloc, name, label, content, current),
+            Ok(Verdict::Go(current)) => unlabel_turn(alloc, name, label, content, current),
             Ok(Verdict::No(kind)) => self.refused_raise(alloc, Op::Unlabel, label, kind),
             Err(error) => Err(error),
         }
@@ -104,13 +104,8 @@ impl Standing<'_> {
         ensures { IfOk result
             (λ planned. planned ≡ refusal self.now (act.Raise op label.now) kind) }
     {
-        match label.copy(alloc) {
-            Ok(asked) => self.refused(alloc, Act::Raise(op, asked), kind),
-            Err(error) => {
-                drop(kind);
-                Err(error)
-            }
-        }
+        let (kind, asked) = beside(kind, label.copy(alloc))?;
+        self.refused(alloc, Act::Raise(op, asked), kind)
     }
 
     /// `taint L`
@@ -128,7 +123,7 @@ impl Standing<'_> {
         ensures { IfOk result (Taints self.now label.now) }
     {
         match self.verdict(alloc, Op::Taint, label) {
-            Ok(Verdict::Go(current)) => tainted(alloc, label, current),
+            Ok(Verdict::Go(current)) => taint_turn(alloc, label, current),
             Ok(Verdict::No(kind)) => self.refused_raise(alloc, Op::Taint, label, kind),
             Err(error) => Err(error),
         }
@@ -148,7 +143,7 @@ impl Standing<'_> {
     fn lowering<'s>(&self, alloc: Global, label: &Label) -> Attempt<'s>
         ensures { IfOk result (Lowers self.now label.now) }
     {
-        match lowered(alloc, label) {
+        match lower_turn(alloc, label) {
             Ok(turn) => self.guarded(alloc, Op::Lower, label, turn),
             Err(error) => Err(error),
         }
@@ -193,13 +188,9 @@ impl Standing<'_> {
             (λ (lines : List Line). plan.releasing (state_of lines self.now) name.now
             (record { label = source.now; content = content.now }) target.now power.now)) }
     {
-        match guard_relabel(alloc, self.label, self.clearance, source, target, power) {
-            Ok(Verdict::Go(current)) => {
-                drop(current);
-                released(alloc, name, source, content, target, power)
-            }
-            Ok(Verdict::No(kind)) => self.refused_release(alloc, source, target, power, kind),
-            Err(error) => Err(error),
+        match guard_relabel(alloc, self.label, self.clearance, source, target, power)? {
+            Verdict::Go(_current) => release_turn(alloc, name, source, content, target, power),
+            Verdict::No(kind) => self.refused_release(alloc, source, target, power, kind),
         }
     }
 
@@ -215,18 +206,13 @@ impl Standing<'_> {
         ensures { IfOk result (λ planned. planned
             ≡ refusal self.now (act.Release source.now target.now power.now content.Hidden) kind) }
     {
-        match hidden_release(alloc, source, target, power) {
-            Ok(act) => self.refused(alloc, act, kind),
-            Err(error) => {
-                drop(kind);
-                Err(error)
-            }
-        }
+        let (kind, act) = beside(kind, hidden_release(alloc, source, target, power))?;
+        self.refused(alloc, act, kind)
     }
 }
 
 /// The turn that seals a plain value.
-fn sealed<'s>(alloc: Global, name: &'s Text, label: &Label, plain: &Plain) -> Attempt<'s>
+fn seal_turn<'s>(alloc: Global, name: &'s Text, label: &Label, plain: &Plain) -> Attempt<'s>
     ensures { IfOk result (λ made. made
         ≡ turn.Own (act.Seal label.now) reply.Done (onward.Seal name.entry label.now plain.now)) }
 {
@@ -241,25 +227,20 @@ fn sealed<'s>(alloc: Global, name: &'s Text, label: &Label, plain: &Plain) -> At
 }
 
 /// The turn that raises the label to this one, by a taint.
-fn tainted<'s>(alloc: Global, label: &Label, current: Label) -> Attempt<'s>
+fn taint_turn<'s>(alloc: Global, label: &Label, current: Label) -> Attempt<'s>
     ensures { IfOk result
         (λ made. made ≡ turn.Own (act.Raise op.Taint label.now) reply.Done (onward.Raise current)) }
 {
-    match label.copy(alloc) {
-        Ok(asked) => Ok(Turn::Own(
-            Act::Raise(Op::Taint, asked),
-            Reply::Done,
-            Onward::Raise(current),
-        )),
-        Err(error) => {
-            drop(current);
-            Err(error)
-        }
-    }
+    let asked = label.copy(alloc)?;
+    Ok(Turn::Own(
+        Act::Raise(Op::Taint, asked),
+        Reply::Done,
+        Onward::Raise(current),
+    ))
 }
 
 /// The turn that lowers the clearance to a label.
-fn lowered<'s>(alloc: Global, label: &Label) -> Attempt<'s>
+fn lower_turn<'s>(alloc: Global, label: &Label) -> Attempt<'s>
     ensures { IfOk result
         (λ made. made ≡ turn.Own (act.Lower label.now) reply.Done (onward.Lower label.now)) }
 {
@@ -273,7 +254,7 @@ fn lowered<'s>(alloc: Global, label: &Label) -> Attempt<'s>
 }
 
 /// The turn that opens a sealed value, at this current label.
-fn unlabelled<'s>(
+fn unlabel_turn<'s>(
     alloc: Global,
     name: &'s Text,
     label: &Label,
@@ -284,16 +265,9 @@ fn unlabelled<'s>(
         (onward.Unlabel name.entry current label.now content.now)) }
 {
     let sealed = both(held_label(alloc, label), held_content(alloc, content));
-    match both(label.copy(alloc), sealed) {
-        Ok((asked, (source, content))) => {
-            let onward = Onward::Unlabel(name, current, source, content);
-            Ok(Turn::Own(Act::Raise(Op::Unlabel, asked), Reply::Done, onward))
-        }
-        Err(error) => {
-            drop(current);
-            Err(error)
-        }
-    }
+    let (asked, (source, content)) = both(label.copy(alloc), sealed)?;
+    let onward = Onward::Unlabel(name, current, source, content);
+    Ok(Turn::Own(Act::Raise(Op::Unlabel, asked), Reply::Done, onward))
 }
 
 /// Two equal labels.
@@ -325,7 +299,7 @@ fn held_content(alloc: Global, content: &Content) -> Result<Held<Content>, NoMem
 }
 
 /// The turn that releases a content.
-fn released<'s>(
+fn release_turn<'s>(
     alloc: Global,
     name: &'s Text,
     source: &Label,
@@ -336,16 +310,9 @@ fn released<'s>(
     ensures { IfOk result (λ made. made ≡ turn.Own (act.Release source.now
         target.now power.now content.now) reply.Done (onward.Release name.entry target.now)) }
 {
-    match both(held_content(alloc, content), target.copy(alloc)) {
-        Ok((content, label)) => match releasing(alloc, source, target, power, content) {
-            Ok(act) => Ok(Turn::Own(act, Reply::Done, Onward::Release(name, label))),
-            Err(error) => {
-                drop(label);
-                Err(error)
-            }
-        },
-        Err(error) => Err(error),
-    }
+    let (content, label) = both(held_content(alloc, content), target.copy(alloc))?;
+    let act = release_act(alloc, source, target, power, content)?;
+    Ok(Turn::Own(act, Reply::Done, Onward::Release(name, label)))
 }
 
 /// The release of no content.
@@ -359,11 +326,11 @@ fn hidden_release(
         (λ made. made ≡ act.Release source.now target.now power.now content.Hidden) }
 {
     let hidden = Held::new(alloc, Content::Hidden)?;
-    releasing(alloc, source, target, power, hidden)
+    release_act(alloc, source, target, power, hidden)
 }
 
 /// The release of a content from a label to another by a privilege.
-fn releasing(
+fn release_act(
     alloc: Global,
     source: &Label,
     target: &Label,
@@ -373,11 +340,6 @@ fn releasing(
     ensures { IfOk result (λ made. made ≡ act.Release source.now target.now power.now content) }
 {
     let labels = both(held_label(alloc, source), held_label(alloc, target));
-    match both(power.copy(alloc), labels) {
-        Ok((by, (from, to))) => Ok(Act::Release(from, to, by, content)),
-        Err(error) => {
-            drop(content);
-            Err(error)
-        }
-    }
+    let (content, (by, (from, to))) = beside(content, both(power.copy(alloc), labels))?;
+    Ok(Act::Release(from, to, by, content))
 }

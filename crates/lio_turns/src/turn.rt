@@ -57,10 +57,10 @@ pub enum Onward<'s> {
     HoldReference(&'s Text, Label),
     /// The name is bound to the handle of the new variable.
     HoldVariable(&'s Text, Label),
-    /// The name is bound to the handle of the child's result; so many numbers behind its own and so
-    /// many turns went to the child.
+    /// The name is bound to the handle of the child's result; that many more numbers and that many
+    /// turns went to the child.
     Fork(&'s Text, Label, u32, u32),
-    /// So many numbers behind its own and so many turns went to the child.
+    /// That many more numbers and that many turns went to the child.
     Spawn(u32, u32),
     /// The name is bound to what was got or told, or the fault that was told is thrown.
     BindReply(&'s Text),

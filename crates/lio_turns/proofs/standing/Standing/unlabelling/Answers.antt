@@ -23,7 +23,7 @@ by task lines name label content verdict =
 pub returns-in-Ok-Go : goal.returns-in-Ok-Go
 returns-in-Ok-Go c =
     let verdict = rw c.in-Ok-Go.field-0-is at c.in-Ok-Go.ensures in
-    IfOk-weaker c.unlabelled.result _ _ (λ made is simple lines. ap (turn_of lines simple) is ∙ ap (by c.args.self.now lines c.args.name.now c.args.label.now c.args.content.now) verdict) c.unlabelled.ensures
+    IfOk-weaker c.unlabel_turn.result _ _ (λ made is simple lines. ap (turn_of lines simple) is ∙ ap (by c.args.self.now lines c.args.name.now c.args.label.now c.args.content.now) verdict) c.unlabel_turn.ensures
 
 pub returns-in-Ok-No : goal.returns-in-Ok-No
 returns-in-Ok-No c =
