@@ -186,24 +186,17 @@ fn birth(
     ensures { IfOk result (λ birth. birth
         ≡ plan.birth_of number values label.now label.now turns (task.now.first + 1) cells) }
 {
-    match both(label.copy(alloc), label.copy(alloc)) {
-        Ok((result, clearance)) => {
-            let birth = Birth {
-                proc_at: number,
-                args: values,
-                result,
-                clearance,
-                turns,
-                first: task.first + 1,
-                cells,
-            };
-            Held::new(alloc, birth)
-        }
-        Err(error) => {
-            drop(values);
-            Err(error)
-        }
-    }
+    let (result, clearance) = both(label.copy(alloc), label.copy(alloc))?;
+    let birth = Birth {
+        proc_at: number,
+        args: values,
+        result,
+        clearance,
+        turns,
+        first: task.first + 1,
+        cells,
+    };
+    Held::new(alloc, birth)
 }
 
 /// An act that makes a child, where there are enough numbers and turns for it.

@@ -170,27 +170,20 @@ fn raising<'s>(alloc: Global, task: &Standing<'_>, op: Op, handle: &Handle) -> A
     ensures { IfOk result (Raises task.now op handle.now) }
 {
     match task.verdict(alloc, op, &handle.label) {
-        Ok(Verdict::Go(current)) => raised(alloc, op, &handle.label, current),
+        Ok(Verdict::Go(current)) => raise_turn(alloc, op, &handle.label, current),
         Ok(Verdict::No(kind)) => task.refused_raise(alloc, op, &handle.label, kind),
         Err(error) => Err(error),
     }
 }
 
 /// The turn that raises the label to this one, before the access.
-fn raised<'s>(alloc: Global, op: Op, label: &Label, current: Label) -> Attempt<'s>
+fn raise_turn<'s>(alloc: Global, op: Op, label: &Label, current: Label) -> Attempt<'s>
     ensures { IfOk result
         (λ made. made ≡ turn.Own (act.Raise op label.now) reply.Done (onward.RaiseTo current)) }
 {
-    match label.copy(alloc) {
-        Ok(asked) => {
-            let onward = Onward::RaiseTo(current);
-            Ok(Turn::Own(Act::Raise(op, asked), Reply::Done, onward))
-        }
-        Err(error) => {
-            drop(current);
-            Err(error)
-        }
-    }
+    let asked = label.copy(alloc)?;
+    let onward = Onward::RaiseTo(current);
+    Ok(Turn::Own(Act::Raise(op, asked), Reply::Done, onward))
 }
 
 /// `read X R`

@@ -51,14 +51,7 @@ impl Known {
     pub(crate) fn into_channels(self) -> FileEntries
         ensures { result ≡ self.channels }
     {
-        let Known {
-            channel_names,
-            channels,
-            input_names,
-        } = self;
-        drop(channel_names);
-        drop(input_names);
-        channels
+        self.channels
     }
 }
 
