@@ -78,3 +78,15 @@ loop_first program task front condition block (Err error) e is = tt
 loop_first program task front condition block (Ok p) e is = λ items first.
     statement_first program task items (While condition.now (block_at (script_lines program.procedures) block)) p
     (subst (λ (f : Front). IsFront (script_lines program.procedures) items f) e first) (λ rest. is program (script_lines program.procedures) rest)
+
+-- what each thing that may come first plans
+pub ruleset firsts = (
+  nothing_first,
+  back_first,
+  mark_first,
+  fault_first,
+  access_first,
+  simple_first,
+  statement_first,
+  try_first,
+)

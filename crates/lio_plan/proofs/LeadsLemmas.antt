@@ -39,3 +39,6 @@ begins_own items statement e = at_own items (begins_at items statement e)
 
 pub loop_begins : (lines : List Line) (items : List Item) (condition : Operand) (block : ℕ) → Begins items (While condition (block_at lines block)) → Begins items (While (condition_of items) (block_at lines block))
 loop_begins lines items condition block e = subst (λ (c : Operand). Begins items (While c (block_at lines block))) (sym (ap condition_of e)) e
+
+-- a loop that comes first is a statement of its own procedure
+pub ruleset loops = (begins_at, begins_own, loop_begins)

@@ -149,20 +149,12 @@ pub(crate) fn plan_call<'s>(
     ensures { IfOk result (λ turn. (longest : ℕ) → PlansBy (program_of script.now longest) task.now
         (line.Call name.now procedure.now arguments.now) turn) }
 {
-    match operands::values(alloc, task.environment(), arguments) {
-        Ok(Some(values)) => match Procedure::find(script, procedure) {
-            Some(procedure) => {
-                let planned = calling(alloc, task, script, name, &values, procedure);
-                drop(values);
-                planned
-            }
-            None => {
-                drop(values);
-                task.bad_type(alloc)
-            }
-        },
-        Ok(None) => task.bad_type(alloc),
-        Err(error) => Err(error),
+    let Some(values) = operands::values(alloc, task.environment(), arguments)? else {
+        return task.bad_type(alloc);
+    };
+    match Procedure::find(script, procedure) {
+        Some(procedure) => calling(alloc, task, script, name, &values, procedure),
+        None => task.bad_type(alloc),
     }
 }
 
@@ -235,11 +227,7 @@ fn ending_with<'s>(alloc: Global, task: &Standing<'_>, value: Value) -> Attempt<
 {
     match value {
         Value::Bare(plain) => ending(alloc, Content::Kept(plain)),
-        Value::Sealed(label, content) => {
-            drop(label);
-            drop(content);
-            task.bad_type(alloc)
-        }
+        Value::Sealed(_label, _content) => task.bad_type(alloc),
     }
 }
 

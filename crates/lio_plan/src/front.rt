@@ -1,4 +1,5 @@
 //! The plan of what comes first.
+#![tactic(auto, using(crate::proofs::LeadsLemmas::at_own))]
 
 ghost use Rattle.std.specs.Prelude.{◌≡◌, IfOk, ◌∷◌, List};
 ghost use Rattle.lio_values.specs.declared.value.Content.TheVariants as content;
@@ -64,7 +65,7 @@ fn without_turns<'s>(alloc: Global, task: &Standing<'_>) -> Result<Planned<'s>, 
 }
 
 /// What the next turn does, of a task with turns left.
-#[tactic(auto, using(crate::proofs::FrontLemmas::nothing_first, crate::proofs::FrontLemmas::back_first, crate::proofs::FrontLemmas::mark_first, crate::proofs::FrontLemmas::fault_first, crate::proofs::FrontLemmas::access_first, crate::proofs::FrontLemmas::simple_first, crate::proofs::FrontLemmas::statement_first, crate::proofs::FrontLemmas::try_first))]
+#[tactic(auto, using(crate::proofs::FrontLemmas::firsts))]
 fn plan_front<'s>(
     alloc: Global,
     task: &Standing<'_>,
@@ -103,7 +104,6 @@ fn plan_front<'s>(
 }
 
 /// `if A`
-#[tactic(auto, using(crate::proofs::LeadsLemmas::at_own))]
 fn plan_choice<'s>(
     alloc: Global,
     task: &Standing<'_>,
@@ -130,7 +130,7 @@ fn plan_choice<'s>(
 }
 
 /// `while A`
-#[tactic(auto, using(crate::proofs::LeadsLemmas::begins_at, crate::proofs::LeadsLemmas::begins_own, crate::proofs::LeadsLemmas::loop_begins))]
+#[tactic(auto, using(crate::proofs::LeadsLemmas::loops))]
 fn plan_loop<'s>(
     alloc: Global,
     task: &Standing<'_>,
