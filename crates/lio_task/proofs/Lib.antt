@@ -1,3 +1,4 @@
 pub mod StepLemmas
 pub mod BirthLemmas
 pub mod PlannedLemmas
+pub mod Steps

@@ -1,4 +1,6 @@
 //! How a task goes on after its turn.
+#![tactic(auto, unfolding(lio_calculus::specs::Going::gone_on))]
+
 use crate::task::Task;
 use lio_clauses::NoMemory;
 use lio_plan::Control;
@@ -24,7 +26,6 @@ impl Task {
     ghost use Rattle.lio_task.specs.StateOf.{state_in};
 
     /// Goes on after its turn, with the turn's act and reply.
-    #[tactic(auto, unfolding(lio_calculus::specs::Going::gone_on))]
     #[inline(always)]
     pub fn go(
         &mut self,

@@ -87,7 +87,7 @@ impl Task {
         Ok(())
     }
 
-    /// What a task was given is bound to a name, or the fault that it is is thrown.
+    /// Binds a name to what a task was given; a fault in it is thrown instead.
     fn go_given(&mut self, alloc: Global, script: &Script, name: &Text, content: Content) -> Done
         requires { AtStatement (state_in script.now self.old).items }
         ensures ok { OnOk result (state_in script.now self.new
@@ -112,9 +112,11 @@ impl Task {
     ) -> Done
         requires { AtStatement (state_in script.now self.old).items }
         ensures ok { OnOk result (let was = spent (state_in script.now self.old) in
-            state_in script.now self.new
-            ≡ record was { environment = environment; items = enter (block_at
-            (script_lines script.now) body) (Back was.environment name.now ∷ was.items) }) }
+            state_in script.now self.new ≡ record was {
+              environment = environment;
+              items = enter (block_at (script_lines script.now) body)
+                  (Back was.environment name.now ∷ was.items);
+            }) }
         ensures err { OnErr result (state_in script.now self.new ≡ state_in script.now self.old) }
     {
         self.continuation
@@ -176,8 +178,12 @@ impl Task {
 
     /// The task ends. It takes no memory.
     pub(crate) fn go_to_end(&mut self, script: &Script)
-        ensures { state_in script.now self.new ≡ record
-            (spent (state_in script.now self.old)) { environment = []; items = []; ended = true } }
+        ensures { let was = spent (state_in script.now self.old) in
+            state_in script.now self.new ≡ record was {
+              environment = [];
+              items = [];
+              ended = true;
+            } }
     {
         self.continuation.end();
         self.turns = self.turns.saturating_sub(1);
@@ -198,8 +204,9 @@ impl Task {
     fn go_enter(&mut self, script: &Script, block: usize) -> Done
         requires { AtStatement (state_in script.now self.old).items }
         ensures ok { OnOk result (let was = spent (state_in script.now self.old) in
-            state_in script.now self.new
-            ≡ record was { items = enter (block_at (script_lines script.now) block) was.items }) }
+            state_in script.now self.new ≡ record was {
+              items = enter (block_at (script_lines script.now) block) was.items;
+            }) }
         ensures err { OnErr result (state_in script.now self.new ≡ state_in script.now self.old) }
     {
         self.continuation.enter(script, block)?;
@@ -210,8 +217,9 @@ impl Task {
     /// The block of a loop begins, in front of the loop.
     fn go_repeat(&mut self, script: &Script, block: usize) -> Done
         ensures ok { OnOk result (let was = state_in script.now self.old in
-            state_in script.now self.new ≡ record
-            (spent was) { items = enter (block_at (script_lines script.now) block) was.items }) }
+            state_in script.now self.new ≡ record (spent was) {
+              items = enter (block_at (script_lines script.now) block) was.items;
+            }) }
         ensures err { OnErr result (state_in script.now self.new ≡ state_in script.now self.old) }
     {
         self.continuation.repeat(script, block)?;
@@ -223,9 +231,10 @@ impl Task {
     fn go_guard(&mut self, script: &Script, block: usize, catch: usize) -> Done
         requires { AtStatement (state_in script.now self.old).items }
         ensures ok { OnOk result (let was = spent (state_in script.now self.old) in
-            state_in script.now self.new
-            ≡ record was { items = enter (block_at (script_lines script.now) block)
-            (mark_at (script_lines script.now) catch was.items) }) }
+            state_in script.now self.new ≡ record was {
+              items = enter (block_at (script_lines script.now) block)
+                  (mark_at (script_lines script.now) catch was.items);
+            }) }
         ensures err { OnErr result (state_in script.now self.new ≡ state_in script.now self.old) }
     {
         self.continuation.guard(script, block, catch)?;
@@ -313,8 +322,8 @@ impl Task {
         self.turns = self.turns.saturating_sub(turns);
     }
 
-    /// The current label is raised, and what was sealed is bound to a name, or the fault that it is
-    /// is thrown.
+    /// Raises the current label, and binds a name to what was sealed; a fault in it is thrown
+    /// instead.
     fn go_unlabel(
         &mut self,
         alloc: Global,

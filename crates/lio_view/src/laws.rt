@@ -1,8 +1,9 @@
 //! The laws of views. Each function does nothing: its contract is the law.
+#![tactic(auto, using(crate::proofs::LawLemmas::view_of_view))]
+
 ghost use Rattle.lio_view.specs.Laws.{ReleasesAreNamed, SendsAreSeen, ViewIsPrintable, ViewOfView};
 
 /// The view of a view at a lower label is the view at that label.
-#[tactic(auto, using(crate::proofs::LawLemmas::view_of_view))]
 pub fn view_of_view()
     ensures { ViewOfView }
 {}

@@ -1,4 +1,6 @@
 //! What journals release.
+#![tactic(auto, unfolding(lio_calculus::specs::Erased::released_to))]
+
 ghost use Rattle.std.specs.Prelude.{◌≡◌, ◌++◌, ◌∷◌, [], not, ◌&&◌, IfOk, MatchOption, OnOk};
 ghost use Rattle.lio_labels.specs.Flow.{flows};
 ghost use Rattle.lio_calculus.specs.Erased.{released_to};
@@ -21,7 +23,6 @@ fn comes_to(source: &Label, target: &Label, observer: &Label) -> bool
 
 /// The content that a turn releases to an observer, if it does: that of a release that was carried
 /// out.
-#[tactic(auto, unfolding(lio_calculus::specs::Erased::released_to))]
 fn released_by<'a>(act: &'a Act, reply: &Reply, observer: &Label) -> Option<&'a Content>
     ensures { MatchOption result (released_to observer.now act.entry.now reply.now ≡ [])
         (λ content. released_to observer.now act.entry.now reply.now ≡ content.now ∷ []) }

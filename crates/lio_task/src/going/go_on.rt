@@ -1,4 +1,6 @@
 //! How a task goes on after the turn of a statement or of its access.
+#![tactic(auto, unfolding(lio_calculus::specs::Going::gone_on))]
+
 use crate::going::Done;
 use crate::task::Task;
 use lio_syntax::Script;
@@ -17,7 +19,6 @@ impl Task {
     ghost use Rattle.lio_task.specs.StateOf.{state_in};
 
     /// Goes on after a turn, with its act and its reply.
-    #[tactic(auto, unfolding(lio_calculus::specs::Going::gone_on))]
     #[inline(always)]
     pub(crate) fn go_on(
         &mut self,

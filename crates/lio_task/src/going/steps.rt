@@ -1,4 +1,6 @@
 //! How a task goes on by a step of control.
+#![tactic(auto, using(crate::proofs::Steps::on), unfolding(lio_calculus::specs::Going::gone_on))]
+
 use crate::going::Done;
 use crate::task::Task;
 use lio_plan::Control;
@@ -13,7 +15,6 @@ impl Task {
     ghost use Rattle.lio_task.specs.StateOf.{state_in};
 
     /// Goes on by a step of control.
-    #[tactic(auto, using(crate::proofs::StepLemmas::skip_on, crate::proofs::StepLemmas::repeat_on, crate::proofs::StepLemmas::guard_on, crate::proofs::StepLemmas::leave_on), unfolding(lio_calculus::specs::Going::gone_on))]
     #[inline(always)]
     pub(crate) fn go_step(&mut self, alloc: Global, script: &Script, control: Control) -> Done
         requires { Leads (script_lines script.now) (state_in script.now self.old).items control }
