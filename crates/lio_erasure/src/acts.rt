@@ -6,7 +6,7 @@ ghost use Rattle.lio_erasure.specs.Acts.{hides, is_hidden, lacks_content, releas
 ghost use Rattle.lio_erasure.specs.Acts.{shown_act, with_content};
 
 use lio_cells::State;
-use lio_clauses::NoMemory;
+use lio_clauses::{NoMemory, beside};
 use lio_labels::Label;
 use lio_values::{Act, Content, Held, Reply};
 use std::alloc::Global;
@@ -92,13 +92,8 @@ pub(crate) fn shown_act(alloc: Global, act: Act, observer: &Label) -> Result<Act
     if !releases_above(&act, observer) {
         return Ok(act);
     }
-    match Held::new(alloc, Content::Hidden) {
-        Ok(hidden) => Ok(with_content(act, hidden)),
-        Err(error) => {
-            drop(act);
-            Err(error)
-        }
-    }
+    let (act, hidden) = beside(act, Held::new(alloc, Content::Hidden))?;
+    Ok(with_content(act, hidden))
 }
 
 /// Whether an act seals a value under a label that doesn't flow to the observer's, so that the

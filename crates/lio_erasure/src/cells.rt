@@ -1,4 +1,6 @@
 //! The cells that an observer sees.
+//!
+//! Where `#[tactic(none)]` stands each goal has its answer, so no tactic is tried.
 ghost use Rattle.std.specs.Prelude.{◌≡◌, ◌++◌, ◌∷◌, [], ℕ, List, Some, IsSome, IsTrue, OnOk, OnErr};
 ghost use Rattle.std.specs.Prelude.{slice_set};
 ghost use Rattle.std.specs.Option.{option_copied};
@@ -17,7 +19,7 @@ ghost use Rattle.lio_erasure.specs.Turn.{HasRoom, Places, Serves, Settles, node_
 use crate::acts::{has_label, is_absent};
 use crate::gone::advance;
 use crate::hidden::is_seen;
-use lio_clauses::NoMemory;
+use lio_clauses::{NoMemory, assign};
 use lio_config::Holder;
 use lio_labels::Label;
 use lio_syntax::Script;
@@ -25,7 +27,6 @@ use lio_task::Task;
 use lio_values::{Act, Entry, Handle};
 use std::alloc::Global;
 use std::marker::Model;
-use std::mem;
 
 /// What an observer sees of a configuration, seen as the list of its cells by number: the node and,
 /// where it is a job, its task; or none where the cell is left out.
@@ -115,7 +116,7 @@ impl LowConfig {
         ensures { self.new ≡ slice_set self.old n cell }
     {
         match self.cells.get_mut(n as usize) {
-            Some(place) => drop(mem::replace(place, cell)),
+            Some(place) => assign(place, cell),
             None => drop(cell),
         }
     }

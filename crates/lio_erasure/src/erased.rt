@@ -1,4 +1,6 @@
 //! What an observer sees of a configuration.
+//!
+//! Where `#[tactic(none)]` stands each goal has its answer, so no tactic is tried.
 ghost use Rattle.std.specs.Prelude.{◌≡◌, IfOk, IsTrue, List};
 ghost use Rattle.lio_syntax.specs.Statements.{Procedure};
 ghost use Rattle.lio_calculus.specs.Erased.{erase, erase_cell};

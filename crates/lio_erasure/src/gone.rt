@@ -1,4 +1,8 @@
 //! How a task that is as an observer sees it goes on after its turn.
+//!
+//! Each goal has its answer, so no tactic is tried.
+#![tactic(none)]
+
 ghost use Rattle.std.specs.Prelude.{◌≡◌, IfOk, IsSome, OnOk, OnErr, false};
 ghost use Rattle.lio_calculus.specs.Hiding.{hide_task};
 ghost use Rattle.lio_turns.specs.StateOf.{program_of};
@@ -9,17 +13,15 @@ ghost use Rattle.lio_erasure.specs.Acts.{hides};
 ghost use Rattle.lio_erasure.specs.Turn.{CanGoOn, HasGoneOn};
 
 use crate::acts::hides;
-use lio_clauses::NoMemory;
+use lio_clauses::{NoMemory, assign};
 use lio_config::Holder;
 use lio_labels::Label;
 use lio_syntax::Script;
 use lio_task::Task;
 use lio_values::{Act, Entry, Reply};
 use std::alloc::Global;
-use std::mem;
 
 /// A task after its turn, as an observer sees it.
-#[tactic(none)]
 fn gone(
     alloc: Global,
     task: &Task,
@@ -44,7 +46,6 @@ fn gone(
 
 /// Lets a task go on after its turn, as an observer sees it. It does so in place, unless the act
 /// hides a value. After a refusal it is as before.
-#[tactic(none)]
 fn go_on(
     alloc: Global,
     task: &mut Task,
@@ -65,13 +66,12 @@ fn go_on(
         return task.resume(alloc, script, longest, act, reply);
     }
     let gone = gone(alloc, task, script, longest, observer, act, reply)?;
-    drop(mem::replace(task, gone));
+    assign(task, gone);
     Ok(())
 }
 
 /// Lets the task of a holder go on after the turn with this entry, as an observer sees it. After a
 /// refusal it is as before.
-#[tactic(none)]
 pub(crate) fn advance(
     alloc: Global,
     holder: &mut Holder,

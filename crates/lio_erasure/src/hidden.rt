@@ -1,4 +1,6 @@
 //! What an observer sees of nodes and of their tasks.
+//!
+//! Where `#[tactic(none)]` stands each goal has its answer, so no tactic is tried.
 ghost use Rattle.std.specs.Prelude.{◌≡◌, IfOk, IsTrue, List, false};
 ghost use Rattle.std.specs.Option.{option_map, option_map_or};
 ghost use Rattle.lio_labels.specs.Flow.{flows};
@@ -12,7 +14,7 @@ ghost use Rattle.lio_task.specs.StateOf.{state_in};
 ghost use Rattle.lio_erasure.specs.Low.{is_kept, low_cell_of, seen_cell};
 
 use lio_cells::{Node, State};
-use lio_clauses::NoMemory;
+use lio_clauses::{NoMemory, beside};
 use lio_config::Holder;
 use lio_labels::Label;
 use lio_task::Task;
@@ -96,13 +98,8 @@ pub(crate) fn hidden(alloc: Global, holder: &Holder, observer: &Label) -> Result
 {
     let state = hide_state(alloc, holder.node.state(), observer)?;
     let node = Node::of(alloc, state)?;
-    match hide_task(alloc, &holder.task, observer) {
-        Ok(task) => Ok(Holder { node, task }),
-        Err(error) => {
-            drop(node);
-            Err(error)
-        }
-    }
+    let (node, task) = beside(node, hide_task(alloc, &holder.task, observer))?;
+    Ok(Holder { node, task })
 }
 
 /// A holder, where an observer sees it.

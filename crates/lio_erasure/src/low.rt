@@ -1,12 +1,25 @@
 //! The erased calculus, which takes turns.
+//!
+//! Where `#[tactic(none)]` stands each goal has its answer, so no tactic is tried.
 ghost use Rattle.std.specs.Prelude.{◌≡◌, IfOk, slice_get};
+ghost use Rattle.std.specs.Prelude.{List, true, false, IsSome, IsTrue, IfErr, OnErr};
+ghost use Rattle.lio_values.specs.declared.value.Content.{Content};
+ghost use Rattle.lio_calculus.specs.Step.{blank, met_after, waits};
+ghost use Rattle.lio_calculus.specs.Afforded.{makes};
+ghost use Rattle.lio_turns.specs.StateOf.{program_of};
+ghost use Rattle.lio_task.specs.Births.{CanBear};
+ghost use Rattle.lio_erasure.specs.Low.{IsSeenOfSound, LeavesOutBlanks, is_kept, low_cell_of};
+ghost use Rattle.lio_erasure.specs.Low.{low_configuration_of, low_task_in, seen_cell};
+ghost use Rattle.lio_erasure.specs.LowParts.{low_of};
+ghost use Rattle.lio_erasure.specs.Turn.{IsAsSeen, IsShown, Moves, PlansAct, PlansOwn};
+ghost use Rattle.lio_erasure.specs.Turn.{PlansVisit, Stays, TakesTurn, VisitsNew, VisitsNode};
 
 use crate::acts::{lacks_content, shown_act, waits, with_content};
 use crate::cells::LowConfig;
 use crate::hidden::seen;
 use crate::made::made;
 use crate::shown::entry_of;
-use lio_clauses::NoMemory;
+use lio_clauses::{NoMemory, beside};
 use lio_config::Holder;
 use lio_labels::Label;
 use lio_syntax::Script;
@@ -59,34 +72,28 @@ impl Model for Low {
 
     ghost coded = { low_code };
 
-    ghost view = { λ low. record { script = low.script;
-        longest = low.longest; observer = low.observer; holders = low.config } };
+    ghost view = { λ low. record {
+      script = low.script;
+      longest = low.longest;
+      observer = low.observer;
+      holders = low.config;
+    } };
 
     ghost invariant = { λ low. IsErased low.observer
         (low_configuration_of low.script low.longest low.config) × LeavesOutBlanks low.config };
 }
 
+#[tactic(none)]
 impl Low {
-    ghost use Rattle.std.specs.Prelude.{◌≡◌, List, true, false, IsSome, IsTrue, IfOk, IfErr, OnErr};
-    ghost use Rattle.lio_values.specs.declared.value.Content.{Content};
-    ghost use Rattle.lio_calculus.specs.Step.{blank, met_after, waits};
-    ghost use Rattle.lio_calculus.specs.Afforded.{makes};
-    ghost use Rattle.lio_turns.specs.StateOf.{program_of};
-    ghost use Rattle.lio_task.specs.Births.{CanBear};
-    ghost use Rattle.lio_erasure.specs.Low.{IsSeenOfSound, LeavesOutBlanks, is_kept, low_cell_of};
-    ghost use Rattle.lio_erasure.specs.Low.{low_configuration_of, low_task_in, seen_cell};
-    ghost use Rattle.lio_erasure.specs.LowParts.{low_of};
-    ghost use Rattle.lio_erasure.specs.Turn.{IsAsSeen, IsShown, Moves, PlansAct, PlansOwn};
-    ghost use Rattle.lio_erasure.specs.Turn.{PlansVisit, Stays, TakesTurn, VisitsNew, VisitsNode};
-
     /// What an observer sees of a well-formed configuration, with its script and how long a text
     /// may become in it.
-    #[tactic(none)]
     pub fn new(config: LowConfig, observer: Label, script: Script, longest: u32) -> Low
         requires seen { IsSeenOfSound observer (low_configuration_of script longest config) }
         requires kept { LeavesOutBlanks config }
-        ensures { low_of result ≡ record { observer = observer;
-            configuration = low_configuration_of script longest config } }
+        ensures { low_of result ≡ record {
+          observer = observer;
+          configuration = low_configuration_of script longest config;
+        } }
     {
         Low {
             config,
@@ -97,7 +104,6 @@ impl Low {
     }
 
     /// The cells that the observer sees.
-    #[tactic(none)]
     pub fn config(&self) -> &LowConfig
         ensures cells { let c = (low_of self.now).configuration in
             low_configuration_of c.program.procedures c.program.longest result.now ≡ c }
@@ -107,7 +113,6 @@ impl Low {
     }
 
     /// What a turn of the task with a number shows.
-    #[tactic(none)]
     fn shown(
         &self,
         alloc: Global,
@@ -134,29 +139,25 @@ impl Low {
 
     /// Takes the turn of a task that meets no other node, with this act in the place of the one
     /// that it plans.
-    #[tactic(none)]
     fn own(&mut self, alloc: Global, k: u32, act: Act, reply: Reply) -> Result<Entry, NoMemory>
         requires { PlansOwn self.old k act reply }
         ensures ok { IfOk result (Moves (low_of self.old) (low_of self.new) k act) }
         ensures err { OnErr result (low_of self.new ≡ low_of self.old) }
     {
         let entry = self.shown(alloc, k, None, act, reply)?;
-        if let Err(error) = self.config.turn_serving(
+        let served = self.config.turn_serving(
             alloc,
             &self.script,
             self.longest,
             &self.observer,
             k,
             &entry,
-        ) {
-            drop(entry);
-            return Err(error);
-        }
-        Ok(entry)
+        );
+        let (shown, _) = beside(entry, served)?;
+        Ok(shown)
     }
 
     /// Takes the turn of a task that meets a node that is ready.
-    #[tactic(none)]
     fn meet(&mut self, alloc: Global, k: u32, act: Act, n: u32) -> Result<Entry, NoMemory>
         requires { VisitsNode self.old k act n true }
         ensures ok { IfOk result (Moves (low_of self.old) (low_of self.new) k act) }
@@ -173,23 +174,20 @@ impl Low {
             }
         };
         let entry = self.shown(alloc, k, Some(n), act, reply)?;
-        if let Err(error) = self.config.turn_serving(
+        let served = self.config.turn_serving(
             alloc,
             &self.script,
             self.longest,
             &self.observer,
             n,
             &entry,
-        ) {
-            drop(entry);
-            return Err(error);
-        }
-        Ok(entry)
+        );
+        let (shown, _) = beside(entry, served)?;
+        Ok(shown)
     }
 
     /// Takes the turn of a task that writes or sends to a cell that is left out: it changes the
     /// actor alone.
-    #[tactic(none)]
     fn miss(&mut self, alloc: Global, k: u32, act: Act, n: u32) -> Result<Entry, NoMemory>
         requires visits { VisitsNode self.old k act n false }
         requires stays { waits act ≡ false }
@@ -197,18 +195,14 @@ impl Low {
         ensures err { OnErr result (low_of self.new ≡ low_of self.old) }
     {
         let entry = self.shown(alloc, k, Some(n), act, Reply::Done)?;
-        if let Err(error) = self
+        let taken = self
             .config
-            .turn_alone(alloc, &self.script, self.longest, &self.observer, &entry)
-        {
-            drop(entry);
-            return Err(error);
-        }
-        Ok(entry)
+            .turn_alone(alloc, &self.script, self.longest, &self.observer, &entry);
+        let (shown, _) = beside(entry, taken)?;
+        Ok(shown)
     }
 
     /// Takes the turn of a task that makes a node. It is placed only where nothing is.
-    #[tactic(none)]
     fn make(&mut self, alloc: Global, k: u32, act: Act, n: u32) -> Result<Entry, NoMemory>
         requires { VisitsNew self.old k act n }
         ensures ok { IfOk result (Moves (low_of self.old) (low_of self.new) k act) }
@@ -238,7 +232,6 @@ impl Low {
     }
 
     /// The node that the act of an entry makes, as the observer sees it.
-    #[tactic(none)]
     fn made(&self, alloc: Global, entry: &Entry) -> Result<Option<Holder>, NoMemory>
         requires makes { IsTrue (makes entry.now.act) }
         requires bears { CanBear self.now.script entry.now.at entry.now.act }
@@ -250,7 +243,9 @@ impl Low {
         let holder = made(alloc, &entry.act, &entry.at, &self.script)?;
         Ok(seen(holder, &self.observer))
     }
+}
 
+impl Low {
     /// Takes the turn of a task that meets no other node. A hidden content that it releases to a
     /// label below the observer's is the next one of those that were released.
     fn release(
@@ -271,7 +266,7 @@ impl Low {
         if !lacks_content(&act, &reply, &self.observer) {
             return Ok(self.own(alloc, k, act, reply)?);
         }
-        match told(alloc, releases) {
+        match first_content(alloc, releases) {
             Ok(Some(content)) => {
                 let entry = self.own(alloc, k, with_content(act, content), reply)?;
                 drop(releases.take_front());
@@ -341,7 +336,7 @@ impl Low {
 }
 
 /// The first of the contents that are told, if there is one.
-fn told(alloc: Global, contents: &Contents) -> Result<Option<Held<Content>>, NoMemory>
+fn first_content(alloc: Global, contents: &Contents) -> Result<Option<Held<Content>>, NoMemory>
     ensures { IfOk result (λ first. first ≡ slice_get contents.now 0) }
 {
     match contents.as_slice().first() {

@@ -8,7 +8,7 @@ ghost use Rattle.lio_task.specs.Births.{CanBear};
 ghost use Rattle.lio_config.specs.Configuration.{cell_of};
 
 use lio_cells::{Node, State};
-use lio_clauses::NoMemory;
+use lio_clauses::{NoMemory, beside};
 use lio_config::Holder;
 use lio_labels::Label;
 use lio_syntax::Script;
@@ -48,11 +48,6 @@ pub(crate) fn made(
         ≡ met_after (program_of script.now longest) at.now act.now blank) }
 {
     let node = made_node(alloc, act)?;
-    match Task::born_by(alloc, act, at, script) {
-        Ok(task) => Ok(Holder { node, task }),
-        Err(error) => {
-            drop(node);
-            Err(error)
-        }
-    }
+    let (node, task) = beside(node, Task::born_by(alloc, act, at, script))?;
+    Ok(Holder { node, task })
 }

@@ -1,7 +1,7 @@
 //! What a turn of a task shows to an observer.
 ghost use Rattle.std.specs.Prelude.{◌≡◌, IfOk};
 
-use lio_clauses::NoMemory;
+use lio_clauses::{NoMemory, beside};
 use lio_labels::Label;
 use lio_values::{Act, Entry, Reply};
 use std::alloc::Global;
@@ -15,22 +15,22 @@ pub(crate) fn entry_of(
     act: Act,
     reply: Reply,
 ) -> Result<Entry, NoMemory>
-    ensures { IfOk result (λ entry. entry ≡ record { ticket = 0;
-        actor = k; target = target; at = at.now; act = act; reply = reply }) }
+    ensures { IfOk result (λ entry. entry ≡ record {
+      ticket = 0;
+      actor = k;
+      target = target;
+      at = at.now;
+      act = act;
+      reply = reply;
+    }) }
 {
-    match at.copy(alloc) {
-        Ok(at) => Ok(Entry {
-            ticket: 0,
-            actor: k,
-            target,
-            at,
-            act,
-            reply,
-        }),
-        Err(error) => {
-            drop(act);
-            drop(reply);
-            Err(error)
-        }
-    }
+    let ((act, reply), at) = beside((act, reply), at.copy(alloc))?;
+    Ok(Entry {
+        ticket: 0,
+        actor: k,
+        target,
+        at,
+        act,
+        reply,
+    })
 }

@@ -2,6 +2,10 @@
 //!
 //! What may fail comes first: the room in the node that serves, and last how the task goes on. From
 //! then on no memory is taken, so a refusal leaves all as it was.
+//!
+//! Each goal has its answer, so no tactic is tried.
+#![tactic(none)]
+
 ghost use Rattle.std.specs.Prelude.{◌≡◌, IsSome, IsTrue, OnOk, OnErr, false, true};
 ghost use Rattle.lio_cells.specs.Node.{takes_part};
 ghost use Rattle.lio_cells.specs.State.{is_absent};
@@ -21,7 +25,6 @@ use std::alloc::Global;
 impl LowConfig {
     /// Takes a turn, with this entry, in which the node with a number serves. After a refusal all
     /// is as before.
-    #[tactic(none)]
     pub(crate) fn turn_serving(
         &mut self,
         alloc: Global,
@@ -37,7 +40,9 @@ impl LowConfig {
         requires takes_part { takes_part (cell_at (low_configuration_of script.now longest self.old)
             n).state entry.now.act ≡ true }
         ensures ok { OnOk result (let c = low_configuration_of script.now longest self.old in
-            Follows observer.now c (served c n entry.now.act) (low_configuration_of script.now longest self.new) entry.now.actor entry.now.act entry.now.reply) }
+            Follows observer.now c (served c n entry.now.act)
+            (low_configuration_of script.now longest self.new)
+            entry.now.actor entry.now.act entry.now.reply) }
         ensures err { OnErr result (low_configuration_of script.now longest self.new
             ≡ low_configuration_of script.now longest self.old) }
         ensures kept { LeavesOutBlanks self.old → LeavesOutBlanks self.new }
@@ -50,7 +55,6 @@ impl LowConfig {
     }
 
     /// Takes a turn, with this entry, in which no node serves. After a refusal all is as before.
-    #[tactic(none)]
     pub(crate) fn turn_alone(
         &mut self,
         alloc: Global,
@@ -62,7 +66,8 @@ impl LowConfig {
         requires { CanAdvance observer.now (low_configuration_of script.now longest self.old)
             entry.now.actor entry.now.act entry.now.reply }
         ensures ok { OnOk result (let c = low_configuration_of script.now longest self.old in
-            Follows observer.now c c (low_configuration_of script.now longest self.new) entry.now.actor entry.now.act entry.now.reply) }
+            Follows observer.now c c (low_configuration_of script.now longest self.new)
+            entry.now.actor entry.now.act entry.now.reply) }
         ensures err { OnErr result (low_configuration_of script.now longest self.new
             ≡ low_configuration_of script.now longest self.old) }
         ensures kept { LeavesOutBlanks self.old → LeavesOutBlanks self.new }
@@ -74,7 +79,6 @@ impl LowConfig {
 
     /// Takes a turn, with this entry, that puts a cell under a number, if nothing is there. After a
     /// refusal all is as before.
-    #[tactic(none)]
     pub(crate) fn turn_placing(
         &mut self,
         alloc: Global,
@@ -91,7 +95,9 @@ impl LowConfig {
             entry.now.actor).state ≡ false }
         requires kept { IsTrue (is_kept cell) }
         ensures ok { OnOk result (let c = low_configuration_of script.now longest self.old in
-            Follows observer.now c (placed c n (low_cell_of script.now cell)) (low_configuration_of script.now longest self.new) entry.now.actor entry.now.act entry.now.reply) }
+            Follows observer.now c (placed c n (low_cell_of script.now cell))
+            (low_configuration_of script.now longest self.new)
+            entry.now.actor entry.now.act entry.now.reply) }
         ensures err { OnErr result (low_configuration_of script.now longest self.new
             ≡ low_configuration_of script.now longest self.old) }
         ensures kept { LeavesOutBlanks self.old → LeavesOutBlanks self.new }

@@ -18,4 +18,4 @@ pub returns-in_err-gone-clause-err : goal.returns-in_err-gone-clause-err
 returns-in_err-gone-clause-err c = on_err _ c.from_residual.result refl
 
 pub returns-clause-ok : goal.returns-clause-ok
-returns-clause-ok c = ap (λ (t : Task). state_in c.args.script.now t) c.replace.ensures.after ∙ c.in_ok-gone.ensures
+returns-clause-ok c = ap (λ (t : Task). state_in c.args.script.now t) c.assign.ensures ∙ c.in_ok-gone.ensures

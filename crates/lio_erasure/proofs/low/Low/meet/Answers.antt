@@ -13,7 +13,7 @@ use Rattle.lio_erasure.specs.LowParts.{LowParts}
 use Rattle.lio_erasure.specs.Turn.{VisitsNode}
 use Rattle.lio_erasure.proofs.FieldLemmas.{can-go, erased-now, held, met-goes, same-erased, same-low_of}
 use Rattle.lio_erasure.proofs.HolderLemmas.{cell-low}
-use Rattle.lio_erasure.proofs.ResultLemmas.{on_err}
+use Rattle.lio_erasure.proofs.ResultLemmas.{on_err, kept_beside, none_beside}
 use Rattle.lio_erasure.proofs.TurnLemmas.{met-acts, met-holder, met-part, ready-state}
 use Rattle.lio_erasure.proofs.low.Low.meet.Goals as goal
 
@@ -63,19 +63,19 @@ returns-in_err-entry-clause-ok c = IfOk-from_err c.from_residual.result _ c.from
 pub returns-in_err-entry-clause-err : goal.returns-in_err-entry-clause-err
 returns-in_err-entry-clause-err c = on_err _ c.from_residual.result refl
 
-pub turn_serving-requires-clause-advances : goal.turn_serving-requires-clause-advances
-turn_serving-requires-clause-advances c =
+pub turn_serving-served-requires-clause-advances : goal.turn_serving-served-requires-clause-advances
+turn_serving-served-requires-clause-advances c =
     let inside : LowParts = record { script = c.self.inside.script; longest = c.self.inside.longest; observer = c.self.inside.observer; holders = c.self.inside.config } in
     let now = c.args.self.now in
     let replies = answered inside now c.args.n c.args.act c.in-Some.holder.now c.in-Ok.reply c.self.view_is c.in-Some.ensures c.in-Ok.ensures in
     can-go inside now c.args.k (Some c.args.n) c.args.act c.in-Ok.reply c.in_ok-entry.entry c.self.view_is
     (met-acts now c.args.k c.args.n c.args.act c.in-Ok.reply (erased-now inside now c.self.view_is c.self.invariant.0) c.requires replies) c.in_ok-entry.ensures
 
-pub turn_serving-requires-clause-there : goal.turn_serving-requires-clause-there
-turn_serving-requires-clause-there c = ap (λ (h : Option Holder). is_some h) (sym c.in-Some.ensures)
+pub turn_serving-served-requires-clause-there : goal.turn_serving-served-requires-clause-there
+turn_serving-served-requires-clause-there c = ap (λ (h : Option Holder). is_some h) (sym c.in-Some.ensures)
 
-pub turn_serving-requires-clause-takes_part : goal.turn_serving-requires-clause-takes_part
-turn_serving-requires-clause-takes_part c =
+pub turn_serving-served-requires-clause-takes_part : goal.turn_serving-served-requires-clause-takes_part
+turn_serving-served-requires-clause-takes_part c =
     let inside : LowParts = record { script = c.self.inside.script; longest = c.self.inside.longest; observer = c.self.inside.observer; holders = c.self.inside.config } in
     let v : VisitsNode inside c.args.k c.args.act c.args.n true = subst (λ (parts : LowParts). VisitsNode parts c.args.k c.args.act c.args.n true) (sym c.self.view_is) c.requires in
     met-part inside c.args.k c.args.n c.args.act c.in_ok-entry.entry.act v
@@ -86,8 +86,8 @@ invariant_of-self-2 c =
     let inside : LowParts = record { script = c.self.inside.script; longest = c.self.inside.longest; observer = c.self.inside.observer; holders = c.self.inside.config } in
     let now = c.args.self.now in
     let replies = answered inside now c.args.n c.args.act c.in-Some.holder.now c.in-Ok.reply c.self.view_is c.in-Some.ensures c.in-Ok.ensures in (
-      (met-goes inside now c.turn_serving.new.self c.args.k c.args.n c.args.act c.in-Ok.reply c.in_ok-entry.entry c.self.view_is c.self.invariant.0 c.in_default-turn_serving.ensures.ok c.requires replies c.in_ok-entry.ensures).1,
-      c.turn_serving.ensures.kept c.self.invariant.1,
+      (met-goes inside now c.turn_serving-served.new.self c.args.k c.args.n c.args.act c.in-Ok.reply c.in_ok-entry.entry c.self.view_is c.self.invariant.0 (kept_beside _ c.turn_serving-served.result c.in_ok-entry.entry c.in_ok-shown.shown _ c.in_ok-shown.ensures c.turn_serving-served.ensures.ok).1 c.requires replies c.in_ok-entry.ensures).1,
+      c.turn_serving-served.ensures.kept c.self.invariant.1,
     )
 
 pub returns-clause-ok : goal.returns-clause-ok
@@ -95,10 +95,13 @@ returns-clause-ok c =
     let inside : LowParts = record { script = c.self.inside.script; longest = c.self.inside.longest; observer = c.self.inside.observer; holders = c.self.inside.config } in
     let now = c.args.self.now in
     let replies = answered inside now c.args.n c.args.act c.in-Some.holder.now c.in-Ok.reply c.self.view_is c.in-Some.ensures c.in-Ok.ensures in
-    (met-goes inside now c.turn_serving.new.self c.args.k c.args.n c.args.act c.in-Ok.reply c.in_ok-entry.entry c.self.view_is c.self.invariant.0 c.in_default-turn_serving.ensures.ok c.requires replies c.in_ok-entry.ensures).0
+    rw (kept_beside _ c.turn_serving-served.result c.in_ok-entry.entry c.in_ok-shown.shown _ c.in_ok-shown.ensures c.turn_serving-served.ensures.ok).0 (met-goes inside now c.turn_serving-served.new.self c.args.k c.args.n c.args.act c.in-Ok.reply c.in_ok-entry.entry c.self.view_is c.self.invariant.0 (kept_beside _ c.turn_serving-served.result c.in_ok-entry.entry c.in_ok-shown.shown _ c.in_ok-shown.ensures c.turn_serving-served.ensures.ok).1 c.requires replies c.in_ok-entry.ensures).0
 
 pub invariant_of-self : goal.invariant_of-self
-invariant_of-self c = (same-erased (record { script = c.self.inside.script; longest = c.self.inside.longest; observer = c.self.inside.observer; holders = c.self.inside.config }) c.turn_serving.new.self c.in-Err-turn_serving.ensures.err c.self.invariant.0, c.turn_serving.ensures.kept c.self.invariant.1)
+invariant_of-self c = (same-erased (record { script = c.self.inside.script; longest = c.self.inside.longest; observer = c.self.inside.observer; holders = c.self.inside.config }) c.turn_serving-served.new.self (none_beside _ c.turn_serving-served.result c.in_ok-entry.entry _ c.in_err-shown.ensures c.turn_serving-served.ensures.err) c.self.invariant.0, c.turn_serving-served.ensures.kept c.self.invariant.1)
 
-pub returns-in-Err-turn_serving-clause-err : goal.returns-in-Err-turn_serving-clause-err
-returns-in-Err-turn_serving-clause-err c = same-low_of (record { script = c.self.inside.script; longest = c.self.inside.longest; observer = c.self.inside.observer; holders = c.self.inside.config }) c.args.self.now c.turn_serving.new.self c.self.view_is c.in-Err-turn_serving.ensures.err
+pub returns-in_err-shown-clause-err : goal.returns-in_err-shown-clause-err
+returns-in_err-shown-clause-err c = on_err _ c.from_residual-in_err-shown.result (same-low_of (record { script = c.self.inside.script; longest = c.self.inside.longest; observer = c.self.inside.observer; holders = c.self.inside.config }) c.args.self.now c.turn_serving-served.new.self c.self.view_is (none_beside _ c.turn_serving-served.result c.in_ok-entry.entry _ c.in_err-shown.ensures c.turn_serving-served.ensures.err))
+
+pub returns-in_err-shown-clause-ok : goal.returns-in_err-shown-clause-ok
+returns-in_err-shown-clause-ok c = IfOk-from_err c.from_residual-in_err-shown.result _ c.from_residual-in_err-shown.ensures.0
