@@ -22,8 +22,9 @@ pub enum Asked<'w> {
 }
 
 impl<'w> Asked<'w> {
-    /// What three words say: the operation, its subject, and how often. The subject is a file for `policy`, the number of entries for `print`
-    /// and `look`, `whole` or `erased` for `count`, and for an operation on labels the clauses of each part, at most 64.
+    /// What three words say: the operation, its subject, and how often. The subject is a file for
+    /// `policy`, the number of entries for `print` and `look`, `whole` or `erased` for `count`, and
+    /// for an operation on labels the clauses of each part, at most 64.
     pub fn of_words(words: &'w [String]) -> Option<Asked<'w>> {
         let [operation, subject, times] = words else {
             return None;

@@ -1,13 +1,13 @@
-//! What is made of a journal, repeated: its text, what an observer sees of it, and what is released to the observer.
+//! What is made of a journal, repeated: its text, what an observer sees of it, and what is released
+//! to the observer.
 ghost use Rattle.std.specs.Prelude.{◌≡◌, All, IfOk, true, length, []};
 ghost use Rattle.lio_events.specs.JournalText.{journal_text};
 ghost use Rattle.lio_events.specs.Printable.{IsActNamed, IsPrintable, IsRaiseOf};
 
 use lio_clauses::{Formula, Names, NoMemory};
-use lio_events::{Journal, print_journal};
+use lio_events::{Journal, print_journal, releases, view};
 use lio_labels::{Label, Priv};
 use lio_values::{Act, Content, Entry, Held, Plain, Reply, Text};
-use lio_view::{releases, view};
 use std::alloc::Global;
 
 /// What each turn sends or releases.
@@ -88,10 +88,8 @@ pub fn print_times(alloc: Global, entries: u32, times: u32) -> Result<(), NoMemo
 
 /// Takes what an observer sees of a journal, and what is released to it.
 fn look(alloc: Global, journal: &Journal, observer: &Label) -> Result<(), NoMemory> {
-    let seen = view(alloc, journal, observer)?;
-    drop(seen);
-    let released = releases(alloc, journal, observer)?;
-    drop(released);
+    let _seen = view(alloc, journal, observer)?;
+    let _released = releases(alloc, journal, observer)?;
     Ok(())
 }
 
@@ -104,10 +102,9 @@ fn look_at(alloc: Global, journal: &Journal, times: u32) -> Result<(), NoMemory>
     Ok(())
 }
 
-/// Makes a journal, and takes so many times what everyone sees of it, and what is released to everyone.
+/// Makes a journal, and takes so many times what everyone sees of it, and what is released to
+/// everyone.
 pub fn look_times(alloc: Global, entries: u32, times: u32) -> Result<(), NoMemory> {
     let journal = journal_of(alloc, entries)?;
-    let looked = look_at(alloc, &journal, times);
-    drop(journal);
-    looked
+    look_at(alloc, &journal, times)
 }

@@ -2,7 +2,7 @@
 ghost use Rattle.std.specs.Prelude.{◌≡◌, ◌≤◌, IfOk};
 ghost use Rattle.lio_labels.specs.IsLabel.{IsLabel};
 
-use lio_clauses::{FormFault, Formula};
+use lio_clauses::{FormFault, Formula, NoMemory};
 use lio_labels::{Label, laws};
 use std::alloc::Global;
 
@@ -42,15 +42,23 @@ impl Operation {
     }
 }
 
-/// A formula of clauses of one principal each.
-fn formula_of(alloc: Global, clauses: u32) -> Result<Formula, FormFault>
-    requires { clauses ≤ 64 }
+/// Gives clauses of one principal each, as sets of principals.
+fn clauses_of(alloc: Global, count: u32) -> Result<Vec<u64>, NoMemory>
+    requires { count ≤ 64 }
 {
-    let mut masks = Vec::new(alloc);
-    for principal in 0..clauses {
-        masks.push(1 << principal)?;
+    let mut clauses = Vec::new(alloc);
+    for principal in 0..count {
+        clauses.push(1 << principal)?;
     }
-    Formula::of_clauses(alloc, masks.as_slice())
+    Ok(clauses)
+}
+
+/// Gives a formula of clauses of one principal each.
+fn formula_of(alloc: Global, count: u32) -> Result<Formula, FormFault>
+    requires { count ≤ 64 }
+{
+    let clauses = clauses_of(alloc, count)?;
+    Formula::of_clauses(alloc, clauses.as_slice())
 }
 
 /// The operation on two equal labels, which makes an equal one.

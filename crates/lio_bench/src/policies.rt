@@ -2,9 +2,9 @@
 ghost use Rattle.std.specs.Prelude.{◌≡◌, ◌<◌, ◌⊎◌, Err, IfErr, IsOk, OnOk};
 ghost use Rattle.lio_policy.specs.Verdict.{policy_of};
 
-use lio_draft::PolicyFault;
 use lio_outside::{FetchFault, Store};
 use lio_policy::read_policy;
+use lio_policy_draft::PolicyFault;
 use std::alloc::Global;
 
 /// The most bytes of a policy.

@@ -3,16 +3,16 @@ ghost use Rattle.std.specs.Prelude.{◌≡◌, IfOk};
 ghost use Rattle.lio_calculus.specs.Sound.{IsSound};
 ghost use Rattle.lio_config.specs.Configuration.{configuration_of};
 
-use lio_clauses::NoMemory;
+use lio_clauses::{NoMemory, beside};
 use lio_config::{Config, StepFault};
-use lio_draft::PolicyFault;
 use lio_erasure::{Low, LowFault, erase_config};
+use lio_events::Contents;
 use lio_labels::Label;
 use lio_policy::{Policy, read_policy};
+use lio_policy_draft::PolicyFault;
 use lio_start::{Job, fits, start};
 use lio_syntax::{Script, ScriptFault, read_script};
 use lio_values::List;
-use lio_view::Contents;
 use std::alloc::Global;
 
 /// One public task with as many turns as a policy can give.
@@ -121,7 +121,6 @@ fn count_whole(alloc: Global, times: u32) -> Result<(), CountFault> {
     let Counting { script, mut config } = first(alloc)?;
     let counted = steps(alloc, &mut config, &script, times);
     drop(config);
-    drop(script);
     counted.map_err(CountFault::Step)
 }
 
@@ -141,25 +140,10 @@ fn seen_by_all(alloc: Global, counting: Counting) -> Result<Low, NoMemory>
 {
     let Counting { script, config } = counting;
     let longest = config.longest;
-    match Label::public(alloc) {
-        Ok(observer) => {
-            let seen = erase_config(alloc, &config, &observer);
-            drop(config);
-            match seen {
-                Ok(seen) => Ok(Low::new(seen, observer, script, longest)),
-                Err(error) => {
-                    drop(observer);
-                    drop(script);
-                    Err(error)
-                }
-            }
-        }
-        Err(error) => {
-            drop(config);
-            drop(script);
-            Err(error)
-        }
-    }
+    let (config, observer) = beside(config, Label::public(alloc))?;
+    let seen = erase_config(alloc, &config, &observer);
+    drop(config);
+    Ok(Low::new(seen?, observer, script, longest))
 }
 
 /// So many turns of the erased calculus.

@@ -10,9 +10,9 @@ use Rattle.lio_values.specs.declared.value.Content.{Content}
 use Rattle.lio_values.specs.declared.value.Content.TheVariants.{Kept, Faulted, Hidden}
 use Rattle.lio_values.specs.declared.value.Value.{Value}
 use Rattle.lio_values.specs.declared.value.Value.TheVariants.{Bare, Sealed}
-use Rattle.lio_lines.specs.Literal.{can_be_said}
+use Rattle.lio_syntax_lines.specs.Operands.{can_be_said}
 use Rattle.lio_operators.specs.Laws.{IsSimple, IsUnthrown}
-use Rattle.lio_control.specs.Throwing.{payload_of}
+use Rattle.lio_task_control.specs.Throwing.{payload_of}
 use Rattle.lio_calculus.specs.Step.{Configuration}
 use Rattle.lio_calculus.specs.Sound.{PlainNames, KindNames, ValueNames, IsOpen}
 use Rattle.lio_calculus.proofs.SoundLemmas.{said-names}

@@ -12,13 +12,13 @@ use Rattle.lio_values.specs.declared.act.Reply.{Reply}
 use Rattle.lio_values.specs.declared.act.Reply.TheVariants.{Done, Got, Told, Refused}
 use Rattle.lio_values.specs.Erasure.{erase_value, erase_reply}
 use Rattle.lio_syntax.specs.Statements.{Statements}
-use Rattle.lio_control.specs.Environment.{Environment, bind}
+use Rattle.lio_task_control.specs.Environment.{Environment, bind}
 use Rattle.lio_calculus.specs.Task.{TaskState}
-use Rattle.lio_control.specs.Items.{Item, Do, Access, Mark, Back, Fail, rest_of}
+use Rattle.lio_task_control.specs.Items.{Item, Do, Access, Mark, Back, Fail, rest_of}
 use Rattle.lio_calculus.specs.Going.{at, binding, throwing, given, replied}
-use Rattle.lio_control.specs.Throwing.{Place, caught, code_of, payload_of, thrown, returned}
-use Rattle.lio_control.specs.Hiding.{hide_environment, hide_item, hide_place}
-use Rattle.lio_control.proofs.HidingLemmas.{enter-hidden}
+use Rattle.lio_task_control.specs.Throwing.{Place, caught, code_of, payload_of, thrown, returned}
+use Rattle.lio_task_control.specs.Hiding.{hide_environment, hide_item, hide_place}
+use Rattle.lio_task_control.proofs.HidingLemmas.{enter-hidden}
 use Rattle.lio_calculus.specs.Hiding.{hide_task}
 use Rattle.lio_calculus.proofs.HidingLemmas.{bind-hidden}
 

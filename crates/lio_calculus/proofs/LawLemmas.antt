@@ -9,7 +9,8 @@ use Rattle.lio_calculus.proofs.VisibleStep.{step-visible}
 use Rattle.lio_calculus.proofs.StepGuarded.{turn-guarded}
 use Rattle.lio_calculus.proofs.StepKept.{turn-kept}
 use Rattle.lio_calculus.proofs.RunLemmas.{step-released, run-erased}
-use Rattle.lio_calculus.specs.Run.{who, low_run, releases}
+use Rattle.lio_events.specs.Views.{who, releases}
+use Rattle.lio_calculus.specs.Run.{low_run}
 use Rattle.lio_calculus.specs.Erased.{erase}
 use Rattle.lio_values.specs.declared.value.Content.{Content}
 use Rattle.std.proofs.Common.{List, [], ap, sym, ◌∙◌}

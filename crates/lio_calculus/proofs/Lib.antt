@@ -38,3 +38,4 @@ pub mod LocalityLemmas
 pub mod WaitingLemmas
 pub mod PowerLemmas
 pub mod HandleLemmas
+pub mod SendLemmas

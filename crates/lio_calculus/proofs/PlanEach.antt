@@ -14,20 +14,20 @@ use Rattle.lio_values.specs.declared.value.Value.{Value}
 use Rattle.lio_values.specs.declared.value.Value.TheVariants.{Bare, Sealed}
 use Rattle.lio_values.specs.declared.act.Act.{Act}
 use Rattle.lio_values.specs.declared.act.Act.TheVariants as act
-use Rattle.lio_lines.specs.declared.line.Operand.{Operand}
-use Rattle.lio_lines.specs.declared.line.Simple.{Simple}
-use Rattle.lio_lines.specs.Literal.{is_said}
+use Rattle.lio_syntax_lines.specs.declared.line.Operand.{Operand}
+use Rattle.lio_syntax_lines.specs.declared.line.Simple.{Simple}
+use Rattle.lio_syntax_lines.specs.Operands.{is_said}
 use Rattle.lio_guards.specs.declared.verdict.Verdict.TheVariants.{No}
 use Rattle.lio_guards.specs.Laws.{Fails as FailsFor}
 use Rattle.lio_guards.proofs.GuardLemmas.{refused_where_test_fails, release_refused_where_test_fails}
 use Rattle.lio_operators.specs.Operators.{operate1, operate2}
 use Rattle.lio_operators.specs.Laws.{IsUnthrown, IsPublic}
 use Rattle.lio_operators.proofs.OperatorLemmas.{one_gives_simple, two_give_simple}
-use Rattle.lio_control.specs.declared.binding.Binding.{Binding}
+use Rattle.lio_task_control.specs.declared.binding.Binding.{Binding}
 use Rattle.std.specs.declared.cmp.Ordering.{Ordering}
 use Rattle.std.specs.declared.cmp.Ordering.TheVariants.{Less, Equal, Greater}
-use Rattle.lio_control.specs.Environment.{Environment, bind_before, bind, bind_all}
-use Rattle.lio_control.specs.Items.{Item}
+use Rattle.lio_task_control.specs.Environment.{Environment, bind_before, bind, bind_all}
+use Rattle.lio_task_control.specs.Items.{Item}
 use Rattle.lio_calculus.specs.Operands.{bound, all_bound, Labelled, sealed_of}
 use Rattle.lio_calculus.specs.Task.{TaskState}
 use Rattle.lio_calculus.specs.Going.{Onward, Bind, Seal, Call, Return, Leave, Unlabel, Release, Throw, released}

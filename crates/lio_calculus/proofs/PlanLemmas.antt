@@ -16,7 +16,7 @@ use Rattle.lio_values.specs.declared.act.Op.{Op}
 use Rattle.lio_values.specs.declared.act.Op.TheVariants as op
 use Rattle.lio_values.specs.declared.act.Birth.{Birth}
 use Rattle.lio_values.specs.Erasure.{erase_content, erase_value, erase_birth}
-use Rattle.lio_lines.specs.declared.line.Simple.{Simple}
+use Rattle.lio_syntax_lines.specs.declared.line.Simple.{Simple}
 use Rattle.lio_guards.specs.declared.verdict.Verdict.{Verdict}
 use Rattle.lio_guards.specs.declared.verdict.Verdict.TheVariants.{Go, No}
 use Rattle.lio_calculus.specs.Operands.{Labelled}

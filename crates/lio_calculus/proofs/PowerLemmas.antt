@@ -15,14 +15,14 @@ use Rattle.lio_values.specs.declared.value.Value.TheVariants.{Bare, Sealed}
 use Rattle.lio_values.specs.declared.act.Act.{Act}
 use Rattle.lio_values.specs.declared.act.Act.TheVariants as act
 use Rattle.lio_values.specs.declared.act.Birth.{Birth}
-use Rattle.lio_lines.specs.declared.line.Simple.{Simple}
-use Rattle.lio_lines.specs.Literal.{can_be_said}
+use Rattle.lio_syntax_lines.specs.declared.line.Simple.{Simple}
+use Rattle.lio_syntax_lines.specs.Operands.{can_be_said}
 use Rattle.lio_operators.specs.Laws.{IsSimple, IsUnthrown}
 use Rattle.lio_cells.specs.declared.state.State.{State}
 use Rattle.lio_cells.specs.declared.state.State.TheVariants.{Absent, Ref, Var, Chan, Job}
 use Rattle.lio_cells.specs.State.{placed, ended, state_after}
-use Rattle.lio_control.specs.Throwing.{payload_of}
-use Rattle.lio_control.specs.Items.{Item, rest_of}
+use Rattle.lio_task_control.specs.Throwing.{payload_of}
+use Rattle.lio_task_control.specs.Items.{Item, rest_of}
 use Rattle.lio_calculus.specs.Operands.{power_of}
 use Rattle.lio_calculus.specs.Task.{TaskState}
 use Rattle.lio_calculus.specs.Going.{Onward, HoldReference, HoldVariable, Fork, gone_on}

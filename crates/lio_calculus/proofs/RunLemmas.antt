@@ -14,14 +14,16 @@ use Rattle.lio_values.specs.declared.entry.Entry.{Entry}
 use Rattle.lio_values.specs.Erasure.{erase_entry}
 use Rattle.lio_guards.proofs.GuardLemmas.{current_flows_to_released}
 use Rattle.lio_cells.specs.State.{ready, answer}
-use Rattle.lio_control.specs.Items.{Item}
+use Rattle.lio_task_control.specs.Items.{Item}
 use Rattle.lio_calculus.specs.Task.{TaskState}
 use Rattle.lio_calculus.specs.Plan.{Program, Plan, Over, Own, Visit, plan}
 use Rattle.lio_calculus.specs.Step.{Configuration, cell_at, Move, move_of, number_of, met, waits, Turn, entry_of, turn_of, after, step}
-use Rattle.lio_calculus.specs.Erased.{erase, LowTurn, released_to}
+use Rattle.lio_events.specs.Views.{released_to}
+use Rattle.lio_calculus.specs.Erased.{erase, LowTurn}
 use Rattle.lio_calculus.specs.Guarded.{IsShown, IsGuarded, IsNoRelease}
 use Rattle.lio_calculus.specs.Laws.{IsShownContent}
-use Rattle.lio_calculus.specs.Run.{Ran, ran_after, run, is_visible, view, who, releases, low_ran_after, low_run}
+use Rattle.lio_events.specs.Views.{is_visible, view, who, releases}
+use Rattle.lio_calculus.specs.Run.{Ran, ran_after, run, low_ran_after, low_run}
 use Rattle.lio_calculus.specs.Sound.{IsTaskOf, IsSound}
 use Rattle.lio_calculus.proofs.InvisibleLemmas.{visit-move, step-unseen}
 use Rattle.lio_calculus.proofs.VisibleStep.{step-visible}

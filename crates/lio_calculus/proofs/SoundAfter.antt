@@ -16,9 +16,9 @@ use Rattle.lio_syntax.specs.Statements.{Procedure}
 use Rattle.lio_cells.specs.declared.state.State.{State}
 use Rattle.lio_cells.specs.declared.state.State.TheVariants.{Ref, Var, Job}
 use Rattle.lio_cells.specs.State.{Kind, Reference, Variable, Channel, Result, is_job, label_of, result_of}
-use Rattle.lio_control.specs.declared.binding.Binding.{Binding}
-use Rattle.lio_control.specs.Environment.{Environment}
-use Rattle.lio_control.specs.Items.{Item, Do, Access, Mark, Back, Fail, open_calls}
+use Rattle.lio_task_control.specs.declared.binding.Binding.{Binding}
+use Rattle.lio_task_control.specs.Environment.{Environment}
+use Rattle.lio_task_control.specs.Items.{Item, Do, Access, Mark, Back, Fail, open_calls}
 use Rattle.lio_calculus.specs.Task.{TaskState}
 use Rattle.lio_calculus.specs.Plan.{Program}
 use Rattle.lio_calculus.specs.Step.{Cell, Configuration, blank, cell_at}

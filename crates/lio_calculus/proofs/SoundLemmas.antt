@@ -16,14 +16,14 @@ use Rattle.lio_values.specs.declared.value.Plain.{Plain}
 use Rattle.lio_values.specs.declared.value.Plain.TheVariants.{Unit as unit, Flag, Whole, Bytes, Lab, Power, RefOf, VarOf, ResultOf, ChanOf}
 use Rattle.lio_values.specs.declared.value.Value.{Value}
 use Rattle.lio_values.specs.declared.value.Value.TheVariants.{Bare, Sealed}
-use Rattle.lio_lines.specs.declared.line.Operand.{Operand}
-use Rattle.lio_lines.specs.declared.line.Operand.TheVariants.{Name, Literal}
-use Rattle.lio_lines.specs.Literal.{is_said, can_be_said}
+use Rattle.lio_syntax_lines.specs.declared.line.Operand.{Operand}
+use Rattle.lio_syntax_lines.specs.declared.line.Operand.TheVariants.{Name, Literal}
+use Rattle.lio_syntax_lines.specs.Operands.{is_said, can_be_said}
 use Rattle.lio_cells.specs.declared.state.State.{State}
 use Rattle.lio_cells.specs.declared.state.State.TheVariants.{Absent}
 use Rattle.lio_cells.specs.State.{Kind, Reference, Variable, Channel, Result, is_job, is_of, label_of}
-use Rattle.lio_control.specs.declared.binding.Binding.{Binding}
-use Rattle.lio_control.specs.Environment.{Environment, value_of}
+use Rattle.lio_task_control.specs.declared.binding.Binding.{Binding}
+use Rattle.lio_task_control.specs.Environment.{Environment, value_of}
 use Rattle.lio_calculus.specs.Operands.{bound, bare_of, seen_as, reference_of, variable_of, result_of, channel_of}
 use Rattle.lio_calculus.specs.Task.{TaskState}
 use Rattle.lio_calculus.specs.Step.{Cell, Configuration, blank, cell_at, has_label, is_named}

@@ -18,7 +18,8 @@ use Rattle.lio_calculus.specs.Hiding.{hide_asked}
 use Rattle.lio_calculus.proofs.PlanLemmas.{hidden-twice}
 use Rattle.lio_calculus.proofs.CellLemmas.{state_after-hidden}
 use Rattle.lio_calculus.specs.Guarded.{IsShown, IsNoRelease}
-use Rattle.lio_calculus.specs.Erased.{hide_state, opened_release, opened, released_to}
+use Rattle.lio_events.specs.Views.{released_to}
+use Rattle.lio_calculus.specs.Erased.{hide_state, opened_release, opened}
 
 -- an act as the erased calculus takes it: to the observer it is the act, and it does to a seen state what the act does
 pub record Appears (observer : Label) (asked seen : Act) : Type 0 where

@@ -15,7 +15,8 @@ use Rattle.lio_calculus.specs.Task.{TaskState}
 use Rattle.lio_calculus.specs.Plan.{Program, Plan, Over, Own, Visit, Target, Node, New, plan}
 use Rattle.lio_calculus.specs.Hiding.{hide_task, hide_asked, hide_onward}
 use Rattle.lio_calculus.specs.Step.{Cell, Configuration, blank, cell_at, with_cell, number_of, is_met, met, waits, Move, move_of, met_after, target_after, actor_after, after, Turn, entry_of, turn_of, step}
-use Rattle.lio_calculus.specs.Erased.{label_of_cell, sees, hide_cell, erase_cell, erase, opened, released_to, low_with, low_turn, low}
+use Rattle.lio_events.specs.Views.{released_to}
+use Rattle.lio_calculus.specs.Erased.{label_of_cell, sees, hide_cell, erase_cell, erase, opened, low_with, low_turn, low}
 use Rattle.lio_calculus.specs.Guarded.{IsBefore, IsShown, IsAllowed, IsNoRelease, IsVisitGuarded, IsGuarded}
 use Rattle.lio_calculus.proofs.PlanHidden.{plan-hidden}
 use Rattle.lio_calculus.proofs.CellLemmas.{is_met-hidden, met_after-hidden}

@@ -9,12 +9,12 @@ use Rattle.lio_values.specs.declared.value.Handle.{Handle}
 use Rattle.lio_values.specs.declared.value.Value.{Value}
 use Rattle.lio_values.specs.declared.act.Act.{Act}
 use Rattle.lio_values.specs.declared.act.Act.TheVariants as act
-use Rattle.lio_lines.specs.declared.line.Simple.{Simple}
-use Rattle.lio_lines.specs.declared.line.Simple.TheVariants as line
+use Rattle.lio_syntax_lines.specs.declared.line.Simple.{Simple}
+use Rattle.lio_syntax_lines.specs.declared.line.Simple.TheVariants as line
 use Rattle.lio_syntax.specs.Statements.{Statement}
 use Rattle.lio_cells.specs.declared.state.State.TheVariants.{Absent}
 use Rattle.lio_cells.specs.State.{Kind, Reference, Variable, Result as result, ready, answer}
-use Rattle.lio_control.specs.Items.{Item, Do, Access}
+use Rattle.lio_task_control.specs.Items.{Item, Do, Access}
 use Rattle.lio_calculus.specs.Operands.{bound, seen_as, reference_of, variable_of, result_of as result_handle}
 use Rattle.lio_calculus.specs.Task.{TaskState}
 use Rattle.lio_calculus.specs.Going.{Onward, Advance, BindReply}

@@ -77,11 +77,6 @@ opened observer (act.Release source target power content) Done contents =
     opened_release observer (act.Release source target power content) target (act.Release source target power) content contents
 opened observer asked reply contents = Some (record { act = asked; left = contents })
 
--- the contents that a turn releases to an observer: of a release that was carried out, from a label that doesn't flow to it to one that does
-unfoldable pub released_to : Label → Act → Reply → List Content
-released_to observer (act.Release source target power content) Done = if not (flows source observer) && flows target observer then content ∷ [] else []
-released_to observer asked reply = []
-
 -- a turn with the contents that it opened, erased
 abbrev pub low_with : Label → ℕ → Configuration → ℕ → TaskState → Move → Opened → LowTurn
 low_with observer ticket c k task move o =

@@ -95,7 +95,7 @@ IsGuarded c k task Over = Unit {0}
 IsGuarded c k task (Own asked reply onward) = IsOwnGuarded task asked reply onward
 IsGuarded c k task (Visit asked target onward) = IsVisitGuarded c k task asked target onward
 
--- each turn of a well-formed configuration is guarded: what it looks at is below the task's label, and what it changes is above
+-- each turn of a sound configuration is guarded: what it looks at is below the task's label, and what it changes is above
 abbrev pub TurnIsGuarded : Type 0
 TurnIsGuarded = (ticket : ℕ) (c : Configuration) (k : ℕ) (task : TaskState) (turn : Turn)
     → IsSound c → IsTaskOf c k task → step ticket c k ≡ Some turn → IsGuarded c k task (plan c.program task)

@@ -2,12 +2,12 @@
 use Rattle.std.specs.Prelude.{◌≡◌, IsTrue, is_some, if◌then◌else◌, List, [], ◌∷◌, Option, Some, None}
 use Rattle.lio_values.specs.declared.value.Handle.{Handle}
 use Rattle.lio_values.specs.declared.act.Act.{Act}
-use Rattle.lio_lines.specs.declared.line.Simple.{Simple}
-use Rattle.lio_lines.specs.declared.line.Simple.TheVariants.{Write, Send}
+use Rattle.lio_syntax_lines.specs.declared.line.Simple.{Simple}
+use Rattle.lio_syntax_lines.specs.declared.line.Simple.TheVariants.{Write, Send}
 use Rattle.lio_syntax.specs.Statements as statement
 use Rattle.lio_cells.specs.State.{Kind}
-use Rattle.lio_control.specs.Environment.{Environment}
-use Rattle.lio_control.specs.Items.{Item, Do, Access}
+use Rattle.lio_task_control.specs.Environment.{Environment}
+use Rattle.lio_task_control.specs.Items.{Item, Do, Access}
 use Rattle.lio_calculus.specs.Operands.{bound, seen_as, text_of, reference_of, channel_of}
 use Rattle.lio_calculus.specs.Task.{TaskState}
 use Rattle.lio_calculus.specs.Going.{Onward}

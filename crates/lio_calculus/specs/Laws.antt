@@ -1,4 +1,4 @@
--- The laws of the calculus: what a turn of a well-formed configuration shows to an observer (the noninterference of the concurrent calculus of LIO, ICFP 2012).
+-- The laws of the calculus: what a turn of a sound configuration shows to an observer (the noninterference of the concurrent calculus of LIO, ICFP 2012).
 use Rattle.std.specs.Prelude.{◌≡◌, ℕ, IsTrue, IsFalse, List, [], ◌++◌, All, Some}
 use Rattle.lio_labels.specs.declared.label.Label.{Label}
 use Rattle.lio_labels.specs.Flow.{flows}
@@ -7,11 +7,13 @@ use Rattle.lio_values.specs.declared.value.Content.TheVariants.{Hidden}
 use Rattle.lio_values.specs.Erasure.{erase_entry}
 use Rattle.lio_calculus.specs.Task.{TaskState}
 use Rattle.lio_calculus.specs.Step.{Configuration, Turn, step}
-use Rattle.lio_calculus.specs.Erased.{erase, low, released_to}
-use Rattle.lio_calculus.specs.Run.{Ran, run, view, who, releases, low_run}
+use Rattle.lio_events.specs.Views.{released_to}
+use Rattle.lio_calculus.specs.Erased.{erase, low}
+use Rattle.lio_events.specs.Views.{view, who, releases}
+use Rattle.lio_calculus.specs.Run.{Ran, run, low_run}
 use Rattle.lio_calculus.specs.Sound.{IsTaskOf, IsSound}
 
--- each turn keeps a configuration well-formed
+-- each turn keeps a configuration sound
 abbrev pub TurnKeepsSoundness : Type 0
 TurnKeepsSoundness = (ticket : ℕ) (c : Configuration) (k : ℕ) (task : TaskState) (turn : Turn) → IsSound c → IsTaskOf c k task → step ticket c k ≡ Some turn → IsSound turn.next
 
@@ -39,8 +41,8 @@ SeenTurnIsErasedTurn = (observer : Label) (ticket : ℕ) (c : Configuration) (k 
 abbrev pub IsShownContent : Content → Type 0
 IsShownContent content = content ≡ Hidden → ⊥
 
--- A run from a well-formed configuration, seen by an observer, is the run of the erased calculus from what the observer sees of the configuration, over the actors that it sees
--- and the contents that the journal releases to it: it gives the view, what the observer sees of the last configuration, and no released content is left. None of these contents is hidden, and the last configuration is well-formed.
+-- A run from a sound configuration, seen by an observer, is the run of the erased calculus from what the observer sees of the configuration, over the actors that it sees
+-- and the contents that the journal releases to it: it gives the view, what the observer sees of the last configuration, and no released content is left. None of these contents is hidden, and the last configuration is sound.
 pub record RunSeenAs (observer : Label) (c : Configuration) (ran : Ran) : Type 0 where
   pub erased : low_run observer 0 (erase observer c) (who observer ran.entries) (releases observer ran.entries)
       ≡ Some (record { entries = view observer 0 ran.entries; last = erase observer ran.last; left = [] })

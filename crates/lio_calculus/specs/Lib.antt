@@ -16,3 +16,4 @@ pub mod Locality
 pub mod Waiting
 pub mod Powers
 pub mod Handles
+pub mod Sends

@@ -4,7 +4,7 @@ use Rattle.std.specs.Prelude.{◌≡◌, ℕ, ◌-◌, length, Option, Some, Non
 use Rattle.std.specs.Option.{option_map}
 use Rattle.lio_values.specs.declared.fault.Fault.{Fault}
 use Rattle.lio_values.specs.declared.act.Reply.TheVariants.{Refused}
-use Rattle.lio_control.specs.Items.{rest_of}
+use Rattle.lio_task_control.specs.Items.{rest_of}
 use Rattle.lio_calculus.specs.Task.{TaskState}
 use Rattle.lio_calculus.specs.Going.{throwing}
 use Rattle.lio_calculus.specs.Plan.{Plan, Over, Own, Visit, plan}
@@ -65,7 +65,7 @@ pub record ChangesActorAlone (c : Configuration) (k : ℕ) (task : TaskState) (f
   pub elsewhere : (n : ℕ) → (n ≡ k → ⊥) → cell_at turn.next n ≡ cell_at c n
   pub actor : IsTaskOf turn.next k (after_refusal task fault)
   pub keeps : KeepsLabelsAndRange task (after_refusal task fault)
-  -- in a well-formed configuration its node is as it was
+  -- in a sound configuration its node is as it was
   pub state : IsSound c → (cell_at turn.next k).state ≡ (cell_at c k).state
 
 abbrev pub RefusedTurnChangesActorAlone : Type 0

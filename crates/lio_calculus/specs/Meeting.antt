@@ -1,4 +1,4 @@
--- The nodes that visits meet: in a well-formed configuration each is there.
+-- The nodes that visits meet: in a sound configuration each is there.
 use Rattle.std.specs.Prelude.{◌≡◌, ℕ, ◌<◌, true, false, length}
 use Rattle.lio_values.specs.declared.act.Act.{Act}
 use Rattle.lio_cells.specs.State.{ready as is_ready, state_after}
@@ -21,7 +21,7 @@ pub record MeetsNode (c : Configuration) (k : ℕ) (asked : Act) (target : Targe
   -- a visit leaves the actor's own node as it is
   pub own : state_after (cell_at c k).state asked ≡ (cell_at c k).state
 
--- in a well-formed configuration each visit meets a node that is there
+-- in a sound configuration each visit meets a node that is there
 abbrev pub VisitMeetsNode : Type 0
 VisitMeetsNode = (c : Configuration) (k : ℕ) (task : TaskState) (asked : Act) (target : Target) (onward : Onward)
     → IsSound c → IsTaskOf c k task → plan c.program task ≡ Visit asked target onward → MeetsNode c k asked target

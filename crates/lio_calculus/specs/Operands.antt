@@ -9,9 +9,9 @@ use Rattle.lio_values.specs.declared.value.Plain.TheVariants.{Flag, Whole, Bytes
 use Rattle.lio_values.specs.declared.value.Content.{Content}
 use Rattle.lio_values.specs.declared.value.Value.{Value}
 use Rattle.lio_values.specs.declared.value.Value.TheVariants.{Bare, Sealed}
-use Rattle.lio_lines.specs.declared.line.Operand.{Operand}
-use Rattle.lio_lines.specs.declared.line.Operand.TheVariants.{Name, Literal}
-use Rattle.lio_control.specs.Environment.{Environment, value_of}
+use Rattle.lio_syntax_lines.specs.declared.line.Operand.{Operand}
+use Rattle.lio_syntax_lines.specs.declared.line.Operand.TheVariants.{Name, Literal}
+use Rattle.lio_task_control.specs.Environment.{Environment, value_of}
 
 -- what an operand stands for
 abbrev pub bound : Environment → Operand → Option Value

@@ -65,7 +65,7 @@ pub record MakesNoPower (powers : List Priv) (turn : Turn) : Type 0 where
   pub after : PowersAreAmong powers turn.next
   pub released : ReleasesBy powers turn.entry.act
 
--- from a well-formed configuration each turn makes no privilege: where each one is among some, so is each one after it, and so is that by which the turn releases
+-- from a sound configuration each turn makes no privilege: where each one is among some, so is each one after it, and so is that by which the turn releases
 abbrev pub PowersAreGiven : Type 0
 PowersAreGiven = (powers : List Priv) (ticket : ℕ) (c : Configuration) (k : ℕ) (turn : Turn)
     → IsSound c → PowersAreAmong powers c → step ticket c k ≡ Some turn → MakesNoPower powers turn

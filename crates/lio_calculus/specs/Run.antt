@@ -1,4 +1,4 @@
--- Runs: the turns of tasks in order, what an observer sees of them, and the run of the erased calculus (the concurrent calculus of LIO and its erasure, ICFP 2012).
+-- Runs: the turns of tasks in order, and the run of the erased calculus (the concurrent calculus of LIO and its erasure, ICFP 2012).
 use Rattle.std.specs.Prelude.{ℕ, ◌+◌, Bool, List, [], ◌∷◌, ◌++◌, Option, Some, option_and_then, if◌then◌else◌}
 use Rattle.std.specs.Option.{option_map}
 use Rattle.lio_labels.specs.declared.label.Label.{Label}
@@ -7,7 +7,8 @@ use Rattle.lio_values.specs.declared.value.Content.{Content}
 use Rattle.lio_values.specs.declared.entry.Entry.{Entry}
 use Rattle.lio_values.specs.Erasure.{erase_entry}
 use Rattle.lio_calculus.specs.Step.{Configuration, step}
-use Rattle.lio_calculus.specs.Erased.{low, released_to}
+use Rattle.lio_events.specs.Views.{released_to}
+use Rattle.lio_calculus.specs.Erased.{low}
 
 -- what a run gives: its journal, and its last configuration
 pub record Ran : Type 0 where
@@ -21,26 +22,6 @@ ran_after entry ran = record { entries = entry ∷ ran.entries; last = ran.last 
 unfoldable pub run : ℕ → Configuration → List ℕ → Option Ran
 run ticket c [] = Some (record { entries = []; last = c })
 run ticket c (k ∷ ks) = option_and_then (λ turn. option_map (ran_after turn.entry) (run (ticket + 1) turn.next ks)) (step ticket c k)
-
--- whether an observer sees an entry
-abbrev pub is_visible : Label → Entry → Bool
-is_visible observer entry = flows entry.at observer
-
--- the view: the entries that an observer sees, each erased, with tickets from a first one
-unfoldable pub view : Label → ℕ → List Entry → List Entry
-view observer ticket [] = []
-view observer ticket (entry ∷ entries) =
-    if is_visible observer entry then erase_entry observer (record entry { ticket = ticket }) ∷ view observer (ticket + 1) entries else view observer ticket entries
-
--- the actors of the entries that an observer sees
-unfoldable pub who : Label → List Entry → List ℕ
-who observer [] = []
-who observer (entry ∷ entries) = if is_visible observer entry then entry.actor ∷ who observer entries else who observer entries
-
--- the contents that a journal releases to an observer
-unfoldable pub releases : Label → List Entry → List Content
-releases observer [] = []
-releases observer (entry ∷ entries) = released_to observer entry.act entry.reply ++ releases observer entries
 
 -- what a run of the erased calculus gives: its entries, its last configuration, and the released contents that are left
 pub record LowRan : Type 0 where

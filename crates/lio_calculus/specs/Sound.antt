@@ -12,16 +12,17 @@ use Rattle.lio_values.specs.declared.value.Content.{Content}
 use Rattle.lio_values.specs.declared.value.Content.TheVariants.{Kept, Faulted, Hidden}
 use Rattle.lio_values.specs.declared.value.Value.{Value}
 use Rattle.lio_values.specs.declared.value.Value.TheVariants.{Bare, Sealed}
-use Rattle.lio_lines.specs.declared.line.Simple.{Simple}
-use Rattle.lio_lines.specs.declared.line.Simple.TheVariants.{Read, Take, Put, Wait}
-use Rattle.lio_lines.specs.Literal.{is_said, simple_operands}
+use Rattle.lio_syntax_lines.specs.declared.line.Simple.{Simple}
+use Rattle.lio_syntax_lines.specs.declared.line.Simple.TheVariants.{Read, Take, Put, Wait}
+use Rattle.lio_syntax_lines.specs.Operands.{is_said}
+use Rattle.lio_syntax_lines.specs.Simple.{simple_operands}
 use Rattle.lio_syntax.specs.Statements.{Statement, Statements, If, IfElse, While, Try, Nothing, Then}
 use Rattle.lio_syntax.specs.Statements as statement
 use Rattle.lio_cells.specs.declared.state.State.{State}
 use Rattle.lio_cells.specs.declared.state.State.TheVariants.{Absent, Ref, Var, Chan, Job}
 use Rattle.lio_cells.specs.State.{Kind, Reference, Variable, Channel, Result, is_job, label_of, result_of}
-use Rattle.lio_control.specs.Environment.{Environment}
-use Rattle.lio_control.specs.Items.{Item, Do, Access, Mark, Back, Fail, rest_of, open_calls}
+use Rattle.lio_task_control.specs.Environment.{Environment}
+use Rattle.lio_task_control.specs.Items.{Item, Do, Access, Mark, Back, Fail, rest_of, open_calls}
 use Rattle.lio_calculus.specs.Operands.{bound, seen_as, reference_of, variable_of, result_of as result_handle}
 use Rattle.lio_calculus.specs.Task.{TaskState}
 use Rattle.lio_calculus.specs.Step.{Configuration, blank, cell_at, is_named}
@@ -136,7 +137,7 @@ pub record IsInRange (task : TaskState) (n : ℕ) : Type 0 where
   pub from : task.first ≤ n
   pub below : n < task.first + task.cells
 
--- A configuration is well-formed.
+-- A configuration is sound.
 pub record IsSound (c : Configuration) : Type 0 where
   -- a job has a task, and nothing else has one
   pub jobs : (k : ℕ) → is_some (cell_at c k).task ≡ is_job (cell_at c k).state

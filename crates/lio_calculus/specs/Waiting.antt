@@ -3,12 +3,12 @@
 use Rattle.std.specs.Prelude.{◌≡◌, ℕ, ◌==◌, Bool, true, false, ◌&&◌, ◌||◌, not, is_some, List, ◌∷◌, Option, None}
 use Rattle.std.specs.Option.{option_map_or}
 use Rattle.lio_values.specs.declared.value.Handle.{Handle}
-use Rattle.lio_lines.specs.declared.line.Simple.{Simple}
-use Rattle.lio_lines.specs.declared.line.Simple.TheVariants.{Read, Take, Put, Wait}
+use Rattle.lio_syntax_lines.specs.declared.line.Simple.{Simple}
+use Rattle.lio_syntax_lines.specs.declared.line.Simple.TheVariants.{Read, Take, Put, Wait}
 use Rattle.lio_cells.specs.declared.state.State.{State}
 use Rattle.lio_cells.specs.State.{is_reference, full_with, is_empty, result_of}
-use Rattle.lio_control.specs.Environment.{Environment}
-use Rattle.lio_control.specs.Items.{Item, Access}
+use Rattle.lio_task_control.specs.Environment.{Environment}
+use Rattle.lio_task_control.specs.Items.{Item, Access}
 use Rattle.lio_calculus.specs.Operands.{seen_as, reference_of, variable_of, result_of as result_handle}
 use Rattle.lio_calculus.specs.Task.{TaskState}
 use Rattle.lio_calculus.specs.Step.{Configuration, cell_at, can}
@@ -43,6 +43,6 @@ is_waiting c task = not (task.turns == 0) && is_held_up c task.environment task.
 abbrev pub is_still : Configuration → ℕ → Bool
 is_still c k = option_map_or (λ task. task.ended || is_waiting c task) (cell_at c k).task true
 
--- in a well-formed configuration a task can take a turn unless it has ended or waits
+-- in a sound configuration a task can take a turn unless it has ended or waits
 abbrev pub TaskCanUnlessStill : Type 0
 TaskCanUnlessStill = (c : Configuration) (k : ℕ) → IsSound c → can c k ≡ not (is_still c k)

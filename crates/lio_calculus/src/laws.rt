@@ -4,10 +4,13 @@ ghost use Rattle.lio_calculus.specs.Enabled.{LowTurnsWhereEnabled, SeenTaskIsEna
 ghost use Rattle.lio_calculus.specs.Guarded.{TurnIsGuarded};
 ghost use Rattle.lio_calculus.specs.Handles.{VisitMeetsHandle};
 ghost use Rattle.lio_calculus.specs.Hiding.{PlanHidden};
-ghost use Rattle.lio_calculus.specs.Laws.{RunIsErasedRun, SeenTurnIsErasedTurn, TurnKeepsSoundness, UnseenTurnChangesNothing, UnseenTurnReleasesNothing};
-ghost use Rattle.lio_calculus.specs.Locality.{RefusedTurnChangesActorAlone, StepChangesTwoCells, StepLooksAtTwoCells, StepMakesTheSameCells};
+ghost use Rattle.lio_calculus.specs.Laws.{RunIsErasedRun, SeenTurnIsErasedTurn, TurnKeepsSoundness};
+ghost use Rattle.lio_calculus.specs.Laws.{UnseenTurnChangesNothing, UnseenTurnReleasesNothing};
+ghost use Rattle.lio_calculus.specs.Locality.{RefusedTurnChangesActorAlone, StepChangesTwoCells};
+ghost use Rattle.lio_calculus.specs.Locality.{StepLooksAtTwoCells, StepMakesTheSameCells};
 ghost use Rattle.lio_calculus.specs.Meeting.{VisitMeetsNode};
 ghost use Rattle.lio_calculus.specs.Powers.{PowersAreGiven};
+ghost use Rattle.lio_calculus.specs.Sends.{SendsAreSeen};
 ghost use Rattle.lio_calculus.specs.Waiting.{TaskCanUnlessStill};
 
 /// The plan of a task that is seen with hidden values is its plan with hidden values.
@@ -22,7 +25,7 @@ pub fn plan_can_be_carried_out()
     ensures { PlanAfforded }
 {}
 
-/// In a well-formed configuration each visit meets a node that is there.
+/// In a sound configuration each visit meets a node that is there.
 pub fn visit_meets_node()
     ensures { VisitMeetsNode }
 {}
@@ -37,7 +40,7 @@ pub fn turn_is_guarded()
     ensures { TurnIsGuarded }
 {}
 
-/// Each turn keeps a configuration well-formed.
+/// Each turn keeps a configuration sound.
 pub fn turn_keeps_soundness()
     ensures { TurnKeepsSoundness }
 {}
@@ -59,17 +62,20 @@ pub fn seen_turn_is_erased_turn()
     ensures { SeenTurnIsErasedTurn }
 {}
 
-/// A run, seen by an observer, is the run of the erased calculus from what the observer sees, and gives the view.
+/// A run, seen by an observer, is the run of the erased calculus from what the observer sees, and
+/// gives the view.
 pub fn run_is_erased_run()
     ensures { RunIsErasedRun }
 {}
 
-/// A task below an observer can take a turn of the erased calculus exactly where it can take one of the calculus.
+/// A task below an observer can take a turn of the erased calculus exactly where it can take one of
+/// the calculus.
 pub fn seen_task_is_enabled_below()
     ensures { SeenTaskIsEnabledBelow }
 {}
 
-/// The erased step is undefined only for a task that can't take a turn, or for want of a released content.
+/// The erased step is undefined only for a task that can't take a turn, or for want of a released
+/// content.
 pub fn low_turns_where_enabled()
     ensures { LowTurnsWhereEnabled }
 {}
@@ -102,4 +108,9 @@ pub fn task_can_unless_still()
 /// Privileges are given and never made.
 pub fn powers_are_given()
     ensures { PowersAreGiven }
+{}
+
+/// An observer of a channel sees all that a run sends to it.
+pub fn sends_are_seen()
+    ensures { SendsAreSeen }
 {}

@@ -103,8 +103,9 @@ fn room_for_reference(
     label: &Label,
     value: &Value,
 ) -> Result<Room, NoMemory>
-    ensures { IfOk result (λ room. room ≡ (if is_absent
-        state.now then Room.Becomes (State.Ref label.now value.now) else Room.Nothing)) }
+    ensures { IfOk result (λ room. room
+        ≡ (if is_absent state.now then Room.Becomes (State.Ref label.now value.now)
+        else Room.Nothing)) }
 {
     if is_absent(state) {
         Ok(Room::Becomes(copy_reference(alloc, label, value)?))
@@ -120,8 +121,9 @@ fn room_for_variable(
     label: &Label,
     value: &Option<Value>,
 ) -> Result<Room, NoMemory>
-    ensures { IfOk result (λ room. room ≡ (if is_absent
-        state.now then Room.Becomes (State.Var label.now value.now) else Room.Nothing)) }
+    ensures { IfOk result (λ room. room
+        ≡ (if is_absent state.now then Room.Becomes (State.Var label.now value.now)
+        else Room.Nothing)) }
 {
     if is_absent(state) {
         Ok(Room::Becomes(copy_variable(alloc, label, value)?))
@@ -132,8 +134,9 @@ fn room_for_variable(
 
 /// Where nothing is, a job with a copy of its result's label.
 fn room_for_job(alloc: Global, state: &State, birth: &Birth) -> Result<Room, NoMemory>
-    ensures { IfOk result (λ room. room ≡ (if is_absent
-        state.now then Room.Becomes (State.Job birth.now.result None) else Room.Nothing)) }
+    ensures { IfOk result (λ room. room
+        ≡ (if is_absent state.now then Room.Becomes (State.Job birth.now.result None)
+        else Room.Nothing)) }
 {
     if is_absent(state) {
         Ok(Room::Becomes(State::Job(birth.result.copy(alloc)?, None)))

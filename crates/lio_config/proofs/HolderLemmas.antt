@@ -7,7 +7,7 @@ use Rattle.std.proofs.lemmas.List.{map-set, get_or-map, set-get_or}
 use Rattle.std.proofs.lemmas.Option.{slice_get_read}
 use Rattle.lio_syntax.specs.Statements.{Procedure}
 use Rattle.lio_calculus.specs.Step.{Cell, Configuration, blank, cell_at, task_after, with_cell}
-use Rattle.lio_turns.specs.StateOf.{program_of}
+use Rattle.lio_task_turns.specs.StateOf.{program_of}
 use Rattle.lio_task.specs.declared.task.Task.{Task}
 use Rattle.lio_config.specs.declared.config.Holder.{Holder}
 use Rattle.lio_config.specs.declared.config.Config.{Config}

@@ -18,10 +18,10 @@ use Rattle.lio_calculus.specs.Afforded.{AffordsAct, AffordsPlan}
 use Rattle.lio_calculus.specs.Meeting.{MeetsNode}
 use Rattle.lio_calculus.proofs.AffordedLemmas.{plan_affords}
 use Rattle.lio_calculus.proofs.MeetingLemmas.{visit_meets_node}
-use Rattle.lio_turns.specs.declared.turn.Onward.{Onward}
-use Rattle.lio_turns.specs.declared.turn.Target.{Target as Named}
-use Rattle.lio_plan.specs.Planned.{simple_of}
-use Rattle.lio_turns.specs.Turns.{onward_of, target_of}
+use Rattle.lio_task_turns.specs.declared.turn.Onward.{Onward}
+use Rattle.lio_task_turns.specs.declared.turn.Target.{Target as Named}
+use Rattle.lio_task_plan.specs.Planned.{simple_of}
+use Rattle.lio_task_turns.specs.Turns.{onward_of, target_of}
 use Rattle.lio_config.specs.declared.config.Config.{Config}
 use Rattle.lio_config.specs.declared.config.Holder.{Holder}
 use Rattle.lio_task.specs.Births.{CanBear}

@@ -9,16 +9,16 @@ use Rattle.lio_values.specs.declared.act.Act.{Act}
 use Rattle.lio_values.specs.declared.act.Reply.{Reply}
 use Rattle.lio_values.specs.declared.entry.Entry.{Entry}
 use Rattle.lio_values.specs.declared.value.Handle.{Handle}
-use Rattle.lio_lines.specs.declared.line.Operand.{Operand}
-use Rattle.lio_lines.specs.declared.line.Simple.{Simple}
-use Rattle.lio_lines.specs.declared.line.Simple.TheVariants as line
-use Rattle.lio_lines.specs.Literal.{is_said}
+use Rattle.lio_syntax_lines.specs.declared.line.Operand.{Operand}
+use Rattle.lio_syntax_lines.specs.declared.line.Simple.{Simple}
+use Rattle.lio_syntax_lines.specs.declared.line.Simple.TheVariants as line
+use Rattle.lio_syntax_lines.specs.Operands.{is_said}
 use Rattle.lio_cells.specs.declared.state.State.{State}
 use Rattle.lio_cells.specs.declared.wish.Wish.{Wish}
 use Rattle.lio_cells.specs.declared.wish.Wish.TheVariants as wish
 use Rattle.lio_cells.specs.State.{Reference, ready as is_ready, answer, grants, is_reference}
-use Rattle.lio_control.specs.Items.{Item, Access}
-use Rattle.lio_control.specs.Environment.{Environment}
+use Rattle.lio_task_control.specs.Items.{Item, Access}
+use Rattle.lio_task_control.specs.Environment.{Environment}
 use Rattle.lio_calculus.specs.Operands.{seen_as, reference_of, variable_of, result_of}
 use Rattle.lio_calculus.specs.Task.{TaskState}
 use Rattle.lio_calculus.specs.Going as going

@@ -8,12 +8,12 @@ use Rattle.lio_syntax.specs.Statements.{Procedure}
 use Rattle.lio_syntax.specs.Lines.{script_lines}
 use Rattle.lio_calculus.specs.Plan.{Own, Visit, plan}
 use Rattle.lio_calculus.specs.Step.{Configuration, can, step}
-use Rattle.lio_control.specs.Front.{AtStatement}
-use Rattle.lio_turns.specs.declared.turn.Onward.{Onward}
-use Rattle.lio_turns.specs.declared.turn.Target.{Target as Named}
-use Rattle.lio_plan.specs.Planned.{simple_of}
-use Rattle.lio_turns.specs.Turns.{onward_of, target_of}
-use Rattle.lio_turns.specs.StateOf.{program_of}
+use Rattle.lio_task_control.specs.Front.{AtStatement}
+use Rattle.lio_task_turns.specs.declared.turn.Onward.{Onward}
+use Rattle.lio_task_turns.specs.declared.turn.Target.{Target as Named}
+use Rattle.lio_task_plan.specs.Planned.{simple_of}
+use Rattle.lio_task_turns.specs.Turns.{onward_of, target_of}
+use Rattle.lio_task_turns.specs.StateOf.{program_of}
 use Rattle.lio_config.specs.declared.config.StepFault.{StepFault}
 use Rattle.lio_config.specs.declared.config.StepFault.TheVariants.{Still, NoMemory}
 use Rattle.lio_config.specs.declared.config.Config.{Config}

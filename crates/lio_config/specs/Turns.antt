@@ -14,8 +14,8 @@ use Rattle.lio_calculus.specs.Task.{TaskState}
 use Rattle.lio_calculus.specs.Going.{gone_on}
 use Rattle.lio_calculus.specs.Plan.{Target}
 use Rattle.lio_calculus.specs.Step.{Cell, Move, actor_after, born, entry_of, met_after, number_of, task_after}
-use Rattle.lio_turns.specs.declared.turn.Onward.{Onward}
-use Rattle.lio_turns.specs.StateOf.{program_of}
+use Rattle.lio_task_turns.specs.declared.turn.Onward.{Onward}
+use Rattle.lio_task_turns.specs.StateOf.{program_of}
 use Rattle.lio_config.specs.declared.config.Holder.{Holder}
 use Rattle.lio_task.specs.declared.go.Way.{Way}
 use Rattle.lio_task.specs.declared.go.Way.TheVariants as way

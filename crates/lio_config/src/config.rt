@@ -4,10 +4,10 @@ ghost use Rattle.std.specs.Prelude.{◌≡◌};
 use crate::pair::pair_mut;
 use lio_cells::Node;
 use lio_clauses::NoMemory;
-use lio_plan::Planned;
 use lio_syntax::Script;
 use lio_task::{Task, Way, ended};
-use lio_turns::{Onward, Target, Turn};
+use lio_task_plan::Planned;
+use lio_task_turns::{Onward, Target, Turn};
 use lio_values::{Act, Entry, Reply};
 use std::alloc::Global;
 use thiserror::Error;
@@ -81,9 +81,11 @@ impl Config {
     ) -> Result<Entry, StepFault>
         requires sound { IsSound (configuration_of script.now self.old) }
         requires plans { PlansOwn script.now self.old k act reply way }
-        ensures ok { IfOk result (Steps (configuration_of script.now self.old) (configuration_of script.now self.new) k ticket) }
+        ensures ok { IfOk result (Steps (configuration_of script.now self.old)
+            (configuration_of script.now self.new) k ticket) }
         ensures fault { IfErr result (Stays (configuration_of script.now self.old) k) }
-        ensures err { OnErr result (configuration_of script.now self.new ≡ configuration_of script.now self.old) }
+        ensures err { OnErr result (configuration_of script.now self.new
+            ≡ configuration_of script.now self.old) }
     {
         let Some(actor) = self.holders.get_mut(k as usize) else {
             unreachable!()
@@ -103,9 +105,11 @@ impl Config {
     ) -> Result<Entry, StepFault>
         requires sound { IsSound (configuration_of script.now self.old) }
         requires plans { PlansOwn script.now self.old k stepping done way }
-        ensures ok { IfOk result (Steps (configuration_of script.now self.old) (configuration_of script.now self.new) k ticket) }
+        ensures ok { IfOk result (Steps (configuration_of script.now self.old)
+            (configuration_of script.now self.new) k ticket) }
         ensures fault { IfErr result (Stays (configuration_of script.now self.old) k) }
-        ensures err { OnErr result (configuration_of script.now self.new ≡ configuration_of script.now self.old) }
+        ensures err { OnErr result (configuration_of script.now self.new
+            ≡ configuration_of script.now self.old) }
     {
         let Some(actor) = self.holders.get_mut(k as usize) else {
             unreachable!()
@@ -127,9 +131,11 @@ impl Config {
         requires sound { IsSound (configuration_of script.now self.old) }
         requires plans { PlansVisit script.now self.old k act target onward }
         requires can { IsTrue (can (configuration_of script.now self.old) k) }
-        ensures ok { IfOk result (Steps (configuration_of script.now self.old) (configuration_of script.now self.new) k ticket) }
+        ensures ok { IfOk result (Steps (configuration_of script.now self.old)
+            (configuration_of script.now self.new) k ticket) }
         ensures fault { IfErr result (Stays (configuration_of script.now self.old) k) }
-        ensures err { OnErr result (configuration_of script.now self.new ≡ configuration_of script.now self.old) }
+        ensures err { OnErr result (configuration_of script.now self.new
+            ≡ configuration_of script.now self.old) }
     {
         let n = target.number();
         drop(target);
@@ -147,10 +153,12 @@ impl Config {
         ticket: u64,
     ) -> Result<Entry, StepFault>
         requires { IsSound (configuration_of script.now self.old) }
-        ensures ok { IfOk result (Steps (configuration_of script.now self.old) (configuration_of script.now self.new) k ticket) }
+        ensures ok { IfOk result (Steps (configuration_of script.now self.old)
+            (configuration_of script.now self.new) k ticket) }
         ensures sound { OnOk result (IsSound (configuration_of script.now self.new)) }
         ensures fault { IfErr result (Stays (configuration_of script.now self.old) k) }
-        ensures err { OnErr result (configuration_of script.now self.new ≡ configuration_of script.now self.old) }
+        ensures err { OnErr result (configuration_of script.now self.new
+            ≡ configuration_of script.now self.old) }
     {
         let Some(task) = self.task(k) else {
             return Err(StepFault::Still(k));

@@ -11,7 +11,8 @@ use std::alloc::Global;
 
 /// An equal task, if there is one.
 fn copy_task(alloc: Global, task: &Option<Task>) -> Result<Option<Task>, NoMemory>
-    ensures { IfOk result (λ copy. (script : List Procedure) → option_map (state_in script) copy ≡ option_map (state_in script) task.now) }
+    ensures { IfOk result (λ copy. (script : List Procedure)
+        → option_map (state_in script) copy ≡ option_map (state_in script) task.now) }
 {
     match task {
         Some(task) => Ok(Some(task.copy(alloc)?)),
@@ -27,7 +28,8 @@ impl Holder {
 
     /// A holder of an equal node, which keeps nothing ready, and of an equal task.
     pub fn copy(&self, alloc: Global) -> Result<Holder, NoMemory>
-        ensures cell { IfOk result (λ holder. (script : List Procedure) → cell_of script holder ≡ cell_of script self.now) }
+        ensures cell { IfOk result (λ holder. (script : List Procedure)
+            → cell_of script holder ≡ cell_of script self.now) }
         ensures node { IfOk result (λ holder. holder.node ≡ node_of self.now.node.state) }
     {
         let node = self.node.copy(alloc)?;
@@ -48,7 +50,8 @@ impl Config {
 
     /// An equal configuration.
     pub fn copy(&self, alloc: Global) -> Result<Config, NoMemory>
-        ensures { IfOk result (λ config. (script : List Procedure) → configuration_of script config ≡ configuration_of script self.now) }
+        ensures { IfOk result (λ config. (script : List Procedure)
+            → configuration_of script config ≡ configuration_of script self.now) }
     {
         let mut holders = Vec::new(alloc);
         for holder in &self.holders {

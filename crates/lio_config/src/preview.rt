@@ -19,7 +19,14 @@ fn entry_of(
     act: Act,
     reply: Reply,
 ) -> Result<Entry, NoMemory>
-    ensures { IfOk result (λ entry. entry ≡ record { ticket = ticket; actor = k; target = target; at = task.now.label; act = act; reply = reply }) }
+    ensures { IfOk result (λ entry. entry ≡ record {
+      ticket = ticket;
+      actor = k;
+      target = target;
+      at = task.now.label;
+      act = act;
+      reply = reply;
+    }) }
 {
     match task.label().copy(alloc) {
         Ok(at) => Ok(Entry {
@@ -44,7 +51,7 @@ impl Config {
     ghost use Rattle.lio_cells.specs.State.{grants};
     ghost use Rattle.lio_calculus.specs.Sound.{IsSound};
     ghost use Rattle.lio_calculus.specs.Step.{can, cell_at};
-    ghost use Rattle.lio_turns.specs.StateOf.{program_of};
+    ghost use Rattle.lio_task_turns.specs.StateOf.{program_of};
     ghost use Rattle.lio_task.specs.declared.next.Next.TheVariants as next;
     ghost use Rattle.lio_config.specs.Configuration.{configuration_of, task_in};
     ghost use Rattle.lio_task.specs.Next.{next_of};
@@ -54,7 +61,8 @@ impl Config {
 
     /// Whether the node with a number gives what a task at its access wishes for.
     fn grants(&self, n: u32, wish: Wish) -> bool
-        ensures { (script : List Procedure) → result ≡ grants (cell_at (configuration_of script self.now) n).state wish }
+        ensures { (script : List Procedure)
+            → result ≡ grants (cell_at (configuration_of script self.now) n).state wish }
     {
         match self.holders.get(n as usize) {
             Some(holder) => holder.node.grants(wish),
@@ -62,11 +70,13 @@ impl Config {
         }
     }
 
-    /// Whether a task that stands so can take a turn: it hasn't ended, and has no turns left or stands at no access whose node isn't ready. It takes
-    /// no memory.
+    /// Whether a task that stands so can take a turn: it hasn't ended, and has no turns left or
+    /// stands at no access whose node isn't ready. It takes no memory.
     pub(crate) fn can_go_on(&self, task: &Task, status: Status) -> bool
-        ensures { (script : List Procedure) (k : ℕ) → IsSound (configuration_of script self.now) → task_in self.now k ≡ Some task.now
-            → status ≡ status_of (state_in script task.now) → result ≡ can (configuration_of script self.now) k }
+        ensures { (script : List Procedure) (k : ℕ) → IsSound (configuration_of script self.now)
+            → task_in self.now k ≡ Some task.now
+            → status ≡ status_of (state_in script task.now)
+            → result ≡ can (configuration_of script self.now) k }
     {
         match status {
             Status::Ended => false,
@@ -77,7 +87,8 @@ impl Config {
 
     /// Tells whether task `k` is there and can take a turn. It takes no memory.
     pub fn can_move(&self, script: &Script, k: u32) -> bool
-        ensures { let here = configuration_of script.now self.now in IsSound here → result ≡ can here k }
+        ensures { let here = configuration_of script.now self.now in IsSound here
+            → result ≡ can here k }
     {
         match self.task(k) {
             Some(task) => self.can_go_on(task, task.status(script)),
@@ -120,7 +131,8 @@ impl Config {
     ) -> Result<Entry, StepFault>
         requires sound { IsSound (configuration_of script.now self.now) }
         requires task { task_in self.now k ≡ Some task.now }
-        requires next { next_of (program_of script.now self.now.longest) (state_in script.now task.now) ≡ next.Visit act n }
+        requires next { next_of (program_of script.now self.now.longest)
+            (state_in script.now task.now) ≡ next.Visit act n }
         ensures ok { IfOk result (WouldShow (configuration_of script.now self.now) k ticket) }
         ensures fault { IfErr result (Stays (configuration_of script.now self.now) k) }
     {

@@ -1,13 +1,15 @@
-//! The turn of a task, over the holders that it is lent: the actor's, and that of the node that its act meets.
+//! The turn of a task, over the holders that it is lent: the actor's, and that of the node that its
+//! act meets.
 //!
-//! What may fail comes first: a copy of the task's label, a child's task, the reply, the room in the node that serves, and last how the
-//! actor goes on. From then on no memory is taken, so a refusal leaves all as it was.
+//! What may fail comes first: a copy of the task's label, a child's task, the reply, the room in
+//! the node that serves, and last how the actor goes on. From then on no memory is taken, so a
+//! refusal leaves all as it was.
 use crate::config::{Holder, StepFault};
 use lio_clauses::NoMemory;
 use lio_labels::Label;
 use lio_syntax::Script;
 use lio_task::{Task, Way};
-use lio_turns::Onward;
+use lio_task_turns::Onward;
 use lio_values::{Act, Entry, Reply};
 use std::alloc::Global;
 
@@ -22,7 +24,9 @@ impl Holder {
     ghost use Rattle.lio_config.specs.Configuration.{cell_of};
     ghost use Rattle.lio_config.specs.declared.config.StepFault.TheVariants.{NoMemory as without_memory};
     ghost use Rattle.lio_task.specs.declared.go.Way.TheVariants as way;
-    ghost use Rattle.lio_config.specs.Turns.{AreAsBefore, Bears, CanMeet, CanTurn, CanTurnAlone, Gone, HasTask, IsChild, IsLabelOf, Served, TurnedAlone, TurnedMeeting};
+    ghost use Rattle.lio_config.specs.Turns.{AreAsBefore, Bears, CanMeet, CanTurn, CanTurnAlone};
+    ghost use Rattle.lio_config.specs.Turns.{Gone, HasTask, IsChild, IsLabelOf, Served};
+    ghost use Rattle.lio_config.specs.Turns.{TurnedAlone, TurnedMeeting};
 
     /// A copy of its task's label, for an entry.
     fn label(&self, alloc: Global) -> Result<Label, NoMemory>
@@ -37,7 +41,8 @@ impl Holder {
 
     /// Takes the memory that an act needs in its node.
     fn reserve(&mut self, alloc: Global, act: &Act) -> Result<(), NoMemory>
-        ensures same { (script : List Procedure) → cell_of script self.new ≡ cell_of script self.old }
+        ensures same { (script : List Procedure)
+            → cell_of script self.new ≡ cell_of script self.old }
         ensures task { self.new.task ≡ self.old.task }
         ensures room { OnOk result (self.new.node.room ≡ room_for self.new.node.state act.now) }
     {
@@ -69,7 +74,8 @@ impl Holder {
     fn prepare(&mut self, alloc: Global, act: &Act) -> Result<Label, NoMemory>
         requires { HasTask self.old }
         ensures label { IfOk result (IsLabelOf self.old) }
-        ensures same { (script : List Procedure) → cell_of script self.new ≡ cell_of script self.old }
+        ensures same { (script : List Procedure)
+            → cell_of script self.new ≡ cell_of script self.old }
         ensures task { self.new.task ≡ self.old.task }
         ensures room { OnOk result (self.new.node.room ≡ room_for self.new.node.state act.now) }
     {
@@ -83,8 +89,9 @@ impl Holder {
         }
     }
 
-    /// Does all that may fail of a turn in which its own node serves: a copy of its task's label, the memory that the act needs, and last how
-    /// its task goes on. After a refusal of memory all is as before.
+    /// Does all that may fail of a turn in which its own node serves: a copy of its task's label,
+    /// the memory that the act needs, and last how its task goes on. After a refusal of memory all
+    /// is as before.
     fn go_alone(
         &mut self,
         alloc: Global,
@@ -128,8 +135,8 @@ impl Holder {
         }
     }
 
-    /// Takes the turn of its task, which has number `k`, where it is a step that concerns the task alone: its node is as before. After a refusal of
-    /// memory all is as before.
+    /// Takes the turn of its task, which has number `k`, where it is a step that concerns the task
+    /// alone: its node is as before. After a refusal of memory all is as before.
     #[inline(always)]
     pub(crate) fn step_alone(
         &mut self,
@@ -140,7 +147,8 @@ impl Holder {
         way: Way,
     ) -> Result<Entry, StepFault>
         requires { CanTurn script.now self.old way }
-        ensures ok { IfOk result (TurnedAlone script.now self.old self.new k ticket stepping done way.entry) }
+        ensures ok { IfOk result (TurnedAlone script.now self.old self.new k ticket stepping done
+            way.entry) }
         ensures fault { IfErr result (λ fault. fault ≡ without_memory) }
         ensures err { OnErr result (cell_of script.now self.new ≡ cell_of script.now self.old) }
     {
@@ -167,7 +175,8 @@ impl Holder {
         }
     }
 
-    /// Takes the turn of its task, which has number `k`, where the turn meets no other node. After a refusal of memory all is as before.
+    /// Takes the turn of its task, which has number `k`, where the turn meets no other node. After
+    /// a refusal of memory all is as before.
     pub(crate) fn turn_alone(
         &mut self,
         alloc: Global,
@@ -179,7 +188,8 @@ impl Holder {
         way: Way,
     ) -> Result<Entry, StepFault>
         requires { CanTurnAlone script.now self.old act way }
-        ensures ok { IfOk result (TurnedAlone script.now self.old self.new k ticket act reply way.entry) }
+        ensures ok { IfOk result (TurnedAlone script.now self.old self.new k ticket act reply
+            way.entry) }
         ensures fault { IfErr result (λ fault. fault ≡ without_memory) }
         ensures err { OnErr result (cell_of script.now self.new ≡ cell_of script.now self.old) }
     {
@@ -203,7 +213,8 @@ impl Holder {
         }
     }
 
-    /// A copy of its task's label, and the child that an act of its task gives birth to, if it does.
+    /// A copy of its task's label, and the child that an act of its task gives birth to, if it
+    /// does.
     fn born(
         &self,
         alloc: Global,
@@ -228,7 +239,8 @@ impl Holder {
     fn answer(&mut self, alloc: Global, act: &Act) -> Result<Reply, NoMemory>
         requires { IsTrue (is_ready self.old.node.state act.now) }
         ensures reply { IfOk result (λ reply. reply ≡ answer self.old.node.state act.now) }
-        ensures same { (script : List Procedure) → cell_of script self.new ≡ cell_of script self.old }
+        ensures same { (script : List Procedure)
+            → cell_of script self.new ≡ cell_of script self.old }
         ensures room { OnOk result (self.new.node.room ≡ room_for self.new.node.state act.now) }
     {
         let reply = self.node.answer(alloc, act)?;
@@ -241,8 +253,8 @@ impl Holder {
         }
     }
 
-    /// Does what may fail of a turn that meets the node of another holder, and last lets its task go on; gives the reply. After a refusal of memory
-    /// both are as before.
+    /// Does what may fail of a turn that meets the node of another holder, and last lets its task
+    /// go on; gives the reply. After a refusal of memory both are as before.
     fn meet(
         &mut self,
         alloc: Global,
@@ -254,7 +266,8 @@ impl Holder {
         requires turns { CanTurn script.now self.old (way.On onward) }
         requires ready { IsTrue (is_ready met.old.node.state act.now) }
         ensures reply { IfOk result (λ reply. reply ≡ answer met.old.node.state act.now) }
-        ensures gone { IfOk result (λ reply. Gone script.now self.old self.new (way.On onward.entry) act.now reply) }
+        ensures gone { IfOk result (λ reply.
+            Gone script.now self.old self.new (way.On onward.entry) act.now reply) }
         ensures room { OnOk result (met.new.node.room ≡ room_for met.new.node.state act.now) }
         ensures met { cell_of script.now met.new ≡ cell_of script.now met.old }
         ensures err { OnErr result (cell_of script.now self.new ≡ cell_of script.now self.old) }
@@ -274,8 +287,8 @@ impl Holder {
         }
     }
 
-    /// Takes the turn of its task, which has number `k`, where the turn meets the node of another holder, which has number `n` and is ready. After a
-    /// refusal of memory all is as before.
+    /// Takes the turn of its task, which has number `k`, where the turn meets the node of another
+    /// holder, which has number `n` and is ready. After a refusal of memory all is as before.
     pub(crate) fn turn_meeting(
         &mut self,
         alloc: Global,
@@ -289,7 +302,8 @@ impl Holder {
     ) -> Result<Entry, StepFault>
         requires meets { CanMeet script.now self.old act onward }
         requires ready { IsTrue (is_ready met.old.node.state act) }
-        ensures ok { IfOk result (TurnedMeeting script.now self.old self.new met.old met.new k ticket n act onward.entry) }
+        ensures ok { IfOk result (TurnedMeeting script.now self.old self.new met.old met.new k
+            ticket n act onward.entry) }
         ensures fault { IfErr result (λ fault. fault ≡ without_memory) }
         ensures err { OnErr result (AreAsBefore script.now self.old self.new met.old met.new) }
     {

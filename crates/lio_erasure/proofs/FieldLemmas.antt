@@ -6,7 +6,7 @@ use Rattle.lio_values.specs.declared.act.Reply.TheVariants.{Done}
 use Rattle.lio_values.specs.declared.entry.Entry.{Entry}
 use Rattle.lio_cells.specs.State.{answer, is_absent}
 use Rattle.lio_calculus.specs.Step.{Configuration, blank, cell_at, met_after, waits}
-use Rattle.lio_turns.specs.StateOf.{program_of}
+use Rattle.lio_task_turns.specs.StateOf.{program_of}
 use Rattle.lio_task.specs.declared.task.Task.{Task}
 use Rattle.lio_config.specs.declared.config.Holder.{Holder}
 use Rattle.lio_erasure.specs.Low.{IsErased, low_cell_of, low_configuration_of, low_task_in, seen_cell}

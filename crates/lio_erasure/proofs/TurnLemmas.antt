@@ -31,7 +31,7 @@ use Rattle.lio_calculus.proofs.EnabledLemmas.{can-task}
 use Rattle.lio_calculus.proofs.HandleLemmas.{visit_meets_handle}
 use Rattle.lio_calculus.proofs.TurnParts.{own-moves, own_move, visit-moves, visit_move}
 use Rattle.lio_calculus.proofs.VisitLemmas.{answer-done}
-use Rattle.lio_turns.specs.StateOf.{program_of}
+use Rattle.lio_task_turns.specs.StateOf.{program_of}
 use Rattle.lio_task.specs.Births.{CanBear}
 use Rattle.lio_config.proofs.MoveLemmas.{act-bears}
 use Rattle.lio_task.specs.declared.task.Task.{Task}

@@ -11,7 +11,7 @@ use Rattle.lio_calculus.specs.Step.{Cell, Configuration, blank, cell_at}
 use Rattle.lio_calculus.specs.Hiding.{hide_task}
 use Rattle.lio_calculus.specs.Erased.{erase, sees}
 use Rattle.lio_calculus.specs.Sound.{IsSound}
-use Rattle.lio_turns.specs.StateOf.{program_of}
+use Rattle.lio_task_turns.specs.StateOf.{program_of}
 use Rattle.lio_task.specs.declared.task.Task.{Task}
 use Rattle.lio_config.specs.declared.config.Holder.{Holder}
 use Rattle.lio_config.specs.Configuration.{cell_of}
@@ -63,7 +63,7 @@ pub record IsErased (observer : Label) (c : Configuration) : Type 0 where
   pub jobs : TasksAreJobs c
   pub erased : erase observer c ≡ c
 
--- A configuration is what an observer sees of a well-formed one.
+-- A configuration is what an observer sees of a sound one.
 pub record IsSeenOfSound (observer : Label) (c : Configuration) : Type 0 where
   pub whole : Configuration
   pub sound : IsSound whole

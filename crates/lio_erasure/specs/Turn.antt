@@ -20,7 +20,7 @@ use Rattle.lio_calculus.specs.Step.{Cell, Configuration, Move, after, can, cell_
 use Rattle.lio_calculus.specs.Erased.{erase, low}
 use Rattle.lio_calculus.specs.Sound.{IsTaskOf}
 use Rattle.lio_calculus.specs.Afforded.{kind_met, makes}
-use Rattle.lio_turns.specs.StateOf.{program_of}
+use Rattle.lio_task_turns.specs.StateOf.{program_of}
 use Rattle.lio_task.specs.declared.task.Task.{Task}
 use Rattle.lio_config.specs.declared.config.Holder.{Holder}
 use Rattle.lio_task.specs.StateOf.{state_in}

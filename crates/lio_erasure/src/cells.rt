@@ -10,7 +10,7 @@ ghost use Rattle.lio_cells.specs.State.{Kind, is_absent, ready};
 ghost use Rattle.lio_calculus.specs.Afforded.{kind_met};
 ghost use Rattle.lio_calculus.specs.Plan.{Node as by_handle};
 ghost use Rattle.lio_calculus.specs.Step.{cell_at, met};
-ghost use Rattle.lio_turns.specs.StateOf.{program_of};
+ghost use Rattle.lio_task_turns.specs.StateOf.{program_of};
 ghost use Rattle.lio_erasure.specs.Low.{LeavesOutBlanks, holder_in, is_kept, low_cell_of};
 ghost use Rattle.lio_erasure.specs.Low.{low_configuration_of, low_task_in};
 ghost use Rattle.lio_erasure.specs.Turn.{Advances, CanAdvance, CanGoOn, CanServe, HasGoneOn};

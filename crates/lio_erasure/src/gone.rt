@@ -5,7 +5,7 @@
 
 ghost use Rattle.std.specs.Prelude.{◌≡◌, IfOk, IsSome, OnOk, OnErr, false};
 ghost use Rattle.lio_calculus.specs.Hiding.{hide_task};
-ghost use Rattle.lio_turns.specs.StateOf.{program_of};
+ghost use Rattle.lio_task_turns.specs.StateOf.{program_of};
 ghost use Rattle.lio_config.specs.Configuration.{cell_of};
 ghost use Rattle.lio_task.specs.Next.{resumed};
 ghost use Rattle.lio_task.specs.StateOf.{state_in};

@@ -6,7 +6,7 @@ ghost use Rattle.std.specs.Prelude.{List, true, false, IsSome, IsTrue, IfErr, On
 ghost use Rattle.lio_values.specs.declared.value.Content.{Content};
 ghost use Rattle.lio_calculus.specs.Step.{blank, met_after, waits};
 ghost use Rattle.lio_calculus.specs.Afforded.{makes};
-ghost use Rattle.lio_turns.specs.StateOf.{program_of};
+ghost use Rattle.lio_task_turns.specs.StateOf.{program_of};
 ghost use Rattle.lio_task.specs.Births.{CanBear};
 ghost use Rattle.lio_erasure.specs.Low.{IsSeenOfSound, LeavesOutBlanks, is_kept, low_cell_of};
 ghost use Rattle.lio_erasure.specs.Low.{low_configuration_of, low_task_in, seen_cell};
@@ -21,11 +21,11 @@ use crate::made::made;
 use crate::shown::entry_of;
 use lio_clauses::{NoMemory, beside};
 use lio_config::Holder;
+use lio_events::Contents;
 use lio_labels::Label;
 use lio_syntax::Script;
 use lio_task::Next;
 use lio_values::{Act, Content, Entry, Held, Reply};
-use lio_view::Contents;
 use std::alloc::Global;
 use std::marker::Model;
 use thiserror::Error;
@@ -85,7 +85,7 @@ impl Model for Low {
 
 #[tactic(none)]
 impl Low {
-    /// What an observer sees of a well-formed configuration, with its script and how long a text
+    /// What an observer sees of a sound configuration, with its script and how long a text
     /// may become in it.
     pub fn new(config: LowConfig, observer: Label, script: Script, longest: u32) -> Low
         requires seen { IsSeenOfSound observer (low_configuration_of script longest config) }

@@ -3,7 +3,7 @@ ghost use Rattle.std.specs.Prelude.{◌≡◌, ℕ, IfOk, IsTrue};
 ghost use Rattle.lio_cells.specs.State.{state_after};
 ghost use Rattle.lio_calculus.specs.Afforded.{makes};
 ghost use Rattle.lio_calculus.specs.Step.{blank, met_after};
-ghost use Rattle.lio_turns.specs.StateOf.{program_of};
+ghost use Rattle.lio_task_turns.specs.StateOf.{program_of};
 ghost use Rattle.lio_task.specs.Births.{CanBear};
 ghost use Rattle.lio_config.specs.Configuration.{cell_of};
 

@@ -1,2 +1,4 @@
 pub mod RisingLemmas
 pub mod PrintableLemmas
+pub mod ViewLaws
+pub mod ViewLemmas

@@ -6,3 +6,6 @@ pub mod JournalText
 pub mod Printable
 pub mod Laws
 pub mod ChannelBytes
+pub mod Views
+pub mod Tickets
+pub mod ViewLaws

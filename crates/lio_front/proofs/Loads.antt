@@ -5,8 +5,8 @@ use Rattle.lio_outside.specs.FileMap.{FileMap}
 use Rattle.lio_outside.specs.Fetch.{given, IsMissing}
 use Rattle.lio_outside.proofs.CountLemmas.{Rose-in_part, IsMissing-in_part}
 use Rattle.lio_policy.specs.declared.policy.Policy.{Policy}
-use Rattle.lio_draft.specs.declared.fault.PolicyFault.{PolicyFault}
-use Rattle.lio_draft.specs.declared.fault.PolicyFault.TheVariants as policy_fault
+use Rattle.lio_policy_draft.specs.declared.fault.PolicyFault.{PolicyFault}
+use Rattle.lio_policy_draft.specs.declared.fault.PolicyFault.TheVariants as policy_fault
 use Rattle.lio_policy.specs.Verdict.{policy_of}
 use Rattle.lio_syntax.specs.declared.fault.ScriptFault.{ScriptFault}
 use Rattle.lio_syntax.specs.declared.fault.ScriptFault.TheVariants as script_fault

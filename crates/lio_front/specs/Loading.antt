@@ -2,8 +2,8 @@
 use Rattle.std.specs.Prelude.{ℕ, List, [], ◌∷◌, Option, Some, None, Result, Ok, Err}
 use Rattle.lio_policy.specs.declared.policy.Policy.{Policy}
 use Rattle.lio_policy.specs.declared.policy.FileEntry.{FileEntry}
-use Rattle.lio_draft.specs.declared.fault.PolicyFault.{PolicyFault}
-use Rattle.lio_draft.specs.declared.fault.PolicyFault.TheVariants as policy_fault
+use Rattle.lio_policy_draft.specs.declared.fault.PolicyFault.{PolicyFault}
+use Rattle.lio_policy_draft.specs.declared.fault.PolicyFault.TheVariants as policy_fault
 use Rattle.lio_policy.specs.Verdict.{policy_of}
 use Rattle.lio_syntax.specs.declared.fault.ScriptFault.{ScriptFault}
 use Rattle.lio_syntax.specs.declared.fault.ScriptFault.TheVariants as script_fault

@@ -28,15 +28,17 @@ fn is_taken(
     before: &[FileEntry],
     name: &[u8],
 ) -> bool
-    ensures { result ≡ (spec.is_read policy_file.now script_file.now policy.now name.now || spec.has_file before.now name.now) }
+    ensures { result ≡ (spec.is_read policy_file.now script_file.now policy.now name.now ||
+        spec.has_file before.now name.now) }
 {
     is_read(policy_file, script_file, policy, name) || has_file(before, name)
 }
 
-/// The first file that is written, of the channels in their order, whose name is that of a file that is read, or of one that is
-/// written before.
+/// The first file that is written, of the channels in their order, whose name is that of a file
+/// that is read, or of one that is written before.
 pub fn clash<'a>(policy_file: &[u8], script_file: &[u8], policy: &'a Policy) -> Option<&'a Text>
-    ensures { MatchOption result (spec.clash policy_file.now script_file.now policy.now ≡ None) (λ name. spec.clash policy_file.now script_file.now policy.now ≡ Some name.now) }
+    ensures { MatchOption result (spec.clash policy_file.now script_file.now policy.now ≡ None)
+        (λ name. spec.clash policy_file.now script_file.now policy.now ≡ Some name.now) }
 {
     let channels = policy.channels.as_slice();
     for (place, channel) in channels.iter().enumerate() {

@@ -2,7 +2,7 @@
 ghost use Rattle.std.specs.Prelude.{◌≡◌};
 
 use lio_clauses::NoMemory;
-use lio_draft::PolicyFault;
+use lio_policy_draft::PolicyFault;
 use lio_start::StartFault;
 use lio_syntax::ScriptFault;
 use lio_values::Text;
@@ -17,10 +17,12 @@ pub enum FrontFault {
     /// The file with this name couldn't be read.
     #[error("a file couldn't be read")]
     ReadFault(Text),
-    /// The lowest rule that the policy breaks, and the lowest entry at which it does; entry 0 is the document.
+    /// The lowest rule that the policy breaks, and the lowest entry at which it does; entry 0 is
+    /// the document.
     #[error("entry {1} of the policy breaks rule {0}")]
     BadPolicy(u32, u32),
-    /// The first line of the script that breaks a rule, and the lowest rule that it breaks; line 0 where the script is too long.
+    /// The first line of the script that breaks a rule, and the lowest rule that it breaks; line 0
+    /// where the script is too long.
     #[error("line {0} of the script breaks rule {1}")]
     BadScript(u32, u32),
     /// The place of the first task that can't begin, from 0, and why.

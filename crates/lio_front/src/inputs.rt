@@ -10,7 +10,8 @@ use lio_policy::Policy;
 use lio_values::{List, Text};
 use std::alloc::Global;
 
-/// Fetches the inputs of a policy in their order, of each at most one byte more than `longest`. The store's files stay.
+/// Fetches the inputs of a policy in their order, of each at most one byte more than `longest`. The
+/// store's files stay.
 pub fn load_inputs<S: Store>(
     alloc: Global,
     store: &mut S,
@@ -18,9 +19,11 @@ pub fn load_inputs<S: Store>(
 ) -> Result<List<Text>, FrontFault>
     ensures files { S.holds store.new ≡ S.holds store.old }
     ensures count { S.faults store.old ≤ S.faults store.new }
-    ensures ok { IfOk result (λ texts. AreInputs (S.holds store.old) policy.now.longest policy.now.inputs (Ok texts)) }
+    ensures ok { IfOk result (λ texts.
+        AreInputs (S.holds store.old) policy.now.longest policy.now.inputs (Ok texts)) }
     ensures each { IfOk result (λ texts. length texts ≡ length policy.now.inputs) }
-    ensures err { IfErr result (InputsSay (S.holds store.old) policy.now.longest policy.now.inputs (S.faults store.old) (S.faults store.new)) }
+    ensures err { IfErr result (InputsSay (S.holds store.old) policy.now.longest policy.now.inputs
+        (S.faults store.old) (S.faults store.new)) }
 {
     let mut texts = List::new(alloc);
     for input in policy.inputs.as_slice() {

@@ -1,4 +1,5 @@
-//! The steps that the programs share: what is read before a script runs, and what is written after it.
+//! The steps that the programs share: what is read before a script runs, and what is written after
+//! it.
 #![tactic(auto)]
 
 mod clashes;

@@ -36,7 +36,8 @@ pub(crate) fn fetch<S: Store>(
     ensures files { S.holds store.new ≡ S.holds store.old }
     ensures count { S.faults store.old ≤ S.faults store.new }
     ensures ok { IfOk result (λ bytes. Gave (S.holds store.old) name.now limit (Some bytes.items)) }
-    ensures err { IfErr result (FetchSays (S.holds store.old) name.now limit (S.faults store.old) (S.faults store.new)) }
+    ensures err { IfErr result (FetchSays (S.holds store.old) name.now limit (S.faults store.old)
+        (S.faults store.new)) }
 {
     match store.fetch(alloc, name, limit) {
         Ok(bytes) => Ok(bytes),
@@ -51,13 +52,16 @@ fn load_policy<S: Store>(alloc: Global, store: &mut S, policy: &[u8]) -> Result<
     ensures files { S.holds store.new ≡ S.holds store.old }
     ensures count { S.faults store.old ≤ S.faults store.new }
     ensures ok { IfOk result (PolicyLoaded (S.holds store.old) policy.now) }
-    ensures err { IfErr result (λ fault. (script : List ℕ) → LoadSays (S.holds store.old) policy.now script (S.faults store.old) (S.faults store.new) fault) }
+    ensures err { IfErr result (λ fault. (script : List ℕ)
+        → LoadSays (S.holds store.old) policy.now script (S.faults store.old)
+        (S.faults store.new) fault) }
 {
     let text = fetch(alloc, store, policy, MOST_POLICY_BYTES)?;
     Ok(read_policy(alloc, text.as_slice())?)
 }
 
-/// Fetches and reads the script, and sees that each task of the policy can begin in it. The store's files stay.
+/// Fetches and reads the script, and sees that each task of the policy can begin in it. The store's
+/// files stay.
 fn load_script<S: Store>(
     alloc: Global,
     store: &mut S,
@@ -66,10 +70,16 @@ fn load_script<S: Store>(
 ) -> Result<Script, FrontFault>
     ensures files { S.holds store.new ≡ S.holds store.old }
     ensures count { S.faults store.old ≤ S.faults store.new }
-    ensures ok { IfOk result (λ procedures. (file : List ℕ) → PolicyLoaded (S.holds store.old) file policy.now → IsLoaded (S.holds store.old) file script.now (Ok (record { policy = policy.now; script = procedures }))) }
+    ensures ok { IfOk result (λ procedures. (file : List ℕ)
+        → PolicyLoaded (S.holds store.old) file policy.now
+        → IsLoaded (S.holds store.old) file script.now
+        (Ok (record { policy = policy.now; script = procedures }))) }
     ensures fits { IfOk result (λ procedures. start.fits policy.now.tasks procedures ≡ None) }
     ensures over { IfOk result (λ procedures. IsOver policy.now.names procedures) }
-    ensures err { IfErr result (λ fault. (file : List ℕ) → PolicyLoaded (S.holds store.old) file policy.now → LoadSays (S.holds store.old) file script.now (S.faults store.old) (S.faults store.new) fault) }
+    ensures err { IfErr result (λ fault. (file : List ℕ)
+        → PolicyLoaded (S.holds store.old) file policy.now
+        → LoadSays (S.holds store.old) file script.now (S.faults store.old)
+        (S.faults store.new) fault) }
 {
     let text = fetch(alloc, store, script, MOST_SCRIPT_BYTES)?;
     let script = read_script(alloc, text.as_slice(), &policy.names)?;
@@ -79,8 +89,8 @@ fn load_script<S: Store>(
     }
 }
 
-/// Fetches and reads the policy and then the script, and sees that each task of the policy can begin in the script. The store's
-/// files stay.
+/// Fetches and reads the policy and then the script, and sees that each task of the policy can
+/// begin in the script. The store's files stay.
 pub fn load<S: Store>(
     alloc: Global,
     store: &mut S,
@@ -89,10 +99,12 @@ pub fn load<S: Store>(
 ) -> Result<Front, FrontFault>
     ensures files { S.holds store.new ≡ S.holds store.old }
     ensures count { S.faults store.old ≤ S.faults store.new }
-    ensures ok { IfOk result (λ front. IsLoaded (S.holds store.old) policy.now script.now (Ok front)) }
+    ensures ok { IfOk result (λ front. IsLoaded (S.holds store.old) policy.now script.now
+        (Ok front)) }
     ensures fits { IfOk result (λ front. start.fits front.policy.tasks front.script ≡ None) }
     ensures over { IfOk result (λ front. IsOver front.policy.names front.script) }
-    ensures err { IfErr result (LoadSays (S.holds store.old) policy.now script.now (S.faults store.old) (S.faults store.new)) }
+    ensures err { IfErr result (LoadSays (S.holds store.old) policy.now script.now
+        (S.faults store.old) (S.faults store.new)) }
 {
     let policy = load_policy(alloc, store, policy)?;
     match load_script(alloc, store, script, &policy) {

@@ -18,8 +18,10 @@ fn keep<S: Store>(
     journal: &Journal,
 ) -> Result<(), OutFault>
     ensures count { S.faults store.old ≤ S.faults store.new }
-    ensures ok { OnOk result (S.holds store.new ≡ kept_one (S.holds store.old) (output_of journal.now number channel.now)) }
-    ensures err { IfErr result (OneSays (S.holds store.old) (S.holds store.new) (output_of journal.now number channel.now) (S.faults store.old) (S.faults store.new)) }
+    ensures ok { OnOk result (S.holds store.new
+        ≡ kept_one (S.holds store.old) (output_of journal.now number channel.now)) }
+    ensures err { IfErr result (OneSays (S.holds store.old) (S.holds store.new)
+        (output_of journal.now number channel.now) (S.faults store.old) (S.faults store.new)) }
 {
     let name = channel.file.copy(alloc)?;
     let bytes = channel_bytes(alloc, journal, number)?;
@@ -30,8 +32,8 @@ fn keep<S: Store>(
     }
 }
 
-/// Writes the channels' files in the policy's order, each with what the channel received. After want of memory a first part of the files
-/// is written, none or all of them included.
+/// Writes the channels' files in the policy's order, each with what the channel received. After
+/// want of memory a first part of the files is written, none or all of them included.
 pub fn write_out<S: Store>(
     alloc: Global,
     store: &mut S,
@@ -39,8 +41,10 @@ pub fn write_out<S: Store>(
     journal: &Journal,
 ) -> Result<(), OutFault>
     ensures count { S.faults store.old ≤ S.faults store.new }
-    ensures ok { OnOk result (S.holds store.new ≡ kept (S.holds store.old) (outputs policy.now journal.now)) }
-    ensures err { IfErr result (OutSays (S.holds store.old) (S.holds store.new) (outputs policy.now journal.now) (S.faults store.old) (S.faults store.new)) }
+    ensures ok { OnOk result (S.holds store.new
+        ≡ kept (S.holds store.old) (outputs policy.now journal.now)) }
+    ensures err { IfErr result (OutSays (S.holds store.old) (S.holds store.new)
+        (outputs policy.now journal.now) (S.faults store.old) (S.faults store.new)) }
 {
     for (number, channel) in policy.channels.as_slice().iter().enumerate() {
         keep(alloc, store, channel, number as u32, journal)?;

@@ -55,8 +55,8 @@ pub fn narrow_join(
     current: &Label,
     target: &Label,
 ) -> Result<Option<Label>, NoMemory>
-    ensures { IfOk result (λ label. label ≡ (if is_wide
-        (join current.now target.now) then None else Some (join current.now target.now))) }
+    ensures { IfOk result (λ label. label ≡ (if is_wide (join current.now target.now) then None
+        else Some (join current.now target.now))) }
 {
     match current.join(alloc, target) {
         Ok(label) => Ok(Some(label)),

@@ -1,9 +1,9 @@
 //! Reads the worked runs of `rows.rt`, runs each over a store in memory, and compares.
 
 use crate::respond;
-use lio_main::{Outcome, host_main};
+use lio_host_main::{HostStatus, Outcome, host_main};
+use lio_host_refusals::{detail_of, refusal_text};
 use lio_outside::MemStore;
-use lio_status::{HostStatus, detail_of, refusal_text};
 use std::alloc::{AllocError, Global};
 use std::fs::Files;
 use std::process::ExitCode;
@@ -45,7 +45,8 @@ impl Case {
     }
 }
 
-/// Appends a line, with its line end: none where it ends with `~`, and a carriage return before it where it ends with `^`.
+/// Appends a line, with its line end: none where it ends with `~`, and a carriage return before it
+/// where it ends with `^`.
 fn append_line(text: &mut String, line: &str) -> Result<(), AllocError> {
     if let Some(line) = line.strip_suffix("~") {
         return text.push_str(line);

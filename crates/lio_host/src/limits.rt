@@ -1,4 +1,5 @@
-//! A worked run at the limits of a policy, in the form of `rows.rt`. Lines that begin with `*` stand for 255 blocks of such lines: in the first block `#` is 1, in the last it is 255.
+//! A worked run at the limits of a policy, in the form of `rows.rt`. Lines that begin with `*`
+//! stand for 255 blocks of such lines: in the first block `#` is 1, in the last it is 255.
 
 use std::alloc::{AllocError, Global};
 use std::test::Fail;

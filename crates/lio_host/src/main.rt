@@ -4,9 +4,9 @@
 ghost use Rattle.std.specs.Prelude.{◌≡◌, List};
 ghost use Rattle.std.specs.Process.{exit_status};
 ghost use Rattle.lio_values.specs.declared.entry.Entry.{Entry};
-ghost use Rattle.lio_status.specs.ExitStatus.{exit_status as status_number};
-ghost use Rattle.lio_main.specs.Answers.{EndsWith};
-ghost use Rattle.lio_main.specs.Command.{bytes_of_words};
+ghost use Rattle.lio_host_main.specs.ExitStatus.{exit_status as status_number};
+ghost use Rattle.lio_host_main.specs.Answers.{EndsWith};
+ghost use Rattle.lio_host_main.specs.Command.{bytes_of_words};
 
 #[cfg(test)]
 mod cases;
@@ -19,12 +19,12 @@ mod tests;
 #[cfg(test)]
 mod worked;
 
-use lio_main::{Outcome, host_main};
+use lio_host_main::{HostStatus, Outcome, host_main};
+use lio_host_refusals::{print_refusal, refusal_detail};
 use lio_outside::{RealStore, Store};
-use lio_status::{HostStatus, print_refusal, refusal_detail};
 use std::fs::Files;
 use std::process::ExitCode;
-use std::{env, io};
+use std::{env, io, mem};
 
 /// The words after the program's name.
 fn words(rt: &HostRuntime) -> io::Result<Vec<String>> {
@@ -39,7 +39,8 @@ fn exit_code(status: &HostStatus) -> ExitCode
     ExitCode::from(status.number())
 }
 
-/// Runs the script that the words name, says on standard error what was refused, if anything was, and gives the exit status of the answer.
+/// Runs the script that the words name, says on standard error what was refused, if anything was,
+/// and gives the exit status of the answer.
 fn respond<R: AllocGlobal + Files + Eprint, S: Store>(
     rt: &R,
     words: &[String],
@@ -56,7 +57,8 @@ fn respond<R: AllocGlobal + Files + Eprint, S: Store>(
 {
     let alloc = rt.alloc();
     let Outcome { status, journal } = host_main(alloc, words, store);
-    drop(journal);
+    // Giving back a long journal piece by piece would take a good part of the run.
+    mem::forget(journal);
     let detail = refusal_detail(alloc, rt, store, &status, words);
     // A refusal that can't be printed still has its exit status.
     let _ = print_refusal(rt, alloc, &status, words, &detail);

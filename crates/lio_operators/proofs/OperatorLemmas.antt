@@ -11,11 +11,11 @@ use Rattle.lio_values.specs.declared.value.Plain.TheVariants.{Unit as unit, Flag
 use Rattle.lio_values.specs.declared.value.Value.TheVariants.{Bare, Sealed}
 use Rattle.lio_values.specs.declared.fault.FaultKind.{FaultKind}
 use Rattle.lio_values.specs.declared.fault.FaultKind.TheVariants.{Overflow, DivZero, TooLong, LabelWide}
-use Rattle.lio_words.specs.declared.operators.One.{One}
-use Rattle.lio_words.specs.declared.operators.One.TheVariants.{Not, Neg, Len, Num, Str, LabelOf}
-use Rattle.lio_words.specs.declared.operators.Two.{Two}
-use Rattle.lio_words.specs.declared.operators.Two.TheVariants.{Add, Sub, Mul, Div, Rem, Eq, Join, Meet, From, Upto}
-use Rattle.lio_words.specs.Literals.{whole_of, is_whole}
+use Rattle.lio_syntax_lines.specs.declared.operators.One.{One}
+use Rattle.lio_syntax_lines.specs.declared.operators.One.TheVariants.{Not, Neg, Len, Num, Str, LabelOf}
+use Rattle.lio_syntax_lines.specs.declared.operators.Two.{Two}
+use Rattle.lio_syntax_lines.specs.declared.operators.Two.TheVariants.{Add, Sub, Mul, Div, Rem, Eq, Join, Meet, From, Upto}
+use Rattle.lio_syntax_lines.specs.Literals.{whole_of, is_whole}
 use Rattle.lio_operators.specs.Wholes.{fitting, divided, on_wholes}
 use Rattle.lio_operators.specs.Texts.{made, place_at, on_texts, on_text_at}
 use Rattle.lio_operators.specs.Labels.{is_wide, bounded, on_labels}

@@ -8,8 +8,8 @@ use Rattle.lio_values.specs.declared.value.Plain.{Plain}
 use Rattle.lio_values.specs.declared.value.Plain.TheVariants.{Flag, Lab}
 use Rattle.lio_values.specs.declared.fault.FaultKind.{FaultKind}
 use Rattle.lio_values.specs.declared.fault.FaultKind.TheVariants.{BadType, LabelWide}
-use Rattle.lio_words.specs.declared.operators.Two.{Two}
-use Rattle.lio_words.specs.declared.operators.Two.TheVariants.{Eq, Ne, Join, Meet, Flows}
+use Rattle.lio_syntax_lines.specs.declared.operators.Two.{Two}
+use Rattle.lio_syntax_lines.specs.declared.operators.Two.TheVariants.{Eq, Ne, Join, Meet, Flows}
 
 -- whether one of the two formulas has more than 64 clauses
 abbrev pub is_wide : Label → Bool

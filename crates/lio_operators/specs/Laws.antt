@@ -8,8 +8,8 @@ use Rattle.lio_values.specs.declared.value.Value.TheVariants.{Bare, Sealed}
 use Rattle.lio_values.specs.declared.fault.FaultKind.{FaultKind}
 use Rattle.lio_values.specs.declared.fault.FaultKind.TheVariants.{User}
 use Rattle.lio_values.specs.Erasure.{erase_value}
-use Rattle.lio_words.specs.declared.operators.One.{One}
-use Rattle.lio_words.specs.declared.operators.Two.{Two}
+use Rattle.lio_syntax_lines.specs.declared.operators.One.{One}
+use Rattle.lio_syntax_lines.specs.declared.operators.Two.{Two}
 use Rattle.lio_operators.specs.Operators.{operate1, operate2}
 
 -- what an operator gives, as an observer sees it

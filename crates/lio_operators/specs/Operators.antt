@@ -8,10 +8,10 @@ use Rattle.lio_values.specs.declared.value.Value.{Value}
 use Rattle.lio_values.specs.declared.value.Value.TheVariants.{Bare, Sealed}
 use Rattle.lio_values.specs.declared.fault.FaultKind.{FaultKind}
 use Rattle.lio_values.specs.declared.fault.FaultKind.TheVariants.{BadType}
-use Rattle.lio_words.specs.declared.operators.One.{One}
-use Rattle.lio_words.specs.declared.operators.One.TheVariants.{Not, Neg, Len, Num, Str, LabelOf}
-use Rattle.lio_words.specs.declared.operators.Two.{Two}
-use Rattle.lio_words.specs.Literals.{whole_of}
+use Rattle.lio_syntax_lines.specs.declared.operators.One.{One}
+use Rattle.lio_syntax_lines.specs.declared.operators.One.TheVariants.{Not, Neg, Len, Num, Str, LabelOf}
+use Rattle.lio_syntax_lines.specs.declared.operators.Two.{Two}
+use Rattle.lio_syntax_lines.specs.Literals.{whole_of}
 use Rattle.lio_operators.specs.Wholes.{fitting, on_wholes}
 use Rattle.lio_operators.specs.Texts.{made, on_texts, on_text_at}
 use Rattle.lio_operators.specs.Labels.{on_labels}

@@ -7,8 +7,8 @@ use Rattle.lio_values.specs.declared.value.Plain.{Plain}
 use Rattle.lio_values.specs.declared.value.Plain.TheVariants.{Flag, Whole, Bytes}
 use Rattle.lio_values.specs.declared.fault.FaultKind.{FaultKind}
 use Rattle.lio_values.specs.declared.fault.FaultKind.TheVariants.{BadType, TooLong}
-use Rattle.lio_words.specs.declared.operators.Two.{Two}
-use Rattle.lio_words.specs.declared.operators.Two.TheVariants.{Add, Eq, Ne, Lt, Le, From, Upto, Find}
+use Rattle.lio_syntax_lines.specs.declared.operators.Two.{Two}
+use Rattle.lio_syntax_lines.specs.declared.operators.Two.TheVariants.{Add, Eq, Ne, Lt, Le, From, Upto, Find}
 
 -- a text that is made, where it isn't longer than texts may be
 abbrev pub made : ℕ → List ℕ → Result Plain FaultKind

@@ -5,9 +5,9 @@ use Rattle.lio_values.specs.declared.value.Plain.{Plain}
 use Rattle.lio_values.specs.declared.value.Plain.TheVariants.{Flag, Whole}
 use Rattle.lio_values.specs.declared.fault.FaultKind.{FaultKind}
 use Rattle.lio_values.specs.declared.fault.FaultKind.TheVariants.{BadType, Overflow, DivZero}
-use Rattle.lio_words.specs.declared.operators.Two.{Two}
-use Rattle.lio_words.specs.declared.operators.Two.TheVariants.{Add, Sub, Mul, Div, Rem, Eq, Ne, Lt, Le}
-use Rattle.lio_words.specs.Literals.{is_whole}
+use Rattle.lio_syntax_lines.specs.declared.operators.Two.{Two}
+use Rattle.lio_syntax_lines.specs.declared.operators.Two.TheVariants.{Add, Sub, Mul, Div, Rem, Eq, Ne, Lt, Le}
+use Rattle.lio_syntax_lines.specs.Literals.{is_whole}
 
 -- a number, where it has 64 bits with sign
 abbrev pub fitting : ℤ → Result Plain FaultKind

@@ -2,8 +2,8 @@
 ghost use Rattle.std.specs.Prelude.{◌≡◌};
 ghost use Rattle.lio_operators.specs.Flags as spec;
 
+use lio_syntax_lines::Two;
 use lio_values::{FaultKind, Plain};
-use lio_words::Two;
 
 /// An operator on two flags.
 pub(crate) fn on_flags(op: Two, a: bool, b: bool) -> Result<Plain, FaultKind>

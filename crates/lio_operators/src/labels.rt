@@ -7,8 +7,8 @@ ghost use Rattle.lio_operators.specs.Labels.{bounded};
 use crate::faults::OpFault;
 use lio_clauses::FormFault;
 use lio_labels::Label;
+use lio_syntax_lines::Two;
 use lio_values::{FaultKind, Plain};
-use lio_words::Two;
 use std::alloc::Global;
 
 /// The fault of two labels whose bound is wide.

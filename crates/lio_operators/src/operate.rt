@@ -17,8 +17,8 @@ use crate::texts::{made, on_text_at, on_texts};
 use crate::wholes::{negative, on_wholes};
 use itoa::Buffer;
 use lio_labels::Label;
+use lio_syntax_lines::{One, Two, read_whole};
 use lio_values::{FaultKind, Plain, Value};
-use lio_words::{One, Two, read_whole};
 use std::alloc::Global;
 
 /// The other flag.

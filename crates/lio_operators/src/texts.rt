@@ -7,8 +7,8 @@ ghost use Rattle.lio_operators.specs.Texts as spec;
 ghost use Rattle.lio_operators.specs.Texts.{made, first_place, place_or_less, place_at};
 
 use crate::faults::OpFault;
+use lio_syntax_lines::Two;
 use lio_values::{FaultKind, Plain, Text};
-use lio_words::Two;
 use memchr::memmem;
 use std::alloc::Global;
 

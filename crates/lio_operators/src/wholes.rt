@@ -4,8 +4,8 @@ ghost use Rattle.std.specs.Prelude.{MatchOption};
 ghost use Rattle.lio_operators.specs.Wholes as spec;
 ghost use Rattle.lio_operators.specs.Wholes.{fitting, divided};
 
+use lio_syntax_lines::Two;
 use lio_values::{FaultKind, Plain};
-use lio_words::Two;
 
 /// A whole, or overflow where there is none.
 fn whole(number: Option<i64>) -> Result<Plain, FaultKind>

@@ -10,8 +10,8 @@ use Rattle.lio_clauses.specs.Names.{AreNames, number_of, name_fault}
 use Rattle.lio_clauses.specs.Refusal.{refusal, refusal_by_place}
 use Rattle.lio_clauses.specs.declared.faults.NameFault.TheVariants.{TooMany}
 use Rattle.lio_clauses.proofs.NameLemmas.{others-None, AreNames-push}
-use Rattle.lio_draft.specs.Converted.{first_failing, unmade}
-use Rattle.lio_draft.specs.Failing.{Failing, entries}
+use Rattle.lio_policy_draft.specs.Converted.{first_failing, unmade}
+use Rattle.lio_policy_draft.specs.Failing.{Failing, entries}
 use Rattle.lio_policy.specs.Rules.{behind, principal_fails, key_fails, is_past_256}
 use Rattle.lio_policy.specs.Policy.{AreKeys}
 

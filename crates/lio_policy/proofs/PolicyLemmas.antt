@@ -22,15 +22,15 @@ use Rattle.lio_labels.specs.LabelPrint.{AreNamed}
 use Rattle.lio_labels.specs.declared.label.Label.{Label}
 use Rattle.lio_values.specs.declared.value.Plain.{Plain}
 use Rattle.lio_values.specs.declared.value.Plain.TheVariants.{Unit as unit, Flag, Whole, Bytes, Lab, Power, RefOf, VarOf, ResultOf, ChanOf}
-use Rattle.lio_draft.specs.Converted.{converted, unmade}
+use Rattle.lio_policy_draft.specs.Converted.{converted, unmade}
 use Rattle.lio_policy.specs.Policy.{PolicyParts, AreKeys, IsFile, IsOwnValue, IsFixed, IsArgument, HasNames, KeepsLimits, HasFiles, IsPolicy}
 use Rattle.lio_policy.specs.Rules.{behind, key_fails, no_name, no_file, label_of, file_entry, file_names, task_names, files_of, labelled_arg, labelled_task, with_args, tasks_of, is_above, known, channel_arg, arg_entry, task_entry, is_longest, longest_of, turns_in_all, cells_in_all, work_fails, is_past_256, is_too_long, args_fail, task_fails, names_fail, labels_fail, flow_fails, arguments_fail, limits_fail, files_fail}
 use Rattle.lio_policy.specs.declared.arguments.Known.{Known}
-use Rattle.lio_draft.specs.declared.draft.Draft.{Draft}
-use Rattle.lio_draft.specs.declared.draft.FileDraft.{FileDraft}
-use Rattle.lio_draft.specs.declared.draft.TaskDraft.{TaskDraft}
-use Rattle.lio_draft.specs.declared.draft.ArgDraft.{ArgDraft}
-use Rattle.lio_draft.specs.declared.draft.ArgDraft.TheVariants as draft
+use Rattle.lio_policy_draft.specs.declared.draft.Draft.{Draft}
+use Rattle.lio_policy_draft.specs.declared.draft.FileDraft.{FileDraft}
+use Rattle.lio_policy_draft.specs.declared.draft.TaskDraft.{TaskDraft}
+use Rattle.lio_policy_draft.specs.declared.draft.ArgDraft.{ArgDraft}
+use Rattle.lio_policy_draft.specs.declared.draft.ArgDraft.TheVariants as draft
 use Rattle.lio_policy.specs.declared.labelled.LabelledArg.{LabelledArg}
 use Rattle.lio_policy.specs.declared.labelled.LabelledArg.TheVariants as labelled
 use Rattle.lio_policy.specs.declared.labelled.LabelledTask.{LabelledTask}
@@ -38,7 +38,7 @@ use Rattle.lio_policy.specs.declared.policy.FileEntry.{FileEntry}
 use Rattle.lio_policy.specs.declared.policy.TaskEntry.{TaskEntry}
 use Rattle.lio_policy.specs.declared.policy.Arg.{Arg}
 use Rattle.lio_policy.specs.declared.policy.Arg.TheVariants as arg
-use Rattle.lio_draft.proofs.FailingLemmas.{converted_ok}
+use Rattle.lio_policy_draft.proofs.FailingLemmas.{converted_ok}
 use Rattle.lio_policy.proofs.MadeLemmas.{NoneFails, NothingFails, none_fails, mapped, chained, neither, made_all, made_map, made_length, made_sum, none_map, keys_behind, no_keys, few_behind, names_behind, no_names}
 
 -- ---- labels and formulas

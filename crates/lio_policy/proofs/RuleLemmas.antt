@@ -4,12 +4,12 @@ use Rattle.std.specs.List.{position_from}
 use Rattle.std.proofs.lemmas.List.{length-map, at_drop_more, at_drop_all, drop_more}
 use Rattle.std.proofs.lemmas.Iterator.Adapters.{position_from-zero}
 use Rattle.lio_labels.specs.declared.label.Label.{Label}
-use Rattle.lio_draft.specs.Converted.{first_failing}
-use Rattle.lio_draft.specs.Failing.{Failing, entries, Passes}
-use Rattle.lio_draft.specs.declared.draft.Draft.{Draft}
-use Rattle.lio_draft.specs.declared.draft.TaskDraft.{TaskDraft}
-use Rattle.lio_draft.specs.declared.fault.PolicyFault.{PolicyFault}
-use Rattle.lio_draft.proofs.FailingLemmas.{HasLengths, length_unmade, none_in_all, fault_in_tasks}
+use Rattle.lio_policy_draft.specs.Converted.{first_failing}
+use Rattle.lio_policy_draft.specs.Failing.{Failing, entries, Passes}
+use Rattle.lio_policy_draft.specs.declared.draft.Draft.{Draft}
+use Rattle.lio_policy_draft.specs.declared.draft.TaskDraft.{TaskDraft}
+use Rattle.lio_policy_draft.specs.declared.fault.PolicyFault.{PolicyFault}
+use Rattle.lio_policy_draft.proofs.FailingLemmas.{HasLengths, length_unmade, none_in_all, fault_in_tasks}
 use Rattle.lio_policy.specs.Rules.{label_of, labels_of, labelled_task, behind, none_of, is_past_256, task_fails, args_fail, turns_in_all, cells_in_all, version_fails, names_fail, labels_fail, flow_fails, arguments_fail, limits_fail, files_fail, principal_fails, key_fails, no_name, no_file, file_names, files_of, file_entry}
 use Rattle.lio_policy.specs.declared.labelled.LabelledTask.{LabelledTask}
 

@@ -1,13 +1,13 @@
 -- What the rules decide.
 use Rattle.std.proofs.Common.{◌≡◌, ◌∙◌, ◌⊎◌, inl, inr, ℕ, List, [], ◌∷◌, Option, Some, None, Result, Ok, Err, IfOk, IfErr, refl, sym, ap, subst}
 use Rattle.std.specs.List.{filter_map}
-use Rattle.lio_draft.specs.Converted.{first_failing}
-use Rattle.lio_draft.specs.Failing.{Failing, entries, fault_at, blamed, unless_fault}
-use Rattle.lio_draft.specs.Drafted.{draft_of}
-use Rattle.lio_draft.specs.declared.draft.Draft.{Draft}
-use Rattle.lio_draft.specs.declared.fault.PolicyFault.{PolicyFault}
-use Rattle.lio_draft.specs.declared.fault.PolicyFault.TheVariants.{NoMemory}
-use Rattle.lio_draft.proofs.FailingLemmas.{Blames, not_blamed}
+use Rattle.lio_policy_draft.specs.Converted.{first_failing}
+use Rattle.lio_policy_draft.specs.Failing.{Failing, entries, fault_at, blamed, unless_fault}
+use Rattle.lio_policy_draft.specs.Drafted.{draft_of}
+use Rattle.lio_policy_draft.specs.declared.draft.Draft.{Draft}
+use Rattle.lio_policy_draft.specs.declared.fault.PolicyFault.{PolicyFault}
+use Rattle.lio_policy_draft.specs.declared.fault.PolicyFault.TheVariants.{NoMemory}
+use Rattle.lio_policy_draft.proofs.FailingLemmas.{Blames, not_blamed}
 use Rattle.lio_policy.specs.Rules.{version_fails, names_fail, labels_fail, flow_fails, arguments_fail, limits_fail, files_fail, file_entry, task_entry, known, tasks_of, longest_of}
 use Rattle.lio_policy.specs.Verdict.{Gives, first_fault, declarations_fault, uses_fault, least, made, judged, from_draft, policy_of}
 use Rattle.lio_policy.specs.Policy.{PolicyParts, IsPolicy}

@@ -11,13 +11,13 @@ use Rattle.lio_labels.specs.LabelText as label
 use Rattle.lio_labels.specs.Flow.{flows}
 use Rattle.lio_labels.specs.declared.label.Label.{Label}
 use Rattle.lio_values.specs.declared.value.Plain.TheVariants as plain
-use Rattle.lio_draft.specs.Failing.{Failing}
-use Rattle.lio_draft.specs.Converted.{converted, unmade}
-use Rattle.lio_draft.specs.declared.draft.FileDraft.{FileDraft}
-use Rattle.lio_draft.specs.declared.draft.ArgDraft.{ArgDraft}
-use Rattle.lio_draft.specs.declared.draft.ArgDraft.TheVariants as draft
-use Rattle.lio_draft.specs.declared.draft.TaskDraft.{TaskDraft}
-use Rattle.lio_draft.specs.declared.draft.Draft.{Draft}
+use Rattle.lio_policy_draft.specs.Failing.{Failing}
+use Rattle.lio_policy_draft.specs.Converted.{converted, unmade}
+use Rattle.lio_policy_draft.specs.declared.draft.FileDraft.{FileDraft}
+use Rattle.lio_policy_draft.specs.declared.draft.ArgDraft.{ArgDraft}
+use Rattle.lio_policy_draft.specs.declared.draft.ArgDraft.TheVariants as draft
+use Rattle.lio_policy_draft.specs.declared.draft.TaskDraft.{TaskDraft}
+use Rattle.lio_policy_draft.specs.declared.draft.Draft.{Draft}
 use Rattle.lio_policy.specs.declared.labelled.LabelledArg.{LabelledArg}
 use Rattle.lio_policy.specs.declared.labelled.LabelledArg.TheVariants as labelled
 use Rattle.lio_policy.specs.declared.labelled.LabelledTask.{LabelledTask}

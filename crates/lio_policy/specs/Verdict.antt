@@ -1,11 +1,11 @@
 -- Which policy a text is, or the first rule that it breaks and the first entry that does.
 use Rattle.std.specs.Prelude.{◌≡◌, ◌⊎◌, ℕ, List, [], ◌∷◌, Option, Some, None, Result, Ok, Err}
 use Rattle.std.specs.List.{filter_map}
-use Rattle.lio_draft.specs.Failing.{blamed, unless_fault}
-use Rattle.lio_draft.specs.Drafted.{draft_of}
-use Rattle.lio_draft.specs.declared.draft.Draft.{Draft}
-use Rattle.lio_draft.specs.declared.fault.PolicyFault.{PolicyFault}
-use Rattle.lio_draft.specs.declared.fault.PolicyFault.TheVariants.{NoMemory}
+use Rattle.lio_policy_draft.specs.Failing.{blamed, unless_fault}
+use Rattle.lio_policy_draft.specs.Drafted.{draft_of}
+use Rattle.lio_policy_draft.specs.declared.draft.Draft.{Draft}
+use Rattle.lio_policy_draft.specs.declared.fault.PolicyFault.{PolicyFault}
+use Rattle.lio_policy_draft.specs.declared.fault.PolicyFault.TheVariants.{NoMemory}
 use Rattle.lio_policy.specs.Rules.{version_fails, names_fail, labels_fail, flow_fails, arguments_fail, limits_fail, longest_of, files_fail, file_entry, task_entry, known, tasks_of}
 use Rattle.lio_policy.specs.declared.policy.Policy.{Policy}
 

@@ -3,7 +3,7 @@
 
 ghost use Rattle.std.specs.Prelude.{◌≡◌, IfOk};
 ghost use Rattle.std.specs.List.{filter_map};
-ghost use Rattle.lio_draft.specs.Failing.{entries, Passes};
+ghost use Rattle.lio_policy_draft.specs.Failing.{entries, Passes};
 ghost use Rattle.lio_policy.specs.Rules as spec;
 ghost use Rattle.lio_policy.specs.Rules.{arguments_fail, tasks_of};
 
@@ -12,8 +12,8 @@ use crate::labelled::{LabelledArg, LabelledTask};
 use crate::policy::{Arg, FileEntries, TaskEntries, TaskEntry};
 use crate::table::Table;
 use lio_clauses::NoMemory;
-use lio_draft::{Conversion, Draft, PolicyFault, each, each_entry, first_task, shown};
 use lio_labels::Label;
+use lio_policy_draft::{Conversion, Draft, PolicyFault, each, each_entry, first_task, shown};
 use lio_values::{Handle, Plain, Text};
 use std::alloc::Global;
 

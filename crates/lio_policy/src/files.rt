@@ -1,12 +1,12 @@
 //! Rule 9: names of files.
 ghost use Rattle.std.specs.Prelude.{◌≡◌, ◌==◌, []};
 ghost use Rattle.std.specs.List.{list_any};
-ghost use Rattle.lio_draft.specs.Failing.{entries, Passes};
+ghost use Rattle.lio_policy_draft.specs.Failing.{entries, Passes};
 ghost use Rattle.lio_policy.specs.Rules.{begins_with_dash, files_fail, no_file};
 
 use crate::keys::{Key, add_keys};
 use crate::table::Table;
-use lio_draft::{Draft, FileDraft, PolicyFault, first_channel, first_input};
+use lio_policy_draft::{Draft, FileDraft, PolicyFault, first_channel, first_input};
 use std::alloc::Global;
 
 /// The rule's number.

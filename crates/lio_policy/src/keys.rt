@@ -1,10 +1,10 @@
 //! Entries by a text of theirs that is not to be there before.
 ghost use Rattle.std.specs.Prelude.{◌≡◌, ◌++◌, ◌<◌, ◌^◌, map};
-ghost use Rattle.lio_draft.specs.Failing.{Passes};
+ghost use Rattle.lio_policy_draft.specs.Failing.{Passes};
 ghost use Rattle.lio_policy.specs.Rules.{behind, key_fails};
 
 use crate::table::Table;
-use lio_draft::{PolicyFault, fault_at};
+use lio_policy_draft::{PolicyFault, fault_at};
 use std::alloc::Global;
 
 /// A text of each entry, and which texts it may not be.

@@ -3,7 +3,7 @@ ghost use Rattle.std.specs.Prelude.{◌≡◌, IfOk, position};
 ghost use Rattle.std.specs.List.{filter_map};
 ghost use Rattle.std.specs.Result.{result_ok};
 ghost use Rattle.lio_clauses.specs.FormulaText.{reading};
-ghost use Rattle.lio_draft.specs.Failing.{entries, Passes};
+ghost use Rattle.lio_policy_draft.specs.Failing.{entries, Passes};
 ghost use Rattle.lio_policy.specs.Rules as spec;
 ghost use Rattle.lio_policy.specs.Rules.{labels_fail, flow_fails, tasks_of, file_entry, is_above};
 
@@ -11,11 +11,11 @@ use crate::copies::copied_texts;
 use crate::labelled::{LabelledArg, LabelledTask};
 use crate::policy::{FileEntries, FileEntry};
 use lio_clauses::{Formula, Names, NoMemory, TextFault};
-use lio_draft::{
+use lio_labels::{Label, Priv};
+use lio_policy_draft::{
     ArgDraft, Conversion, Draft, FileDraft, PolicyFault, TaskDraft, each, each_entry, fault_at,
     first_channel, first_input, first_task,
 };
-use lio_labels::{Label, Priv};
 use lio_values::{List, Plain, Text};
 use std::alloc::Global;
 

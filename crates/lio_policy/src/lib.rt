@@ -15,6 +15,6 @@ mod policy;
 mod read;
 mod table;
 
-pub use lio_draft::PolicyFault;
+pub use lio_policy_draft::PolicyFault;
 pub use policy::{Arg, Args, FileEntries, FileEntry, Policy, TaskEntries, TaskEntry};
 pub use read::read_policy;

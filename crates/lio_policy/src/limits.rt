@@ -1,11 +1,11 @@
 //! Rule 8: limits.
 ghost use Rattle.std.specs.Prelude.{◌≡◌, ◌<◌, ◌^◌, ◌||◌, nat_le, nat_lt, []};
 ghost use Rattle.std.specs.List.{list_any};
-ghost use Rattle.lio_draft.specs.Failing.{entries, Passes};
+ghost use Rattle.lio_policy_draft.specs.Failing.{entries, Passes};
 ghost use Rattle.lio_policy.specs.Rules as spec;
 ghost use Rattle.lio_policy.specs.Rules.{behind, limits_fail, task_fails, is_past_256, is_too_long};
 
-use lio_draft::{
+use lio_policy_draft::{
     ArgDraft, Draft, FileDraft, PolicyFault, TaskDraft, fault_at, first_channel, first_input,
     first_task,
 };

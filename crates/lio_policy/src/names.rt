@@ -1,13 +1,13 @@
 //! Rule 4: names.
 ghost use Rattle.std.specs.Prelude.{◌≡◌, ◌<◌, ◌^◌, ◌++◌, [], ◌∷◌, false, Ok, IfOk};
-ghost use Rattle.lio_draft.specs.Failing.{entries, Passes};
+ghost use Rattle.lio_policy_draft.specs.Failing.{entries, Passes};
 ghost use Rattle.lio_policy.specs.Rules.{behind, principal_fails, key_fails, no_name, names_fail};
 ghost use Rattle.lio_policy.specs.Rules.{file_names, task_names};
 
 use crate::keys::{Key, add_keys};
 use crate::table::Table;
 use lio_clauses::{NameFault, Names, NoMemory, name_fault};
-use lio_draft::{
+use lio_policy_draft::{
     Draft, FIRST_PRINCIPAL, FileDraft, PolicyFault, TaskDraft, fault_at, first_channel,
     first_input, first_task,
 };

@@ -1,7 +1,7 @@
 //! Reading a policy: its rules in their order.
 ghost use Rattle.std.specs.Prelude.{◌≡◌, ◌⊎◌, IfOk, IfErr, Ok, Err};
 ghost use Rattle.std.specs.List.{filter_map};
-ghost use Rattle.lio_draft.specs.Failing.{entries, Passes};
+ghost use Rattle.lio_policy_draft.specs.Failing.{entries, Passes};
 ghost use Rattle.lio_policy.specs.Rules as spec;
 ghost use Rattle.lio_policy.specs.Rules.{is_one, version_fails, file_entry, file_names, tasks_of};
 ghost use Rattle.lio_policy.specs.Rules.{task_entry, longest_of};
@@ -15,7 +15,7 @@ use crate::labels::{Labelled, check_flow, read_labels};
 use crate::limits::check_limits;
 use crate::names::{Named, read_names};
 use crate::policy::{Policy, TaskEntries};
-use lio_draft::{Draft, PolicyFault, fault_at, read_draft};
+use lio_policy_draft::{Draft, PolicyFault, fault_at, read_draft};
 use std::alloc::Global;
 
 /// The number of the rule on the version.

@@ -11,8 +11,8 @@ use Rattle.lio_calculus.specs.Step.{Configuration}
 use Rattle.lio_calculus.specs.Erased.{LowTurn, erase}
 use Rattle.lio_start.specs.Job.{IsJob, JobParts, first_of}
 use Rattle.lio_start.proofs.LawLemmas.{start_is_sound}
-use Rattle.lio_named.specs.Configuration.{NamesOnly}
-use Rattle.lio_named.proofs.LowTurns.{erased_names_only, low_turn_names_only}
+use Rattle.lio_calculus_names.specs.Configuration.{NamesOnly}
+use Rattle.lio_calculus_names.proofs.LowTurns.{erased_names_only, low_turn_names_only}
 use Rattle.lio_start.proofs.NameLemmas.{start_names_only}
 use Rattle.lio_config.specs.declared.config.Holder.{Holder}
 use Rattle.lio_erasure.specs.declared.low.LowFault.{LowFault}

@@ -5,7 +5,7 @@ ghost use Rattle.lio_events.specs.Printable.{IsPrintable};
 ghost use Rattle.lio_calculus.specs.Erased.{erase};
 ghost use Rattle.lio_config.specs.Configuration.{configuration_of};
 ghost use Rattle.lio_start.specs.Job.{first_of};
-ghost use Rattle.lio_named.specs.Configuration.{NamesOnly};
+ghost use Rattle.lio_calculus_names.specs.Configuration.{NamesOnly};
 ghost use Rattle.lio_erasure.specs.Low.{LeavesOutBlanks, low_configuration_of};
 ghost use Rattle.lio_erasure.specs.LowParts.{low_of};
 
@@ -13,15 +13,14 @@ use crate::refusal::{Answered, Refusal};
 use crate::runs::{Source, read_viewer, released};
 use crate::turns::push_refused;
 use lio_clauses::{Names, NoMemory};
-use lio_commands::Answer;
 use lio_config::{Config, Holder};
 use lio_erasure::{Low, LowConfig, LowFault, erase_config};
-use lio_events::print_entry;
-use lio_fields::read_numbers;
+use lio_events::{Contents, print_entry};
 use lio_labels::Label;
+use lio_rows_commands::Answer;
+use lio_rows_fields::read_numbers;
 use lio_start::{Job, start};
 use lio_values::Entry;
-use lio_view::Contents;
 use std::alloc::{AllocError, Global};
 use std::fmt::Write;
 
@@ -36,7 +35,8 @@ enum Asked {
     Cells,
 }
 
-/// What a command on the erased calculus answers, if the word and the number of fields are those of one.
+/// What a command on the erased calculus answers, if the word and the number of fields are those of
+/// one.
 pub fn answer(alloc: Global, word: &str, fields: &[Vec<u8>]) -> Answered {
     let asked = match word {
         "low" => Asked::Turns,
@@ -65,7 +65,9 @@ fn copied_start(alloc: Global, job: &Job) -> Result<Config, NoMemory>
 
 /// Gives what an observer sees of the first configuration.
 fn seen_start(alloc: Global, job: &Job, observer: &Label) -> Result<LowConfig, NoMemory>
-    ensures seen { IfOk result (λ seen. low_configuration_of job.now.script job.now.policy.longest seen ≡ erase observer.now (first_of job.now)) }
+    ensures seen { IfOk result (λ seen.
+        low_configuration_of job.now.script job.now.policy.longest seen
+        ≡ erase observer.now (first_of job.now)) }
     ensures kept { IfOk result LeavesOutBlanks }
 {
     let config = copied_start(alloc, job)?;
@@ -176,7 +178,8 @@ fn cells(
     Ok(kept(alloc, low.config().as_slice())?)
 }
 
-/// Gives the contents that an observer is told: those that the run by rounds releases to it, or none.
+/// Gives the contents that an observer is told: those that the run by rounds releases to it, or
+/// none.
 fn told(alloc: Global, job: &Job, observer: &Label, asked: Asked) -> Result<Contents, Refusal>
     ensures { IfOk result (All (IsContentNamed job.now.policy.names)) }
 {
@@ -224,8 +227,10 @@ fn asked_of(
     Ok(Answer::Text(text?))
 }
 
-/// `low LABEL ACTORS JSON SCRIPT INPUT ..`: the turns of these tasks in the erased calculus, from what an observer at the label sees of the start
-/// of the run, with what the run releases to it; `low_without`: the same with nothing released; `cells`: the cells that are kept after these turns.
+/// `low LABEL ACTORS JSON SCRIPT INPUT ..`: the turns of these tasks in the erased calculus, from
+/// what an observer at the label sees of the start of the run, with what the run releases to it;
+/// `low_without`: the same with nothing released; `cells`: the cells that are kept after these
+/// turns.
 fn low(
     alloc: Global,
     asked: Asked,

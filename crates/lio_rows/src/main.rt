@@ -9,7 +9,7 @@ mod scripts;
 mod session;
 mod turns;
 
-use lio_commands::Answer;
+use lio_rows_commands::Answer;
 use refusal::Refusal;
 use session::Session;
 use std::alloc::Global;
@@ -28,7 +28,8 @@ fn write_answer<W: Write>(
     }
 }
 
-/// Writes the line that a line is answered by. A line without bytes, and one that begins with `#`, is written as it is.
+/// Writes the line that a line is answered by. A line without bytes, and one that begins with `#`,
+/// is written as it is.
 fn respond<W: Write>(
     alloc: Global,
     session: &mut Session,

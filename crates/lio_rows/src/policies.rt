@@ -1,10 +1,10 @@
 //! Commands on policies.
 
 use crate::refusal::{Answered, Refusal};
-use lio_commands::Answer;
-use lio_draft::{EntryAt, EntryKind, entry_at};
-use lio_fields::read_number;
 use lio_policy::{Policy, read_policy};
+use lio_policy_draft::{EntryAt, EntryKind, entry_at};
+use lio_rows_commands::Answer;
+use lio_rows_fields::read_number;
 use std::alloc::{AllocError, Global};
 
 /// What a command on policies answers, if the word and the number of fields are those of one.
@@ -34,7 +34,8 @@ fn counts(alloc: Global, policy: &Policy) -> Result<Vec<u8>, AllocError> {
     Ok(text.into_bytes())
 }
 
-/// `policy_entry NUMBER JSON`: the kind of the entry with this number, its place in its list and its name, or `none`.
+/// `policy_entry NUMBER JSON`: the kind of the entry with this number, its place in its list and
+/// its name, or `none`.
 fn entry(alloc: Global, number: &[u8], json: &[u8]) -> Result<Answer, Refusal> {
     let text = match entry_at(alloc, json, read_number(number)?)? {
         Some(entry) => entry_text(alloc, &entry),

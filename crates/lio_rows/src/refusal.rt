@@ -1,9 +1,9 @@
 //! Why a command has no answer.
 
 use lio_clauses::{NoMemory, TextFault};
-use lio_commands::Answer;
-use lio_draft::PolicyFault;
-use lio_fields::FieldFault;
+use lio_policy_draft::PolicyFault;
+use lio_rows_commands::Answer;
+use lio_rows_fields::FieldFault;
 use lio_start::StartFault;
 use lio_syntax::ScriptFault;
 use std::alloc::AllocError;
@@ -13,7 +13,7 @@ use std::fmt;
 #[derive(Drop)]
 pub enum Refusal {
     /// As a command on the list of principals is refused.
-    Lower(lio_commands::Refusal),
+    Lower(lio_rows_commands::Refusal),
     /// The rule that a policy breaks, and the entry.
     BadPolicy(u32, u32),
     /// The line of a script that breaks a rule, and the rule.
@@ -39,33 +39,33 @@ impl fmt::Display for Refusal {
     }
 }
 
-impl From<lio_commands::Refusal> for Refusal {
-    fn from(refusal: lio_commands::Refusal) -> Refusal {
+impl From<lio_rows_commands::Refusal> for Refusal {
+    fn from(refusal: lio_rows_commands::Refusal) -> Refusal {
         Refusal::Lower(refusal)
     }
 }
 
 impl From<TextFault> for Refusal {
     fn from(fault: TextFault) -> Refusal {
-        Refusal::Lower(lio_commands::Refusal::from(fault))
+        Refusal::Lower(lio_rows_commands::Refusal::from(fault))
     }
 }
 
 impl From<FieldFault> for Refusal {
     fn from(fault: FieldFault) -> Refusal {
-        Refusal::Lower(lio_commands::Refusal::from(fault))
+        Refusal::Lower(lio_rows_commands::Refusal::from(fault))
     }
 }
 
 impl From<NoMemory> for Refusal {
     fn from(fault: NoMemory) -> Refusal {
-        Refusal::Lower(lio_commands::Refusal::from(fault))
+        Refusal::Lower(lio_rows_commands::Refusal::from(fault))
     }
 }
 
 impl From<AllocError> for Refusal {
     fn from(fault: AllocError) -> Refusal {
-        Refusal::Lower(lio_commands::Refusal::from(fault))
+        Refusal::Lower(lio_rows_commands::Refusal::from(fault))
     }
 }
 

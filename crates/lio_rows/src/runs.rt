@@ -7,15 +7,14 @@ ghost use Rattle.lio_syntax.specs.Verdict.{IsOver};
 
 use crate::refusal::{Answered, Refusal};
 use lio_clauses::{Names, NoMemory};
-use lio_commands::Answer;
-use lio_events::{Journal, print_content, print_journal};
+use lio_events::{Contents, Journal, print_content, print_journal, releases, view};
 use lio_labels::Label;
 use lio_policy::{Policy, read_policy};
-use lio_run::{Ran, run};
+use lio_rounds::{Ran, run};
+use lio_rows_commands::Answer;
 use lio_start::{Job, fits};
 use lio_syntax::{Script, read_script};
 use lio_values::{Act, Content, Entry, List, Text};
-use lio_view::{Contents, releases, view};
 use std::alloc::{AllocError, Global};
 
 /// What is run under a policy: a script, and the inputs.
@@ -214,7 +213,8 @@ fn listed(alloc: Global, names: &Names) -> Result<Vec<u8>, AllocError> {
     Ok(json)
 }
 
-/// The policy of one public task that has 20 turns and runs `main` without arguments, over principals.
+/// The policy of one public task that has 20 turns and runs `main` without arguments, over
+/// principals.
 fn task_policy(alloc: Global, names: &Names) -> Result<Policy, Refusal> {
     let mut json = Vec::from_slice(alloc, br#"{"version":1,"longest":4096,"principals":["#)?;
     json.extend_from_slice(listed(alloc, names)?.as_slice())?;
@@ -238,7 +238,7 @@ fn ended(alloc: Global, entry: &Entry, names: &Names) -> Result<Answer, Refusal>
 {
     match &entry.act {
         Act::Ended(content) => Ok(Answer::Text(print_content(alloc, content.get(), names)?)),
-        _ => Err(Refusal::from(lio_commands::Refusal::NoCommand)),
+        _ => Err(Refusal::from(lio_rows_commands::Refusal::NoCommand)),
     }
 }
 
@@ -248,7 +248,7 @@ fn last_ended(alloc: Global, journal: &Journal, names: &Names) -> Result<Answer,
 {
     match journal.entries().last() {
         Some(entry) => ended(alloc, entry, names),
-        None => Err(Refusal::from(lio_commands::Refusal::NoCommand)),
+        None => Err(Refusal::from(lio_rows_commands::Refusal::NoCommand)),
     }
 }
 
@@ -259,7 +259,8 @@ fn ended_by(alloc: Global, job: &Job) -> Result<Answer, Refusal> {
     last_ended(alloc, &journal, &policy.names)
 }
 
-/// `eval EXPRESSION`: the content with which a public task ends that binds a name to the expression and returns what is bound.
+/// `eval EXPRESSION`: the content with which a public task ends that binds a name to the expression
+/// and returns what is bound.
 fn eval(alloc: Global, names: &Names, expression: &[u8]) -> Result<Answer, Refusal> {
     if expression.contains(&b'\n') {
         return Err(Refusal::BadScript(2, 1));

@@ -3,7 +3,7 @@ ghost use Rattle.lio_syntax.specs.Verdict.{IsOver};
 
 use crate::refusal::{Answered, Refusal};
 use lio_clauses::{Names, NoMemory};
-use lio_commands::Answer;
+use lio_rows_commands::Answer;
 use lio_syntax::{Script, print_script, read_script};
 use std::alloc::Global;
 

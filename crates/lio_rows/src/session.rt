@@ -3,8 +3,8 @@
 use crate::refusal::{Answered, Refusal};
 use crate::{low, policies, runs, scripts, turns};
 use lio_clauses::{Names, NoMemory};
-use lio_commands::Answer;
-use lio_fields::read_command;
+use lio_rows_commands::Answer;
+use lio_rows_fields::read_command;
 use std::alloc::Global;
 
 /// What the commands so far have made.
@@ -26,17 +26,23 @@ impl Session {
     pub fn answer(&mut self, alloc: Global, line: &[u8]) -> Result<Answer, Refusal> {
         let command = read_command(alloc, line)?;
         let fields = command.fields.as_slice();
-        if let Some(answer) = lio_commands::answer(alloc, &mut self.names, command.word, fields) {
+        if let Some(answer) = lio_rows_commands::answer(
+            alloc,
+            &mut self.names,
+            command.word,
+            fields,
+        ) {
             return answer.map_err(Refusal::from);
         }
         match answer(alloc, &self.names, command.word, fields) {
             Some(answer) => answer,
-            None => Err(Refusal::from(lio_commands::Refusal::NoCommand)),
+            None => Err(Refusal::from(lio_rows_commands::Refusal::NoCommand)),
         }
     }
 }
 
-/// What a command answers that runs something, or reads what can be run, if the word and the number of fields are those of one.
+/// What a command answers that runs something, or reads what can be run, if the word and the number
+/// of fields are those of one.
 fn answer(alloc: Global, names: &Names, word: &str, fields: &[Vec<u8>]) -> Answered {
     if let Some(answer) = scripts::answer(alloc, names, word, fields) {
         return Some(answer);

@@ -4,10 +4,10 @@ ghost use Rattle.lio_events.specs.Printable.{IsPrintable};
 
 use crate::refusal::{Answered, Refusal};
 use crate::runs::{Source, read_job};
-use lio_commands::Answer;
 use lio_events::{Journal, print_journal};
-use lio_fields::read_numbers;
-use lio_run::{Ran, Scheduled, run_by_schedule};
+use lio_rounds::{Ran, Scheduled, run_by_schedule};
+use lio_rows_commands::Answer;
+use lio_rows_fields::read_numbers;
 use lio_start::Job;
 use std::alloc::{AllocError, Global};
 
@@ -68,7 +68,8 @@ fn lines(
     Ok(text)
 }
 
-/// Tells the turns of the tasks of a schedule, each by its entry, or as `still` where the task can't take it.
+/// Tells the turns of the tasks of a schedule, each by its entry, or as `still` where the task
+/// can't take it.
 fn told(alloc: Global, job: &Job, schedule: &[u32]) -> Result<Answer, Refusal> {
     let Taken { journal, taken } = turns_of(alloc, job, schedule)?;
     let policy = job.policy();
@@ -79,7 +80,8 @@ fn told(alloc: Global, job: &Job, schedule: &[u32]) -> Result<Answer, Refusal> {
     Ok(Answer::Text(text))
 }
 
-/// `turns ACTORS JSON SCRIPT INPUT ..`: the turns of these tasks one after another, each told by its entry, or as `still` where the task can't take it.
+/// `turns ACTORS JSON SCRIPT INPUT ..`: the turns of these tasks one after another, each told by
+/// its entry, or as `still` where the task can't take it.
 fn turns(alloc: Global, actors: &[u8], json: &[u8], source: Source<'_>) -> Result<Answer, Refusal> {
     let schedule = read_numbers(alloc, actors)?;
     let job = read_job(alloc, json, source)?;

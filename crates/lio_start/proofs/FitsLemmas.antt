@@ -9,7 +9,7 @@ use Rattle.std.proofs.lemmas.List.{drop_all}
 use Rattle.std.proofs.lemmas.List.Elements.{All-nil, All-head, All-tail, All-cons}
 use Rattle.lio_syntax.specs.Statements.{Procedure}
 use Rattle.lio_syntax.specs.Beginnings.{number_of}
-use Rattle.lio_control.proofs.EnvironmentLemmas.{drop_at}
+use Rattle.lio_task_control.proofs.EnvironmentLemmas.{drop_at}
 use Rattle.lio_policy.specs.declared.policy.TaskEntry.{TaskEntry}
 use Rattle.lio_start.specs.declared.fault.StartFault.{StartFault}
 use Rattle.lio_start.specs.declared.fault.StartFault.TheVariants.{NoProc, Arity}

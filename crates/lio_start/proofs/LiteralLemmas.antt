@@ -3,10 +3,11 @@ use Rattle.std.proofs.Common.{◌≡◌, refl, Bool, true, ◌&&◌, IsTrue, Lis
 use Rattle.std.specs.List.{list_all}
 use Rattle.std.proofs.lemmas.Bool.{and_parts}
 use Rattle.std.proofs.lemmas.List.Elements.{All-nil, All-cons}
-use Rattle.lio_lines.specs.declared.line.Line.{Line}
-use Rattle.lio_lines.specs.declared.line.Line.TheVariants as line
-use Rattle.lio_lines.specs.declared.line.Operand.{Operand}
-use Rattle.lio_lines.specs.Literal.{is_said, says_literals}
+use Rattle.lio_syntax_lines.specs.declared.line.Line.{Line}
+use Rattle.lio_syntax_lines.specs.declared.line.Line.TheVariants as line
+use Rattle.lio_syntax_lines.specs.declared.line.Operand.{Operand}
+use Rattle.lio_syntax_lines.specs.Operands.{is_said}
+use Rattle.lio_syntax_lines.specs.Line.{says_literals}
 use Rattle.lio_syntax.specs.Statements.{Statement, Statements, Do, If, IfElse, While, Try, Nothing, Then, Procedure}
 use Rattle.lio_syntax.specs.Lines.{statement_lines, block_lines, script_lines}
 use Rattle.lio_calculus.specs.Sound.{says, statement_says, block_says}

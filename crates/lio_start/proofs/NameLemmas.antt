@@ -24,13 +24,13 @@ use Rattle.lio_policy.specs.declared.policy.Arg.TheVariants.{Input, Fixed}
 use Rattle.lio_start.specs.Fits.{procedure_of}
 use Rattle.lio_start.specs.Start.{content_by, input_content, sealed_inputs, inputs_of, argument_of, task_of, start_of}
 use Rattle.lio_start.proofs.PlaceLemmas.{Stands, Channel as channel, Task as job, Nothing as nothing, stands, begun}
-use Rattle.lio_named.specs.Script.{IsScriptNamed}
-use Rattle.lio_named.specs.Configuration.{IsTaskNamed, IsStateNamed}
+use Rattle.lio_calculus_names.specs.Script.{IsScriptNamed}
+use Rattle.lio_calculus_names.specs.Configuration.{IsTaskNamed, IsStateNamed}
 use Rattle.lio_start.specs.Laws.{StartNamesOnly, RunsArePrintable}
-use Rattle.lio_named.proofs.Plans.{found_named}
-use Rattle.lio_named.proofs.Tasks.{enter_named}
-use Rattle.lio_named.proofs.Turns.{run_names_only}
-use Rattle.lio_named.proofs.Literals.{script_named}
+use Rattle.lio_calculus_names.proofs.Plans.{found_named}
+use Rattle.lio_calculus_names.proofs.Tasks.{enter_named}
+use Rattle.lio_calculus_names.proofs.Turns.{run_names_only}
+use Rattle.lio_calculus_names.proofs.Literals.{script_named}
 
 -- the inputs
 content_named : (names : List (List ℕ)) (longest : ℕ) (label : Label) (text : List ℕ) → AreNamed names label → IsContentNamed names (input_content longest label text)

@@ -10,7 +10,7 @@ use Rattle.lio_values.specs.declared.value.Plain.TheVariants.{Unit as unit, Powe
 use Rattle.lio_values.specs.declared.value.Value.{Value}
 use Rattle.lio_values.specs.declared.value.Value.TheVariants.{Bare, Sealed}
 use Rattle.lio_syntax.specs.Statements.{Procedure}
-use Rattle.lio_control.specs.declared.binding.Binding.{Binding}
+use Rattle.lio_task_control.specs.declared.binding.Binding.{Binding}
 use Rattle.lio_calculus.specs.Step.{Cell, cell_at, body_of, parameters_of}
 use Rattle.lio_calculus.specs.Sound.{EachInItem, EachInTask, EachInState}
 use Rattle.lio_calculus.specs.Powers.{PlainIsAmong, ContentIsAmong, ValueIsAmong, PowersAreAmong}
@@ -24,7 +24,7 @@ use Rattle.lio_policy.specs.declared.policy.Arg.TheVariants.{Input, Fixed}
 use Rattle.lio_start.specs.Fits.{procedure_of}
 use Rattle.lio_start.specs.Start.{content_by, input_content, sealed_inputs, inputs_of, argument_of, task_of, start_of}
 use Rattle.lio_start.proofs.PlaceLemmas.{Stands, Channel as channel, Task as job, Nothing as nothing, stands, begun}
-use Rattle.lio_powers.proofs.LawLemmas.{run_releases_by_powers}
+use Rattle.lio_calculus_names.proofs.PowerLaws.{run_releases_by_powers}
 use Rattle.lio_start.specs.Laws.{ReleasesAreOfPolicy}
 use Rattle.lio_start.specs.Powers.{power_in, task_powers, powers_of}
 use Rattle.lio_start.proofs.LawLemmas.{start_is_sound}

@@ -12,16 +12,16 @@ use Rattle.lio_syntax.specs.Statements.{Procedure}
 use Rattle.lio_syntax.specs.Lines.{script_lines}
 use Rattle.lio_syntax.specs.Verdict.{IsOver}
 use Rattle.lio_syntax.specs.Kept as kept
-use Rattle.lio_control.specs.Environment.{bind_all}
-use Rattle.lio_control.specs.Items.{enter}
+use Rattle.lio_task_control.specs.Environment.{bind_all}
+use Rattle.lio_task_control.specs.Items.{enter}
 use Rattle.lio_calculus.specs.Task.{TaskState}
 use Rattle.lio_calculus.specs.Step.{blank, cell_at}
 use Rattle.lio_calculus.specs.Sound.{block_says, EachBound, IsTaskOf, IsSound}
 use Rattle.lio_calculus.specs.Erased.{erase}
 use Rattle.lio_calculus.specs.Run.{Ran, run}
-use Rattle.lio_wellformed.specs.WellFormed.{IsWellFormed}
-use Rattle.lio_powers.specs.Laws.{ReleasesByPowers}
-use Rattle.lio_named.specs.Configuration.{NamesOnly}
+use Rattle.lio_calculus_rounds.specs.WellFormed.{IsWellFormed}
+use Rattle.lio_calculus_names.specs.PowerLaws.{ReleasesByPowers}
+use Rattle.lio_calculus_names.specs.Configuration.{NamesOnly}
 use Rattle.lio_policy.specs.Policy.{PolicyParts, IsPolicy}
 use Rattle.lio_policy.specs.declared.policy.FileEntry.{FileEntry}
 use Rattle.lio_policy.specs.declared.policy.TaskEntry.{TaskEntry}

@@ -5,7 +5,7 @@ use Rattle.lio_values.specs.declared.value.Value.{Value}
 use Rattle.lio_values.specs.declared.act.Birth.{Birth}
 use Rattle.lio_syntax.specs.Statements.{Procedure}
 use Rattle.lio_calculus.specs.Step.{Cell, child_of}
-use Rattle.lio_turns.specs.StateOf.{program_of}
+use Rattle.lio_task_turns.specs.StateOf.{program_of}
 use Rattle.lio_config.specs.declared.config.Holder.{Holder}
 use Rattle.lio_task.specs.Births.{CanBeBorn}
 use Rattle.lio_config.specs.Configuration.{cell_of}

@@ -56,7 +56,8 @@ fn task(
     entry: &TaskEntry,
 ) -> Result<Task, NoMemory>
     requires { CanBegin script.now first entry.now }
-    ensures { IfOk result (λ task. state_in script.now task ≡ task_of script.now inputs.now first entry.now) }
+    ensures { IfOk result (λ task. state_in script.now task
+        ≡ task_of script.now inputs.now first entry.now) }
 {
     let birth = birth(alloc, script, inputs, first, entry)?;
     let task = Task::of_birth(alloc, &birth, &entry.label, script);
@@ -80,7 +81,8 @@ pub(crate) fn job(
     entry: &TaskEntry,
 ) -> Result<Holder, NoMemory>
     requires { CanBegin script.now first entry.now }
-    ensures { IfOk result (λ holder. cell_of script.now holder ≡ job_cell script.now inputs.now first entry.now) }
+    ensures { IfOk result (λ holder. cell_of script.now holder
+        ≡ job_cell script.now inputs.now first entry.now) }
 {
     let node = job_node(alloc, &entry.clearance)?;
     match task(alloc, script, inputs, first, entry) {

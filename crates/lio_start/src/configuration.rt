@@ -1,6 +1,6 @@
 //! The first configuration of a job.
 ghost use Rattle.std.specs.Prelude.{◌≡◌, IfOk};
-ghost use Rattle.lio_wellformed.specs.WellFormed.{IsWellFormed};
+ghost use Rattle.lio_calculus_rounds.specs.WellFormed.{IsWellFormed};
 ghost use Rattle.lio_config.specs.Configuration.{configuration_of};
 ghost use Rattle.lio_start.specs.Job.{first_of};
 
@@ -14,8 +14,10 @@ use std::alloc::Global;
 /// Makes the first configuration of a job: the channels, then the tasks, then the numbers that the
 /// tasks own.
 pub fn start(alloc: Global, job: &Job) -> Result<Config, NoMemory>
-    ensures config { IfOk result (λ config. configuration_of job.now.script config ≡ first_of job.now) }
-    ensures well_formed { IfOk result (λ config. IsWellFormed (configuration_of job.now.script config)) }
+    ensures config { IfOk result (λ config. configuration_of job.now.script config
+        ≡ first_of job.now) }
+    ensures well_formed { IfOk result (λ config.
+        IsWellFormed (configuration_of job.now.script config)) }
 {
     let policy = job.policy();
     let script = job.script();

@@ -4,9 +4,9 @@ ghost use Rattle.lio_start.specs.Fits as spec;
 ghost use Rattle.lio_start.specs.Fits.{fault_of, parameter_count};
 
 use crate::fault::StartFault;
-use lio_lines::Line;
 use lio_policy::{Policy, TaskEntry};
 use lio_syntax::Script;
+use lio_syntax_lines::Line;
 
 /// How many parameters the procedure with this number has.
 fn parameter_count(script: &Script, number: usize) -> usize
@@ -50,7 +50,8 @@ fn first_fault(tasks: &[TaskEntry], script: &Script) -> Option<StartFault>
     None
 }
 
-/// Why the first task of a policy that can't begin in a script can't, with its place from 0; none where all can.
+/// Why the first task of a policy that can't begin in a script can't, with its place from 0; none
+/// where all can.
 pub fn fits(policy: &Policy, script: &Script) -> Option<StartFault>
     ensures { result ≡ spec.fits policy.now.tasks script.now }
 {

@@ -1,4 +1,5 @@
-//! Holders of a first configuration, put behind each other: those of the channels, of the tasks, and of the numbers that the tasks own.
+//! Holders of a first configuration, put behind each other: those of the channels, of the tasks,
+//! and of the numbers that the tasks own.
 ghost use Rattle.std.specs.Prelude.{◌≡◌, ◌<◌, ◌^◌, IfOk, OnOk, List, map, replicate};
 ghost use Rattle.lio_syntax.specs.Statements.{Procedure};
 ghost use Rattle.lio_calculus.specs.Step.{blank};
@@ -17,7 +18,8 @@ use std::alloc::Global;
 
 /// A channel that has received nothing.
 fn channel(alloc: Global, channel: &FileEntry) -> Result<Holder, NoMemory>
-    ensures { IfOk result (λ holder. (script : List Procedure) → cell_of script holder ≡ channel_cell channel.now) }
+    ensures { IfOk result (λ holder. (script : List Procedure)
+        → cell_of script holder ≡ channel_cell channel.now) }
 {
     let received = Text::of(alloc, b"")?;
     let label = channel.label.copy(alloc)?;
@@ -39,7 +41,8 @@ pub(crate) fn add_channels(
     channels: &[FileEntry],
     holders: &mut Vec<Holder>,
 ) -> Result<(), NoMemory>
-    ensures { OnOk result ((script : List Procedure) → Adds script holders.old.items holders.new.items (map channel_cell channels.now)) }
+    ensures { OnOk result ((script : List Procedure)
+        → Adds script holders.old.items holders.new.items (map channel_cell channels.now)) }
 {
     for entry in channels {
         holders.push(channel(alloc, entry)?)?;
@@ -47,8 +50,8 @@ pub(crate) fn add_channels(
     Ok(())
 }
 
-/// Puts the jobs of tasks behind the holders, in their order. The range of the first task begins at the given number, and each other one's behind the range
-/// before it.
+/// Puts the jobs of tasks behind the holders, in their order. The range of the first task begins at
+/// the given number, and each other one's behind the range before it.
 pub(crate) fn add_jobs(
     alloc: Global,
     script: &Script,
@@ -58,7 +61,8 @@ pub(crate) fn add_jobs(
     holders: &mut Vec<Holder>,
 ) -> Result<(), NoMemory>
     requires { CanBeginAll script.now first tasks.now }
-    ensures { OnOk result (Adds script.now holders.old.items holders.new.items (job_cells script.now inputs.now first tasks.now)) }
+    ensures { OnOk result (Adds script.now holders.old.items holders.new.items
+        (job_cells script.now inputs.now first tasks.now)) }
 {
     let mut next = first;
     for entry in tasks {
@@ -70,7 +74,8 @@ pub(crate) fn add_jobs(
 
 /// Puts so many numbers behind the holders that hold nothing.
 pub(crate) fn add_free(alloc: Global, count: u32, holders: &mut Vec<Holder>) -> Result<(), NoMemory>
-    ensures { OnOk result ((script : List Procedure) → Adds script holders.old.items holders.new.items (replicate count blank)) }
+    ensures { OnOk result ((script : List Procedure)
+        → Adds script holders.old.items holders.new.items (replicate count blank)) }
 {
     for _n in 0..count {
         holders.push(free(alloc)?)?;

@@ -8,7 +8,8 @@ use lio_policy::{Arg, FileEntry};
 use lio_values::{Content, Fault, FaultKind, Held, Plain, Text, Value, Values};
 use std::alloc::Global;
 
-/// What is in an input: its text, or a fault at its label where the text is longer than texts may be.
+/// What is in an input: its text, or a fault at its label where the text is longer than texts may
+/// be.
 fn input_content(
     alloc: Global,
     longest: u32,

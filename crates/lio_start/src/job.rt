@@ -22,7 +22,11 @@ impl Model for Job {
 
     ghost coded = { job_code };
 
-    ghost view = { λ job. record { policy = job.policy; script = job.script; inputs = job.inputs } };
+    ghost view = { λ job. record {
+      policy = job.policy;
+      script = job.script;
+      inputs = job.inputs;
+    } };
 
     ghost invariant = { λ job. IsJob (record {
       policy = job.policy;

@@ -1,5 +1,8 @@
 //! The laws of the start. Each function does nothing: its contract is the law.
-ghost use Rattle.lio_start.specs.Laws.{CellsStandInOrder, EachTaskBegins, EachTaskFits, FaultIsOfFirst, LiteralsAreSaid, ReleasesAreOfPolicy, RunsArePrintable, StartIsSound, StartIsWellFormed, StartNamesOnly, StartsLookAlike, TextsAreShort};
+ghost use Rattle.lio_start.specs.Laws.{CellsStandInOrder, EachTaskBegins, EachTaskFits};
+ghost use Rattle.lio_start.specs.Laws.{FaultIsOfFirst, LiteralsAreSaid, ReleasesAreOfPolicy};
+ghost use Rattle.lio_start.specs.Laws.{RunsArePrintable, StartIsSound, StartIsWellFormed};
+ghost use Rattle.lio_start.specs.Laws.{StartNamesOnly, StartsLookAlike, TextsAreShort};
 
 /// Nothing is wrong exactly where each task can begin.
 #[tactic(auto, using(crate::proofs::LawLemmas::each_task_fits))]
@@ -13,7 +16,8 @@ pub fn fault_is_of_first()
     ensures { FaultIsOfFirst }
 {}
 
-/// What each script keeps of its lines: the literals in its statements are values that a word can say.
+/// What each script keeps of its lines: the literals in its statements are values that a word can
+/// say.
 #[tactic(auto, using(crate::proofs::LawLemmas::literals_are_said))]
 pub fn literals_are_said()
     ensures { LiteralsAreSaid }
@@ -29,7 +33,8 @@ pub fn start_is_well_formed()
     ensures { StartIsWellFormed }
 {}
 
-/// The channels, the jobs of the tasks and the tasks' ranges have their numbers in the policy's order.
+/// The channels, the jobs of the tasks and the tasks' ranges have their numbers in the policy's
+/// order.
 pub fn cells_stand_in_order()
     ensures { CellsStandInOrder }
 {}
@@ -56,7 +61,8 @@ pub fn releases_are_of_policy()
     ensures { ReleasesAreOfPolicy }
 {}
 
-/// The first configuration of a policy and a script over its principals names only these, whatever the inputs are.
+/// The first configuration of a policy and a script over its principals names only these, whatever
+/// the inputs are.
 pub fn start_names_only()
     ensures { StartNamesOnly }
 {}

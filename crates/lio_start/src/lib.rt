@@ -1,5 +1,6 @@
-//! The start of a policy's tasks in a script: which of them can't begin, what is run (a job), and its first
-//! configuration, with the laws of its definition, first of all that it is sound and well-formed.
+//! The start of a policy's tasks in a script: which of them can't begin, what is run (a job), and
+//! its first configuration, with the laws of its definition, first of all that it is sound and
+//! well-formed.
 #![tactic(auto)]
 
 mod beginning;

@@ -3,10 +3,10 @@ use Rattle.std.proofs.Common.{◌≡◌, ℕ, suc, ◌+◌, ◌≤◌, Bool, tru
 use Rattle.std.specs.Prelude.{nat_le, if◌then◌else◌}
 use Rattle.std.proofs.lemmas.List.{map-append}
 use Rattle.std.proofs.lemmas.Bool.Decides.{nat_tests}
-use Rattle.lio_lines.specs.declared.line.Line.{Line}
-use Rattle.lio_lines.specs.declared.line.ParsedLine.{ParsedLine}
-use Rattle.lio_lines.specs.declared.line.ParsedLine.TheVariants.{Blank, Invalid, Says}
-use Rattle.lio_lines.specs.Header.{Signature, header_of, parsed_header, line_call}
+use Rattle.lio_syntax_lines.specs.declared.line.Line.{Line}
+use Rattle.lio_syntax_lines.specs.declared.line.ParsedLine.{ParsedLine}
+use Rattle.lio_syntax_lines.specs.declared.line.ParsedLine.TheVariants.{Blank, Invalid, Says}
+use Rattle.lio_syntax_lines.specs.Header.{Signature, header_of, parsed_header, line_call}
 use Rattle.lio_syntax.specs.declared.open_block.OpenBlock.{OpenBlock}
 use Rattle.lio_syntax.specs.Lines.{script_lines}
 use Rattle.lio_syntax.specs.Behind.{script_of_lines}

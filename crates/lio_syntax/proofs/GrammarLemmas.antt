@@ -1,10 +1,10 @@
 -- The lines of a script give the script, and lines that stand where they can are those of a script.
 use Rattle.std.proofs.Common.{◌≡◌, ℕ, Bool, true, false, not, List, [], ◌∷◌, refl, ap, sym, ◌∙◌, true≢false}
 use Rattle.std.proofs.lemmas.Bool.{and_parts}
-use Rattle.lio_lines.specs.declared.line.Operand.{Operand}
-use Rattle.lio_lines.specs.declared.line.Simple.{Simple}
-use Rattle.lio_lines.specs.declared.line.Line.{Line}
-use Rattle.lio_lines.specs.declared.line.Line.TheVariants as line
+use Rattle.lio_syntax_lines.specs.declared.line.Operand.{Operand}
+use Rattle.lio_syntax_lines.specs.declared.line.Simple.{Simple}
+use Rattle.lio_syntax_lines.specs.declared.line.Line.{Line}
+use Rattle.lio_syntax_lines.specs.declared.line.Line.TheVariants as line
 use Rattle.lio_syntax.specs.declared.open_block.OpenBlock.{OpenBlock}
 use Rattle.lio_syntax.specs.declared.open_block.OpenBlock.TheVariants as open_block
 use Rattle.lio_syntax.specs.Statements.{Statement, Statements, Do, If, IfElse, While, Try, Nothing, Then, Procedure}

@@ -1,6 +1,6 @@
 -- The laws of scripts.
 use Rattle.std.proofs.Common.{List, ap, sym, subst, ◌∙◌, IsTrue}
-use Rattle.lio_lines.specs.declared.line.Line.{Line}
+use Rattle.lio_syntax_lines.specs.declared.line.Line.{Line}
 use Rattle.lio_syntax.specs.Behind.{script_of_lines}
 use Rattle.lio_syntax.specs.Laws.{PlacedLinesAreOfScripts, TextHasOneScript}
 use Rattle.lio_syntax.specs.OpenBlocks.{are_placed}

@@ -2,9 +2,9 @@
 use Rattle.std.specs.Prelude.{slice_get, Option, Some, None}
 use Rattle.std.proofs.Common.{◌≡◌, ℕ, zero, suc, ◌+◌, ◌≤◌, true, not, List, [], ◌∷◌, length, drop, refl, ap, sym, subst, ◌∙◌, add-one, arith, true≢false}
 use Rattle.std.proofs.lemmas.Bool.{and_parts}
-use Rattle.lio_lines.specs.declared.line.Line.{Line}
-use Rattle.lio_lines.specs.declared.line.Operand.{Operand}
-use Rattle.lio_lines.specs.declared.line.Line.TheVariants as line
+use Rattle.lio_syntax_lines.specs.declared.line.Line.{Line}
+use Rattle.lio_syntax_lines.specs.declared.line.Operand.{Operand}
+use Rattle.lio_syntax_lines.specs.declared.line.Line.TheVariants as line
 use Rattle.lio_syntax.specs.declared.open_block.OpenBlock.{OpenBlock}
 use Rattle.lio_syntax.specs.declared.open_block.OpenBlock.TheVariants as open_block
 use Rattle.lio_syntax.specs.Statements.{Statement, Do, If, IfElse, While, Try}

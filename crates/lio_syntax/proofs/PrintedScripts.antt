@@ -3,13 +3,13 @@ use Rattle.std.proofs.Common.{◌≡◌, ℕ, suc, ◌≤◌, ◌==◌, Bool, tr
 use Rattle.std.proofs.lemmas.Bool.{and_parts}
 use Rattle.std.specs.List.{list_all, onto_first}
 use Rattle.lio_clauses.specs.Names.{AreNames}
-use Rattle.lio_words.proofs.LabelLemmas.{is_inline}
-use Rattle.lio_lines.specs.declared.line.Line.{Line}
-use Rattle.lio_lines.specs.declared.line.ParsedLine.TheVariants.{Says}
-use Rattle.lio_lines.specs.Forms.{line_of}
-use Rattle.lio_lines.specs.LineText.{line_text}
-use Rattle.lio_lines.specs.WellFormed.{IsLine}
-use Rattle.lio_lines.proofs.PrintedLines.{line_inline, line_is_read}
+use Rattle.lio_syntax_lines.proofs.LabelLemmas.{is_inline}
+use Rattle.lio_syntax_lines.specs.declared.line.Line.{Line}
+use Rattle.lio_syntax_lines.specs.declared.line.ParsedLine.TheVariants.{Says}
+use Rattle.lio_syntax_lines.specs.Line.{line_of}
+use Rattle.lio_syntax_lines.specs.Line.{line_text}
+use Rattle.lio_syntax_lines.specs.Line.{IsLine}
+use Rattle.lio_syntax_lines.proofs.PrintedLines.{line_inline, line_is_read}
 use Rattle.lio_syntax.specs.Kept.{KeepsRules}
 use Rattle.lio_syntax.specs.Lines.{script_lines}
 use Rattle.lio_syntax.specs.ScriptText.{lines_text, script_text}

@@ -1,10 +1,10 @@
 -- How reading goes from line to line.
 use Rattle.std.proofs.Common.{◌≡◌, ℕ, suc, ◌+◌, List, [], ◌∷◌, ◌++◌, length, length-append, ap, sym, ◌∙◌, arith, is_some}
 use Rattle.std.specs.Prelude.{if◌then◌else◌}
-use Rattle.lio_lines.specs.declared.line.Line.{Line}
-use Rattle.lio_lines.specs.declared.line.ParsedLine.{ParsedLine}
-use Rattle.lio_lines.specs.declared.line.ParsedLine.TheVariants.{Blank, Says}
-use Rattle.lio_lines.specs.Header.{header_of, parsed_header}
+use Rattle.lio_syntax_lines.specs.declared.line.Line.{Line}
+use Rattle.lio_syntax_lines.specs.declared.line.ParsedLine.{ParsedLine}
+use Rattle.lio_syntax_lines.specs.declared.line.ParsedLine.TheVariants.{Blank, Says}
+use Rattle.lio_syntax_lines.specs.Header.{header_of, parsed_header}
 use Rattle.lio_syntax.specs.declared.headers.Headers.{Headers}
 use Rattle.lio_syntax.specs.declared.progress.Progress.{Progress}
 use Rattle.lio_syntax.specs.Headers.{count_in, Knows}

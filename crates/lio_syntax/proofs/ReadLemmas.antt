@@ -3,11 +3,11 @@ use Rattle.std.proofs.Common.{◌≡◌, ℕ, ◌+◌, ◌≤◌, true, false, L
 use Rattle.std.proofs.lemmas.List.{append-nil}
 use Rattle.std.proofs.lemmas.Bool.Decides.{nat_tests}
 use Rattle.std.specs.Prelude.{nat_lt}
-use Rattle.lio_lines.specs.declared.line.Line.{Line}
-use Rattle.lio_lines.specs.declared.line.ParsedLine.{ParsedLine}
-use Rattle.lio_lines.specs.Forms.{line_of}
-use Rattle.lio_lines.specs.Header.{Signature, parsed_header}
-use Rattle.lio_lines.specs.WellFormed.{IsLine}
+use Rattle.lio_syntax_lines.specs.declared.line.Line.{Line}
+use Rattle.lio_syntax_lines.specs.declared.line.ParsedLine.{ParsedLine}
+use Rattle.lio_syntax_lines.specs.Line.{line_of}
+use Rattle.lio_syntax_lines.specs.Header.{Signature, parsed_header}
+use Rattle.lio_syntax_lines.specs.Line.{IsLine}
 use Rattle.lio_syntax.specs.declared.fault.ScriptFault.{ScriptFault}
 use Rattle.lio_syntax.specs.declared.fault.ScriptFault.TheVariants.{Bad, NoMemory}
 use Rattle.lio_syntax.specs.declared.progress.Progress.{Progress}

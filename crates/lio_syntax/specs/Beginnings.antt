@@ -1,9 +1,9 @@
 -- Where the procedures of a script begin.
 use Rattle.std.specs.Prelude.{◌≡◌, ℕ, suc, List, [], ◌∷◌, ◌++◌, drop, bytes_eq, Option, Some, None, slice_get}
 use Rattle.std.specs.List.{position_from}
-use Rattle.lio_lines.specs.declared.line.Line.{Line}
-use Rattle.lio_lines.specs.declared.line.Line.TheVariants as line
-use Rattle.lio_lines.specs.Header.{Signature, header_of}
+use Rattle.lio_syntax_lines.specs.declared.line.Line.{Line}
+use Rattle.lio_syntax_lines.specs.declared.line.Line.TheVariants as line
+use Rattle.lio_syntax_lines.specs.Header.{Signature, header_of}
 use Rattle.lio_syntax.specs.Statements.{Procedure}
 use Rattle.lio_syntax.specs.Lines.{script_lines}
 use Rattle.lio_syntax.specs.Behind.{Outside, Block, behind}

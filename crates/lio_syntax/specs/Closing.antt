@@ -1,7 +1,7 @@
 -- Where blocks end: the place of a line is its number, from 0.
 use Rattle.std.specs.Prelude.{◌≡◌, ℕ, suc, ◌≤◌, IsTrue, List, [], ◌∷◌, drop, length}
-use Rattle.lio_lines.specs.declared.line.Line.{Line}
-use Rattle.lio_lines.specs.declared.line.Line.TheVariants as line
+use Rattle.lio_syntax_lines.specs.declared.line.Line.{Line}
+use Rattle.lio_syntax_lines.specs.declared.line.Line.TheVariants as line
 use Rattle.lio_syntax.specs.Behind.{Behind, Outside, Block, First, Tried, behind}
 use Rattle.lio_syntax.specs.OpenBlocks.{are_placed}
 

@@ -1,7 +1,7 @@
 -- What a table of procedures holds.
 use Rattle.std.specs.Prelude.{◌≡◌, ℕ, List, bytes_eq, Option}
 use Rattle.std.specs.Map.{lookup}
-use Rattle.lio_lines.specs.declared.line.ParsedLine.{ParsedLine}
+use Rattle.lio_syntax_lines.specs.declared.line.ParsedLine.{ParsedLine}
 use Rattle.lio_syntax.specs.declared.headers.Headers.{Headers}
 use Rattle.lio_syntax.specs.Rules.{parameters_of}
 

@@ -1,9 +1,9 @@
 -- What each script keeps.
 use Rattle.std.specs.Prelude.{List, IsTrue, is_none, map}
 use Rattle.std.specs.List.{list_all}
-use Rattle.lio_lines.specs.declared.line.Line.{Line}
-use Rattle.lio_lines.specs.declared.line.ParsedLine.TheVariants.{Says}
-use Rattle.lio_lines.specs.Literal.{says_literals}
+use Rattle.lio_syntax_lines.specs.declared.line.Line.{Line}
+use Rattle.lio_syntax_lines.specs.declared.line.ParsedLine.TheVariants.{Says}
+use Rattle.lio_syntax_lines.specs.Line.{says_literals}
 use Rattle.lio_syntax.specs.Verdict.{lines_fault}
 
 -- lines that break no rule: each stands where it can, calls are of procedures that are there, with as many arguments as these have

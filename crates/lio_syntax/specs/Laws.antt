@@ -1,6 +1,6 @@
 -- The laws of scripts.
 use Rattle.std.specs.Prelude.{◌≡◌, ◌↔◌, ℕ, List, IsTrue}
-use Rattle.lio_lines.specs.declared.line.Line.{Line}
+use Rattle.lio_syntax_lines.specs.declared.line.Line.{Line}
 use Rattle.lio_syntax.specs.Lines.{script_lines}
 use Rattle.lio_syntax.specs.OpenBlocks.{are_placed}
 use Rattle.lio_syntax.specs.Statements.{Procedure}

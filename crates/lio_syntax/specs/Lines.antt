@@ -1,7 +1,7 @@
 -- The grammar of scripts: the lines of each statement and each procedure, before other lines.
 use Rattle.std.specs.Prelude.{List, [], ◌∷◌}
-use Rattle.lio_lines.specs.declared.line.Line.{Line}
-use Rattle.lio_lines.specs.declared.line.Line.TheVariants as line
+use Rattle.lio_syntax_lines.specs.declared.line.Line.{Line}
+use Rattle.lio_syntax_lines.specs.declared.line.Line.TheVariants as line
 use Rattle.lio_syntax.specs.Statements.{Statement, Statements, Do, If, IfElse, While, Try, Nothing, Then, Procedure}
 
 unfoldable mutual

@@ -1,9 +1,9 @@
 -- The blocks and the procedure that are open at a place in a script, the innermost first, and which line may stand there.
 use Rattle.std.specs.Prelude.{ℕ, ◌-◌, Bool, true, false, not, ◌&&◌, List, [], ◌∷◌, drop, length}
-use Rattle.lio_lines.specs.declared.line.Line.{Line}
-use Rattle.lio_lines.specs.declared.line.Line.TheVariants as line
-use Rattle.lio_lines.specs.declared.line.ParsedLine.{ParsedLine}
-use Rattle.lio_lines.specs.declared.line.ParsedLine.TheVariants.{Blank, Invalid, Says}
+use Rattle.lio_syntax_lines.specs.declared.line.Line.{Line}
+use Rattle.lio_syntax_lines.specs.declared.line.Line.TheVariants as line
+use Rattle.lio_syntax_lines.specs.declared.line.ParsedLine.{ParsedLine}
+use Rattle.lio_syntax_lines.specs.declared.line.ParsedLine.TheVariants.{Blank, Invalid, Says}
 use Rattle.lio_syntax.specs.declared.open_block.OpenBlock.{OpenBlock}
 use Rattle.lio_syntax.specs.declared.open_block.OpenBlock.TheVariants.{Procedure, If, Else, While, Try, Catch}
 

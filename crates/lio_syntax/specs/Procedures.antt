@@ -1,6 +1,6 @@
 -- What a table of the procedures of a script holds.
 use Rattle.std.specs.Prelude.{◌≡◌, ℕ, ◌<◌, ◌^◌, List, length, map}
-use Rattle.lio_lines.specs.declared.line.Line.{Line}
+use Rattle.lio_syntax_lines.specs.declared.line.Line.{Line}
 use Rattle.lio_syntax.specs.declared.procedures.Procedures.{Procedures}
 use Rattle.lio_syntax.specs.Beginnings.{Beginning, beginnings, number_in}
 use Rattle.lio_syntax.specs.Headers.{count_in}

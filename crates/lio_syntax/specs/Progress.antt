@@ -1,6 +1,6 @@
 -- What is known of a text behind its first lines.
 use Rattle.std.specs.Prelude.{◌≡◌, List, length}
-use Rattle.lio_lines.specs.declared.line.ParsedLine.{ParsedLine}
+use Rattle.lio_syntax_lines.specs.declared.line.ParsedLine.{ParsedLine}
 use Rattle.lio_syntax.specs.declared.progress.Progress.{Progress}
 use Rattle.lio_syntax.specs.Headers.{Knows}
 use Rattle.lio_syntax.specs.OpenBlocks.{open_behind}

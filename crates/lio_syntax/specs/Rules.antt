@@ -1,11 +1,11 @@
 -- The rules of scripts, over all lines of a text: which of them a line breaks.
 use Rattle.std.specs.Prelude.{ℕ, suc, ◌==◌, ◌&&◌, ◌||◌, not, Bool, true, false, nat_le, if◌then◌else◌, List, [], ◌∷◌, length, bytes_eq, Option, Some, None, is_some, is_none}
 use Rattle.std.specs.List.{list_any}
-use Rattle.lio_lines.specs.declared.line.Line.{Line}
-use Rattle.lio_lines.specs.declared.line.Line.TheVariants as line
-use Rattle.lio_lines.specs.declared.line.ParsedLine.{ParsedLine}
-use Rattle.lio_lines.specs.declared.line.ParsedLine.TheVariants.{Blank, Invalid, Says}
-use Rattle.lio_lines.specs.Header.{Signature, header_of, parsed_header, line_call}
+use Rattle.lio_syntax_lines.specs.declared.line.Line.{Line}
+use Rattle.lio_syntax_lines.specs.declared.line.Line.TheVariants as line
+use Rattle.lio_syntax_lines.specs.declared.line.ParsedLine.{ParsedLine}
+use Rattle.lio_syntax_lines.specs.declared.line.ParsedLine.TheVariants.{Blank, Invalid, Says}
+use Rattle.lio_syntax_lines.specs.Header.{Signature, header_of, parsed_header, line_call}
 use Rattle.lio_syntax.specs.OpenBlocks.{is_misplaced, open_behind, block_count}
 
 -- the number of parameters, where the signature has the name

@@ -1,8 +1,8 @@
 -- The canonical text of a script: each line with its line end, without indentation.
 use Rattle.std.specs.Prelude.{ℕ, List, ◌++◌, codes}
 use Rattle.std.specs.List.{flat_map}
-use Rattle.lio_lines.specs.declared.line.Line.{Line}
-use Rattle.lio_lines.specs.LineText.{line_text}
+use Rattle.lio_syntax_lines.specs.declared.line.Line.{Line}
+use Rattle.lio_syntax_lines.specs.Line.{line_text}
 use Rattle.lio_syntax.specs.Lines.{script_lines}
 use Rattle.lio_syntax.specs.Statements.{Procedure}
 

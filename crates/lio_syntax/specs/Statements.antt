@@ -1,7 +1,7 @@
 -- Scripts: procedures, and statements with the blocks inside them.
 use Rattle.std.specs.Prelude.{ℕ, List}
-use Rattle.lio_lines.specs.declared.line.Operand.{Operand}
-use Rattle.lio_lines.specs.declared.line.Simple.{Simple}
+use Rattle.lio_syntax_lines.specs.declared.line.Operand.{Operand}
+use Rattle.lio_syntax_lines.specs.declared.line.Simple.{Simple}
 
 mutual
   -- A statement: one that opens no block, or one with its blocks.

@@ -3,7 +3,7 @@ ghost use Rattle.std.specs.Prelude.{◌≡◌, ◌∷◌, [], drop, IfOk, OnOk};
 ghost use Rattle.lio_syntax.specs.Closing.{ends_before, ends_behind, first_of};
 
 use lio_clauses::NoMemory;
-use lio_lines::Line;
+use lio_syntax_lines::Line;
 use std::alloc::Global;
 use std::marker::Model;
 

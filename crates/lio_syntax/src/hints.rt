@@ -1,9 +1,10 @@
-//! What helps to mend a line of a script that breaks a rule. What a hint says has no contract; rows show it.
+//! What helps to mend a line of a script that breaks a rule. What a hint says has no contract; rows
+//! show it.
 
 use crate::read::read_headers;
 use lio_clauses::NoMemory;
+use lio_syntax_lines::{Keyword, split_word, without_return};
 use lio_values::Text;
-use lio_words::{Keyword, split_word, without_return};
 use std::alloc::Global;
 
 /// What helps to mend a line.
@@ -19,8 +20,8 @@ pub enum Hint {
     Takes(TakesAt),
 }
 
-/// A block or a procedure: the first word of the line that begins it or its last part, and how many lines stand before
-/// that one.
+/// A block or a procedure: the first word of the line that begins it or its last part, and how many
+/// lines stand before that one.
 #[derive(Drop)]
 pub struct OpenAt {
     pub word: Keyword,
@@ -51,7 +52,8 @@ fn keyword(line: &[u8]) -> Option<Keyword> {
     Keyword::find(word)
 }
 
-/// Whether a line with this first word ends the innermost block, or the procedure, that is open before it.
+/// Whether a line with this first word ends the innermost block, or the procedure, that is open
+/// before it.
 fn closes(word: Keyword) -> bool {
     matches!(word, Keyword::End | Keyword::Else | Keyword::Catch)
 }
@@ -122,12 +124,16 @@ fn callee(line: &[u8]) -> Option<(&[u8], usize)> {
 }
 
 /// How many parameters the first procedure of a script with a name has, if there is one.
-pub fn parameter_count(alloc: Global, script: &[u8], name: &[u8]) -> Result<Option<usize>, NoMemory> {
+pub fn parameter_count(
+    alloc: Global,
+    script: &[u8],
+    name: &[u8],
+) -> Result<Option<usize>, NoMemory> {
     Ok(read_headers(alloc, script)?.find(name))
 }
 
-/// What helps to mend a line that calls, forks or spawns a procedure which isn't there or takes another number of
-/// arguments.
+/// What helps to mend a line that calls, forks or spawns a procedure which isn't there or takes
+/// another number of arguments.
 fn callee_hint(alloc: Global, script: &[u8], line: &[u8]) -> Result<Hint, NoMemory> {
     let Some((name, given)) = callee(line) else {
         return Ok(Hint::Nothing);

@@ -3,7 +3,7 @@ ghost use Rattle.std.specs.Prelude.{◌≡◌, ◌∷◌, [], ◌<◌, length, d
 ghost use Rattle.lio_syntax.specs.OpenBlocks.{misplaced_outside};
 
 use lio_clauses::NoMemory;
-use lio_lines::Line;
+use lio_syntax_lines::Line;
 use std::alloc::Global;
 use std::marker::Model;
 

@@ -2,14 +2,14 @@
 #![tactic(auto, unfolding(crate::specs::ScriptText::lines_text))]
 
 ghost use Rattle.std.specs.Prelude.{◌≡◌, ◌≤◌, ◌++◌, length, codes, All, IfOk, OnOk};
-ghost use Rattle.lio_lines.specs.LineText.{line_text};
-ghost use Rattle.lio_lines.specs.WellFormed.{IsLine};
+ghost use Rattle.lio_syntax_lines.specs.Line.{line_text};
+ghost use Rattle.lio_syntax_lines.specs.Line.{IsLine};
 ghost use Rattle.lio_syntax.specs.ScriptText.{lines_text, script_text};
 ghost use Rattle.lio_syntax.specs.Verdict.{IsOver, IsScript};
 
 use crate::script::Script;
 use lio_clauses::{Names, NoMemory};
-use lio_lines::Line;
+use lio_syntax_lines::Line;
 use std::alloc::Global;
 
 /// Appends a line with its line end.

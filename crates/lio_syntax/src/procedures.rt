@@ -1,12 +1,12 @@
 //! The procedures of a script, by name and by number.
 ghost use Rattle.std.specs.Prelude.{◌≡◌, ◌<◌, ◌++◌, ◌∷◌, [], List, ℕ, IfOk, OnOk, length};
 ghost use Rattle.std.specs.Prelude.{slice_index};
-ghost use Rattle.lio_lines.specs.Header.{header_of};
+ghost use Rattle.lio_syntax_lines.specs.Header.{header_of};
 ghost use Rattle.lio_syntax.specs.Beginnings.{Beginning, begun_by};
 
 use crate::headers::Headers;
 use lio_clauses::NoMemory;
-use lio_lines::Line;
+use lio_syntax_lines::Line;
 use std::alloc::Global;
 
 /// The procedures of a script in order: the number of each by its name, and the places of the lines

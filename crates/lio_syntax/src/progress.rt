@@ -1,10 +1,10 @@
 //! Reading the lines of a text one after another.
 ghost use Rattle.std.specs.Prelude.{◌≡◌, ◌≤◌, ◌<◌, ◌+◌, ◌++◌, ◌∷◌, [], List, ℕ, suc, false, None};
 ghost use Rattle.std.specs.Prelude.{is_some, if◌then◌else◌, length, All, OnOk, IfOk, IfErr};
-ghost use Rattle.lio_lines.specs.declared.line.ParsedLine.{ParsedLine};
-ghost use Rattle.lio_lines.specs.declared.line.ParsedLine.TheVariants.{Blank, Says};
-ghost use Rattle.lio_lines.specs.Header.{header_of};
-ghost use Rattle.lio_lines.specs.WellFormed.{IsLine, IsParsed};
+ghost use Rattle.lio_syntax_lines.specs.declared.line.ParsedLine.{ParsedLine};
+ghost use Rattle.lio_syntax_lines.specs.declared.line.ParsedLine.TheVariants.{Blank, Says};
+ghost use Rattle.lio_syntax_lines.specs.Header.{header_of};
+ghost use Rattle.lio_syntax_lines.specs.Line.{IsLine, IsParsed};
 ghost use Rattle.lio_syntax.specs.Rules as spec;
 ghost use Rattle.lio_syntax.specs.Refusal.{Refuses};
 ghost use Rattle.lio_syntax.specs.OpenBlocks.{open_behind};
@@ -15,7 +15,7 @@ use crate::headers::Headers;
 use crate::open_block::OpenBlocks;
 use crate::rules::{broken_call, opens_block, repeats_parameter};
 use lio_clauses::NoMemory;
-use lio_lines::{Line, ParsedLine};
+use lio_syntax_lines::{Line, ParsedLine};
 use std::alloc::Global;
 
 /// The most lines that a text has.
@@ -154,8 +154,9 @@ impl Progress {
         requires { self.old.count < 8192 }
         ensures seen { OnOk result ((before : List ParsedLine)
             → Knows self.old.seen before → Knows self.new.seen (before ++ Says line.now ∷ [])) }
-        ensures procedures { OnOk result (self.new.procedures ≡ (if is_some
-            (header_of line.now) then suc self.old.procedures else self.old.procedures)) }
+        ensures procedures { OnOk result (self.new.procedures
+            ≡ (if is_some (header_of line.now) then suc self.old.procedures
+            else self.old.procedures)) }
         ensures others { OnOk result ((self.new.blocks ≡ self.old.blocks) × (self.new.count
             ≡ suc self.old.count) × (self.new.lines.items ≡ self.old.lines.items)) }
     {

@@ -10,7 +10,7 @@ use crate::progress::{LIMITS, Progress};
 use crate::script::Script;
 use crate::text::split_line;
 use lio_clauses::{Names, NoMemory};
-use lio_lines::{read_header, read_line};
+use lio_syntax_lines::{read_header, read_line};
 use std::alloc::Global;
 
 /// The most bytes that a text has.

@@ -3,13 +3,13 @@
 
 ghost use Rattle.std.specs.Prelude.{◌≡◌, ◌≤◌, List, length, bytes_eq};
 ghost use Rattle.std.specs.List.{list_any};
-ghost use Rattle.lio_lines.specs.declared.line.ParsedLine.{ParsedLine};
-ghost use Rattle.lio_lines.specs.Header.{line_call};
+ghost use Rattle.lio_syntax_lines.specs.declared.line.ParsedLine.{ParsedLine};
+ghost use Rattle.lio_syntax_lines.specs.Header.{line_call};
 ghost use Rattle.lio_syntax.specs.Headers.{Knows};
 ghost use Rattle.lio_syntax.specs.Rules as spec;
 
 use crate::headers::Headers;
-use lio_lines::Line;
+use lio_syntax_lines::Line;
 use lio_values::Text;
 
 /// The rule that a called procedure is there.

@@ -4,7 +4,7 @@ ghost use Rattle.std.specs.Prelude.{◌≡◌, ◌<◌, ◌+◌, ◌^◌, length
 use crate::ends::ends_of;
 use crate::procedures::Procedures;
 use lio_clauses::NoMemory;
-use lio_lines::Line;
+use lio_syntax_lines::Line;
 use std::alloc::Global;
 use std::marker::Model;
 use std::sync::Arc;

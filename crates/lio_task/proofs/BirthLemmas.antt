@@ -5,14 +5,14 @@ use Rattle.lio_values.specs.declared.value.Value.{Value}
 use Rattle.lio_values.specs.declared.act.Birth.{Birth}
 use Rattle.lio_syntax.specs.Statements.{Statements, Procedure}
 use Rattle.lio_syntax.specs.Lines.{script_lines}
-use Rattle.lio_control.specs.Environment.{Environment, bind_all}
-use Rattle.lio_control.specs.Items.{enter}
-use Rattle.lio_control.specs.Continuation.{block_at}
-use Rattle.lio_control.specs.Throwing.{Place}
+use Rattle.lio_task_control.specs.Environment.{Environment, bind_all}
+use Rattle.lio_task_control.specs.Items.{enter}
+use Rattle.lio_task_control.specs.Continuation.{block_at}
+use Rattle.lio_task_control.specs.Throwing.{Place}
 use Rattle.lio_calculus.specs.Task.{TaskState}
 use Rattle.lio_calculus.specs.Step.{child_of, parameters_of, body_of}
-use Rattle.lio_lookup.specs.Procedure.{IsNumbered}
-use Rattle.lio_turns.specs.StateOf.{program_of}
+use Rattle.lio_task_turns.specs.Procedure.{IsNumbered}
+use Rattle.lio_task_turns.specs.StateOf.{program_of}
 
 -- a task at a place, with what a birth gives it
 abbrev pub placed : Place → Label → Birth → TaskState

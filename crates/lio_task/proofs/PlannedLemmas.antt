@@ -3,18 +3,18 @@ use Rattle.std.proofs.Common.{◌≡◌, ◌∙◌, refl, sym, ap, subst, IsTrue
 use Rattle.lio_labels.specs.Flow.{flows}
 use Rattle.lio_values.specs.declared.act.Act.{Act}
 use Rattle.lio_values.specs.declared.act.Reply.{Reply}
-use Rattle.lio_lines.specs.declared.line.Line.{Line}
+use Rattle.lio_syntax_lines.specs.declared.line.Line.{Line}
 use Rattle.lio_calculus.specs.Task.{TaskState}
 use Rattle.lio_calculus.specs.Going.{gone_on}
 use Rattle.lio_calculus.specs.Plan.{Program, plan}
 use Rattle.lio_calculus.specs.Afforded.{Affords, AffordsPlan}
 use Rattle.lio_calculus.proofs.AffordedLemmas.{plan_affords}
-use Rattle.lio_plan.specs.declared.planned.Planned.{Planned}
-use Rattle.lio_plan.specs.declared.planned.Planned.TheVariants as planned
-use Rattle.lio_turns.specs.declared.turn.Turn.{Turn}
-use Rattle.lio_turns.specs.declared.turn.Turn.TheVariants as turn
-use Rattle.lio_plan.specs.Planned.{plan_of, simple_of}
-use Rattle.lio_turns.specs.Turns.{onward_in, onward_of, turn_of}
+use Rattle.lio_task_plan.specs.declared.planned.Planned.{Planned}
+use Rattle.lio_task_plan.specs.declared.planned.Planned.TheVariants as planned
+use Rattle.lio_task_turns.specs.declared.turn.Turn.{Turn}
+use Rattle.lio_task_turns.specs.declared.turn.Turn.TheVariants as turn
+use Rattle.lio_task_plan.specs.Planned.{plan_of, simple_of}
+use Rattle.lio_task_turns.specs.Turns.{onward_in, onward_of, turn_of}
 use Rattle.lio_task.specs.Next.{next_by, next_of, resumed_by, resumed}
 
 pub next_is : (program : Program) (lines : List Line) (task : TaskState) (p : Planned) → plan_of lines task.items p ≡ plan program task → next_by (plan_of lines task.items p) ≡ next_of program task

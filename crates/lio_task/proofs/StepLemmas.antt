@@ -5,17 +5,17 @@ use Rattle.lio_values.specs.declared.value.Value.TheVariants.{Bare}
 use Rattle.lio_values.specs.declared.value.Plain.TheVariants.{Unit as unit}
 use Rattle.lio_values.specs.declared.act.Act.{Act}
 use Rattle.lio_values.specs.declared.act.Reply.{Reply}
-use Rattle.lio_lines.specs.declared.line.Line.{Line}
-use Rattle.lio_lines.specs.declared.line.Line.TheVariants as says
+use Rattle.lio_syntax_lines.specs.declared.line.Line.{Line}
+use Rattle.lio_syntax_lines.specs.declared.line.Line.TheVariants as says
 use Rattle.lio_syntax.specs.Statements.{Statements, While}
-use Rattle.lio_control.specs.Items.{Item, Do, Access, Mark, Back, Fail, rest_of, enter}
-use Rattle.lio_control.specs.Continuation.{block_at, mark_of, mark_at}
-use Rattle.lio_control.specs.Front.{IsBack, Begins, IsGuarded}
-use Rattle.lio_control.specs.Throwing.{returned}
+use Rattle.lio_task_control.specs.Items.{Item, Do, Access, Mark, Back, Fail, rest_of, enter}
+use Rattle.lio_task_control.specs.Continuation.{block_at, mark_of, mark_at}
+use Rattle.lio_task_control.specs.Front.{IsBack, Begins, IsGuarded}
+use Rattle.lio_task_control.specs.Throwing.{returned}
 use Rattle.lio_calculus.specs.Task.{TaskState}
 use Rattle.lio_calculus.specs.Going.{at, gone_on}
-use Rattle.lio_plan.specs.declared.planned.Control.TheVariants as control
-use Rattle.lio_plan.specs.Planned.{condition_of, leave_of, try_of, control_of}
+use Rattle.lio_task_plan.specs.declared.planned.Control.TheVariants as control
+use Rattle.lio_task_plan.specs.Planned.{condition_of, leave_of, try_of, control_of}
 use Rattle.lio_task.specs.Goes.{spent}
 
 pub skip_on : (lines : List Line) (task : TaskState) (act : Act) (reply : Reply) → spent task ≡ gone_on task (control_of lines task.items control.Skip) act reply

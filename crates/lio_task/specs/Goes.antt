@@ -2,20 +2,20 @@
 use Rattle.std.specs.Prelude.{◌≡◌, ◌-◌, List}
 use Rattle.lio_values.specs.declared.act.Act.{Act}
 use Rattle.lio_values.specs.declared.act.Reply.{Reply}
-use Rattle.lio_lines.specs.declared.line.Line.{Line}
+use Rattle.lio_syntax_lines.specs.declared.line.Line.{Line}
 use Rattle.lio_syntax.specs.Statements.{Procedure}
 use Rattle.lio_syntax.specs.Lines.{script_lines}
-use Rattle.lio_control.specs.Items.{Item, rest_of}
-use Rattle.lio_control.specs.Front.{AtStatement}
+use Rattle.lio_task_control.specs.Items.{Item, rest_of}
+use Rattle.lio_task_control.specs.Front.{AtStatement}
 use Rattle.lio_calculus.specs.Task.{TaskState}
 use Rattle.lio_calculus.specs.Going as going
 use Rattle.lio_calculus.specs.Going.{gone_on}
 use Rattle.lio_calculus.specs.Afforded.{Affords}
-use Rattle.lio_plan.specs.declared.planned.Control.{Control}
-use Rattle.lio_turns.specs.declared.turn.Onward.{Onward}
-use Rattle.lio_plan.specs.Planned.{control_of, simple_of}
-use Rattle.lio_turns.specs.Turns.{onward_of}
-use Rattle.lio_plan.specs.Leads.{Leads}
+use Rattle.lio_task_plan.specs.declared.planned.Control.{Control}
+use Rattle.lio_task_turns.specs.declared.turn.Onward.{Onward}
+use Rattle.lio_task_plan.specs.Planned.{control_of, simple_of}
+use Rattle.lio_task_turns.specs.Turns.{onward_of}
+use Rattle.lio_task_plan.specs.Leads.{Leads}
 use Rattle.lio_task.specs.declared.go.Way.{Way}
 use Rattle.lio_task.specs.declared.go.Way.TheVariants as way
 use Rattle.lio_task.specs.declared.task.Task.{Task}

@@ -1,9 +1,9 @@
 -- What the code's tasks stand for.
 use Rattle.std.specs.Prelude.{List}
-use Rattle.lio_lines.specs.declared.line.Line.{Line}
+use Rattle.lio_syntax_lines.specs.declared.line.Line.{Line}
 use Rattle.lio_syntax.specs.Lines.{script_lines}
 use Rattle.lio_syntax.specs.Statements.{Procedure}
-use Rattle.lio_control.specs.Continuation.{place_of}
+use Rattle.lio_task_control.specs.Continuation.{place_of}
 use Rattle.lio_calculus.specs.Task.{TaskState}
 use Rattle.lio_task.specs.declared.task.Task.{Task}
 

@@ -1,12 +1,12 @@
 -- Where a task stands: at an access, or elsewhere (blocking variables and the results of tasks; LIO, ICFP 2012).
 use Rattle.std.specs.Prelude.{ℕ, List, ◌∷◌, Option, Some, None, if◌then◌else◌}
 use Rattle.lio_values.specs.declared.value.Handle.{Handle}
-use Rattle.lio_lines.specs.declared.line.Simple.{Simple}
-use Rattle.lio_lines.specs.declared.line.Simple.TheVariants.{Read, Take, Put, Wait}
+use Rattle.lio_syntax_lines.specs.declared.line.Simple.{Simple}
+use Rattle.lio_syntax_lines.specs.declared.line.Simple.TheVariants.{Read, Take, Put, Wait}
 use Rattle.lio_cells.specs.declared.wish.Wish.{Wish}
 use Rattle.lio_cells.specs.declared.wish.Wish.TheVariants as wish
-use Rattle.lio_control.specs.Environment.{Environment}
-use Rattle.lio_control.specs.Items.{Item, Access}
+use Rattle.lio_task_control.specs.Environment.{Environment}
+use Rattle.lio_task_control.specs.Items.{Item, Access}
 use Rattle.lio_calculus.specs.Operands.{seen_as, reference_of, variable_of, result_of}
 use Rattle.lio_calculus.specs.Task.{TaskState}
 use Rattle.lio_task.specs.declared.status.Status.{Status}

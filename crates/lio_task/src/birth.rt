@@ -1,10 +1,10 @@
 //! Tasks as they are born.
 use crate::task::Task;
 use lio_clauses::NoMemory;
-use lio_control::Continuation;
 use lio_labels::Label;
-use lio_lookup::Procedure;
 use lio_syntax::Script;
+use lio_task_control::Continuation;
+use lio_task_turns::Procedure;
 use lio_values::{Act, Birth};
 use std::alloc::Global;
 
@@ -12,7 +12,7 @@ impl Task {
     ghost use Rattle.std.specs.Prelude.{◌≡◌, ℕ, IfOk};
     ghost use Rattle.std.specs.Option.{option_map};
     ghost use Rattle.lio_calculus.specs.Step.{born, child_of};
-    ghost use Rattle.lio_turns.specs.StateOf.{program_of};
+    ghost use Rattle.lio_task_turns.specs.StateOf.{program_of};
     ghost use Rattle.lio_task.specs.Births.{CanBear, CanBeBorn};
     ghost use Rattle.lio_task.specs.StateOf.{state_in};
 

@@ -1,14 +1,14 @@
 //! Equal tasks.
 use crate::task::Task;
 use lio_clauses::NoMemory;
-use lio_control::Continuation;
+use lio_task_control::Continuation;
 use std::alloc::Global;
 
 impl Task {
     ghost use Rattle.std.specs.Prelude.{◌≡◌, IfOk, List};
-    ghost use Rattle.lio_lines.specs.declared.line.Line.{Line};
+    ghost use Rattle.lio_syntax_lines.specs.declared.line.Line.{Line};
     ghost use Rattle.lio_syntax.specs.Statements.{Procedure};
-    ghost use Rattle.lio_control.specs.Continuation.{place_of};
+    ghost use Rattle.lio_task_control.specs.Continuation.{place_of};
     ghost use Rattle.lio_calculus.specs.Going.{at};
     ghost use Rattle.lio_task.specs.StateOf.{state_in, state_of};
 

@@ -3,9 +3,9 @@
 
 use crate::task::Task;
 use lio_clauses::NoMemory;
-use lio_plan::Control;
 use lio_syntax::Script;
-use lio_turns::Onward;
+use lio_task_plan::Control;
+use lio_task_turns::Onward;
 use lio_values::{Act, Reply};
 use std::alloc::Global;
 

@@ -7,9 +7,9 @@ ghost use Rattle.lio_calculus.specs.Going.{released};
 
 use crate::task::Task;
 use lio_clauses::NoMemory;
-use lio_control::Environment;
 use lio_labels::Label;
 use lio_syntax::Script;
+use lio_task_control::Environment;
 use lio_values::{Act, Content, Fault, Handle, Held, Plain, Reply, Text, Value};
 use std::alloc::Global;
 
@@ -19,16 +19,16 @@ type Done = Result<(), NoMemory>;
 impl Task {
     ghost use Rattle.std.specs.Prelude.{◌≡◌, ◌+◌, ◌-◌, ◌≤◌, List, [], ◌∷◌, IsTrue, OnOk, OnErr};
     ghost use Rattle.std.specs.Prelude.{true};
-    ghost use Rattle.lio_lines.specs.declared.line.Line.{Line};
+    ghost use Rattle.lio_syntax_lines.specs.declared.line.Line.{Line};
     ghost use Rattle.lio_task.specs.StateOf.{state_in, state_of};
     ghost use Rattle.lio_labels.specs.Flow.{flows};
     ghost use Rattle.lio_syntax.specs.Lines.{script_lines};
     ghost use Rattle.lio_syntax.specs.Statements as statement;
-    ghost use Rattle.lio_lines.specs.declared.line.Simple.{Simple as Simply};
-    ghost use Rattle.lio_control.specs.Items.{Access, Back, enter};
-    ghost use Rattle.lio_control.specs.Continuation.{block_at, mark_at};
-    ghost use Rattle.lio_control.specs.Front.{AtStatement, Begins, IsBack, IsOwn};
-    ghost use Rattle.lio_control.specs.Throwing.{returned};
+    ghost use Rattle.lio_syntax_lines.specs.declared.line.Simple.{Simple as Simply};
+    ghost use Rattle.lio_task_control.specs.Items.{Access, Back, enter};
+    ghost use Rattle.lio_task_control.specs.Continuation.{block_at, mark_at};
+    ghost use Rattle.lio_task_control.specs.Front.{AtStatement, Begins, IsBack, IsOwn};
+    ghost use Rattle.lio_task_control.specs.Throwing.{returned};
     ghost use Rattle.lio_values.specs.declared.value.Value.TheVariants as value;
     ghost use Rattle.lio_values.specs.declared.value.Plain.TheVariants.{Unit as unit};
     ghost use Rattle.lio_values.specs.declared.value.Content.TheVariants as content;

@@ -5,10 +5,10 @@ ghost use Rattle.lio_calculus.specs.Waiting.{handle_met};
 ghost use Rattle.lio_calculus.specs.Handles.{handle_written};
 
 use crate::task::Task;
-use lio_control::{Environment, Front};
-use lio_lines::Simple;
-use lio_lookup::operands;
 use lio_syntax::Script;
+use lio_syntax_lines::Simple;
+use lio_task_control::{Environment, Front};
+use lio_task_turns::operands;
 use lio_values::Handle;
 
 /// The handle of the node that an access meets.

@@ -5,10 +5,10 @@ ghost use Rattle.lio_values.specs.declared.act.Act.TheVariants as act;
 use crate::go::Way;
 use crate::task::Task;
 use lio_clauses::NoMemory;
-use lio_control::Front;
-use lio_plan::{Planned, plan_next};
 use lio_syntax::Script;
-use lio_turns::Turn;
+use lio_task_control::Front;
+use lio_task_plan::{Planned, plan_next};
+use lio_task_turns::Turn;
 use lio_values::{Act, Content, Held, Reply};
 use std::alloc::Global;
 
@@ -26,11 +26,11 @@ pub enum Next {
 impl Task {
     ghost use Rattle.std.specs.Prelude.{◌≡◌, IfOk, OnOk, OnErr};
     ghost use Rattle.lio_syntax.specs.Lines.{script_lines};
-    ghost use Rattle.lio_control.specs.Front.{IsFront};
+    ghost use Rattle.lio_task_control.specs.Front.{IsFront};
     ghost use Rattle.lio_calculus.specs.Plan as plan;
-    ghost use Rattle.lio_turns.specs.StateOf.{program_of};
-    ghost use Rattle.lio_plan.specs.Planned.{plan_of};
-    ghost use Rattle.lio_plan.specs.Leads.{LeadsOn};
+    ghost use Rattle.lio_task_turns.specs.StateOf.{program_of};
+    ghost use Rattle.lio_task_plan.specs.Planned.{plan_of};
+    ghost use Rattle.lio_task_plan.specs.Leads.{LeadsOn};
     ghost use Rattle.lio_task.specs.Next.{next_of, resumed};
     ghost use Rattle.lio_task.specs.StateOf.{state_in};
 

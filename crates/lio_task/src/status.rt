@@ -5,10 +5,10 @@ ghost use Rattle.lio_task.specs.Status.{reading, status_at, waiting};
 
 use crate::task::Task;
 use lio_cells::Wish;
-use lio_control::{Environment, Front};
-use lio_lines::Simple;
-use lio_lookup::operands;
 use lio_syntax::Script;
+use lio_syntax_lines::Simple;
+use lio_task_control::{Environment, Front};
+use lio_task_turns::operands;
 use lio_values::Handle;
 
 /// Where a task stands.
@@ -29,7 +29,7 @@ impl Task {
     ghost use Rattle.std.specs.Prelude.{◌≡◌, List};
     ghost use Rattle.lio_syntax.specs.Lines.{script_lines};
     ghost use Rattle.lio_syntax.specs.Statements.{Procedure};
-    ghost use Rattle.lio_control.specs.Front.{IsFront};
+    ghost use Rattle.lio_task_control.specs.Front.{IsFront};
     ghost use Rattle.lio_task.specs.StateOf.{state_in};
     ghost use Rattle.lio_task.specs.Status.{status_of};
 

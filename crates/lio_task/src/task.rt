@@ -2,9 +2,9 @@
 ghost use Rattle.std.specs.Prelude.{◌≡◌, ◌+◌, ◌<◌, ◌^◌, IsTrue, List};
 ghost use Rattle.lio_labels.specs.Flow.{flows};
 
-use lio_control::Continuation;
 use lio_labels::Label;
-use lio_turns::Standing;
+use lio_task_control::Continuation;
+use lio_task_turns::Standing;
 
 /// A task: where it stands in its script, its current label and its clearance, the turns that it
 /// has left, and the numbers that it owns. Source: the tasks of LIO, ICFP 2012.
@@ -22,8 +22,8 @@ pub struct Task {
 }
 
 impl Task {
-    ghost use Rattle.lio_turns.specs.StateOf as plan;
-    ghost use Rattle.lio_lines.specs.declared.line.Line.{Line};
+    ghost use Rattle.lio_task_turns.specs.StateOf as plan;
+    ghost use Rattle.lio_syntax_lines.specs.declared.line.Line.{Line};
     ghost use Rattle.lio_task.specs.StateOf.{state_of};
 
     /// Where it stands.

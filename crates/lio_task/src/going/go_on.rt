@@ -4,17 +4,17 @@
 use crate::going::Done;
 use crate::task::Task;
 use lio_syntax::Script;
-use lio_turns::Onward;
+use lio_task_turns::Onward;
 use lio_values::{Act, Plain, Reply};
 use std::alloc::Global;
 
 impl Task {
     ghost use Rattle.std.specs.Prelude.{◌≡◌, OnOk, OnErr};
-    ghost use Rattle.lio_control.specs.Front.{AtStatement};
+    ghost use Rattle.lio_task_control.specs.Front.{AtStatement};
     ghost use Rattle.lio_syntax.specs.Lines.{script_lines};
     ghost use Rattle.lio_calculus.specs.Afforded.{Affords};
-    ghost use Rattle.lio_plan.specs.Planned.{simple_of};
-    ghost use Rattle.lio_turns.specs.Turns.{onward_of};
+    ghost use Rattle.lio_task_plan.specs.Planned.{simple_of};
+    ghost use Rattle.lio_task_turns.specs.Turns.{onward_of};
     ghost use Rattle.lio_task.specs.Goes.{GoesOn};
     ghost use Rattle.lio_task.specs.StateOf.{state_in};
 

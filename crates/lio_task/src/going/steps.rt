@@ -3,14 +3,14 @@
 
 use crate::going::Done;
 use crate::task::Task;
-use lio_plan::Control;
 use lio_syntax::Script;
+use lio_task_plan::Control;
 use std::alloc::Global;
 
 impl Task {
     ghost use Rattle.std.specs.Prelude.{◌≡◌, OnOk, OnErr};
     ghost use Rattle.lio_syntax.specs.Lines.{script_lines};
-    ghost use Rattle.lio_plan.specs.Leads.{Leads};
+    ghost use Rattle.lio_task_plan.specs.Leads.{Leads};
     ghost use Rattle.lio_task.specs.Goes.{Steps};
     ghost use Rattle.lio_task.specs.StateOf.{state_in};
 

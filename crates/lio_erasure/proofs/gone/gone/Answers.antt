@@ -2,7 +2,7 @@ use Rattle.std.proofs.Common.{◌∙◌, ap}
 use Rattle.std.proofs.lemmas.Result.{IfOk-from_err, IfOk-weaker}
 use Rattle.lio_calculus.specs.Task.{TaskState}
 use Rattle.lio_calculus.specs.Hiding.{hide_task}
-use Rattle.lio_turns.specs.StateOf.{program_of}
+use Rattle.lio_task_turns.specs.StateOf.{program_of}
 use Rattle.lio_task.specs.Next.{resumed}
 use Rattle.lio_erasure.proofs.gone.gone.Goals as goal
 

@@ -1,7 +1,7 @@
 use Rattle.std.proofs.Common.{◌≡◌, subst, List, ℕ, Err}
 use Rattle.std.proofs.lemmas.Result.{err_from_is_err_and}
 use Rattle.std.specs.Prelude.{◌⊎◌}
-use Rattle.lio_draft.specs.declared.fault.PolicyFault.TheVariants.{NoMemory}
+use Rattle.lio_policy_draft.specs.declared.fault.PolicyFault.TheVariants.{NoMemory}
 use Rattle.lio_policy.specs.Verdict.{policy_of}
 use Rattle.lio_front.proofs.Loads.{says-no_policy, says-bad_policy}
 use Rattle.lio_front.proofs.loading.load_policy.Goals as goal

@@ -1,8 +1,8 @@
 use Rattle.std.proofs.Common.{◌≡◌, ℕ, List, take, ℤ, Err, refl, subst, w64}
 use Rattle.std.proofs.lemmas.Int.{to_z-of_z}
 use Rattle.lio_values.specs.declared.fault.FaultKind.TheVariants.{BadType}
-use Rattle.lio_words.specs.declared.operators.Two.{Two}
-use Rattle.lio_words.specs.declared.operators.Two.TheVariants.{From, Upto}
+use Rattle.lio_syntax_lines.specs.declared.operators.Two.{Two}
+use Rattle.lio_syntax_lines.specs.declared.operators.Two.TheVariants.{From, Upto}
 use Rattle.lio_operators.specs.Answers.{Answers}
 use Rattle.lio_operators.specs.Texts.{made, place_at, on_text_at}
 use Rattle.lio_operators.proofs.texts.on_text_at.Goals as goal

@@ -3,7 +3,7 @@ use Rattle.lio_clauses.specs.Names.{number_of}
 use Rattle.std.proofs.lemmas.List.{append-nil, at_drop_all}
 use Rattle.lio_policy.specs.Rules.{behind, key_fails}
 use Rattle.lio_policy.proofs.RuleLemmas.{fails_here, none_left}
-use Rattle.lio_draft.proofs.FailingLemmas.{fault_from, first_from_none}
+use Rattle.lio_policy_draft.proofs.FailingLemmas.{fault_from, first_from_none}
 use Rattle.lio_policy.proofs.keys.add_keys.Goals.{then-is_bad-via-then-is_bad, then-is_bad-via-else-is_bad+then-is_some}
 use Rattle.lio_policy.proofs.keys.add_keys.Goals as goal
 

@@ -1,5 +1,5 @@
 use Rattle.std.proofs.Common.{◌≡◌, ◌++◌, drop, map}
-use Rattle.lio_draft.specs.Converted.{first_failing}
+use Rattle.lio_policy_draft.specs.Converted.{first_failing}
 use Rattle.lio_policy.specs.Rules.{behind, key_fails}
 use Rattle.lio_policy.proofs.keys.add_keys.Given as goal
 

@@ -2,8 +2,8 @@ use Rattle.std.proofs.Common.{◌≡◌, ◌∙◌, ◌+◌, refl, sym, ap, map,
 use Rattle.lio_clauses.specs.FormulaText.{shown}
 use Rattle.lio_policy.specs.Rules.{flow_fails, is_above, tasks_of}
 use Rattle.lio_policy.specs.declared.labels.TheConstants.{FLOW}
-use Rattle.lio_draft.specs.declared.fault.PolicyFault.TheVariants.{Bad}
-use Rattle.lio_draft.proofs.FailingLemmas.{fault_in_tasks, fault_from, none_in_all, first_from_none}
+use Rattle.lio_policy_draft.specs.declared.fault.PolicyFault.TheVariants.{Bad}
+use Rattle.lio_policy_draft.proofs.FailingLemmas.{fault_in_tasks, fault_from, none_in_all, first_from_none}
 use Rattle.lio_policy.proofs.RuleLemmas.{flow_lengths, first_none_of, first_of_map}
 use Rattle.lio_policy.proofs.labels.check_flow.Goals as goal
 

@@ -2,7 +2,7 @@ use Rattle.std.proofs.Common.{refl}
 use Rattle.std.proofs.lemmas.Result.{err_from_is_err_and}
 use Rattle.lio_policy.specs.Rules.{labels_fail}
 use Rattle.lio_policy.specs.declared.labels.TheConstants.{LABELS}
-use Rattle.lio_draft.proofs.FailingLemmas.{fault_in_channels, fault_in_inputs, fault_in_tasks, none_in_all}
+use Rattle.lio_policy_draft.proofs.FailingLemmas.{fault_in_channels, fault_in_inputs, fault_in_tasks, none_in_all}
 use Rattle.lio_policy.proofs.RuleLemmas.{labels_lengths, first_none_of}
 use Rattle.lio_policy.proofs.labels.read_labels.Goals as goal
 

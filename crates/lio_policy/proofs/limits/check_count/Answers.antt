@@ -1,5 +1,5 @@
 use Rattle.std.proofs.Common.{[], Some, inr, ap, sym, ◌∙◌, arith}
-use Rattle.lio_draft.specs.Failing.{fault_at}
+use Rattle.lio_policy_draft.specs.Failing.{fault_at}
 use Rattle.lio_policy.specs.declared.limits.TheConstants.{RULE}
 use Rattle.lio_policy.proofs.RuleLemmas.{none_past_256, first_past_256}
 use Rattle.lio_policy.proofs.limits.check_count.Goals as goal

@@ -3,7 +3,7 @@ use Rattle.std.proofs.lemmas.List.{length-take-le}
 use Rattle.lio_policy.specs.Rules.{behind, task_fails, turns_in_all, cells_in_all}
 use Rattle.lio_policy.specs.declared.limits.TheConstants.{RULE}
 use Rattle.lio_policy.proofs.RuleLemmas.{fails_now, none_now, task_fails_by}
-use Rattle.lio_draft.proofs.FailingLemmas.{fault_from, first_from_none}
+use Rattle.lio_policy_draft.proofs.FailingLemmas.{fault_from, first_from_none}
 use Rattle.lio_policy.proofs.limits.check_tasks.Goals as goal
 
 pub returns-then-task_fails : goal.returns-then-task_fails

@@ -1,5 +1,5 @@
 use Rattle.std.proofs.Common.{◌≡◌, ◌≤◌, take, drop, []}
-use Rattle.lio_draft.specs.Converted.{first_failing}
+use Rattle.lio_policy_draft.specs.Converted.{first_failing}
 use Rattle.lio_policy.specs.Rules.{behind, task_fails, turns_in_all, cells_in_all}
 use Rattle.lio_policy.proofs.limits.check_tasks.Given as goal
 

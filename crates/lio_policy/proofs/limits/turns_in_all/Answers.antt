@@ -1,6 +1,6 @@
 use Rattle.std.proofs.Common.{◌∙◌, ◌+◌, sym, ap, arith, take}
 use Rattle.std.proofs.lemmas.List.Sums.{sum_by_more}
-use Rattle.lio_draft.specs.declared.draft.TaskDraft.{TaskDraft}
+use Rattle.lio_policy_draft.specs.declared.draft.TaskDraft.{TaskDraft}
 use Rattle.lio_policy.specs.Rules.{turns_in_all}
 use Rattle.lio_policy.proofs.limits.turns_in_all.Goals as goal
 

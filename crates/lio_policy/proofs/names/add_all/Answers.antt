@@ -3,7 +3,7 @@ use Rattle.std.proofs.lemmas.List.{append-nil, at_drop_all}
 use Rattle.lio_policy.specs.Rules.{behind, principal_fails}
 use Rattle.lio_policy.specs.declared.names.TheConstants.{RULE}
 use Rattle.lio_policy.proofs.RuleLemmas.{fails_now, none_now, goes_on}
-use Rattle.lio_draft.proofs.FailingLemmas.{fault_from, first_from_none}
+use Rattle.lio_policy_draft.proofs.FailingLemmas.{fault_from, first_from_none}
 use Rattle.lio_policy.proofs.names.add_all.Goals as goal
 
 pub returns-then-branch : goal.returns-then-branch

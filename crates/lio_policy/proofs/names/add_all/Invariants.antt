@@ -1,5 +1,5 @@
 use Rattle.std.proofs.Common.{◌≡◌, ◌++◌, [], drop}
-use Rattle.lio_draft.specs.Converted.{first_failing}
+use Rattle.lio_policy_draft.specs.Converted.{first_failing}
 use Rattle.lio_policy.specs.Rules.{behind, principal_fails}
 use Rattle.lio_policy.proofs.names.add_all.Given as goal
 

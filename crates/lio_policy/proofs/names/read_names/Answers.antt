@@ -2,7 +2,7 @@ use Rattle.std.proofs.Common.{refl}
 use Rattle.std.proofs.lemmas.Result.{err_from_is_err_and}
 use Rattle.lio_policy.specs.Rules.{names_fail}
 use Rattle.lio_policy.specs.declared.names.TheConstants.{RULE}
-use Rattle.lio_draft.proofs.FailingLemmas.{fault_at_principals, fault_in_channels, fault_in_inputs, fault_in_tasks, none_in_all}
+use Rattle.lio_policy_draft.proofs.FailingLemmas.{fault_at_principals, fault_in_channels, fault_in_inputs, fault_in_tasks, none_in_all}
 use Rattle.lio_policy.proofs.RuleLemmas.{names_lengths}
 use Rattle.lio_policy.proofs.names.read_names.Goals as goal
 

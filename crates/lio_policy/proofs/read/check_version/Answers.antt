@@ -1,6 +1,6 @@
 use Rattle.std.proofs.Common.{◌∙◌, ap, sym, not, length}
 use Rattle.lio_policy.specs.Rules.{version_fails}
-use Rattle.lio_draft.proofs.FailingLemmas.{none_in_all}
+use Rattle.lio_policy_draft.proofs.FailingLemmas.{none_in_all}
 use Rattle.lio_policy.proofs.RuleLemmas.{version_lengths, first_none_of}
 use Rattle.lio_policy.proofs.read.check_version.Goals as goal
 

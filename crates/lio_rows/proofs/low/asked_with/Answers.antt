@@ -1,7 +1,7 @@
 use Rattle.std.proofs.Common.{◌∙◌, sym, subst, All}
 use Rattle.lio_events.specs.Named.{IsContentNamed}
 use Rattle.lio_policy.specs.Policy.{PolicyParts}
-use Rattle.lio_named.specs.Configuration.{NamesOnly}
+use Rattle.lio_calculus_names.specs.Configuration.{NamesOnly}
 use Rattle.lio_erasure.specs.LowParts.{low_of}
 use Rattle.lio_rows.proofs.low.asked_with.Goals as goal
 

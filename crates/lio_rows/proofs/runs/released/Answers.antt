@@ -1,6 +1,6 @@
 use Rattle.std.proofs.Common.{sym, subst, All}
 use Rattle.lio_events.specs.Named.{IsContentNamed}
-use Rattle.lio_view.proofs.LawLemmas.{releases_are_named}
+use Rattle.lio_events.proofs.ViewLaws.{releases_are_named}
 use Rattle.lio_rows.proofs.runs.released.Goals as goal
 
 pub returns : goal.returns

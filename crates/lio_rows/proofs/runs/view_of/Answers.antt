@@ -1,4 +1,4 @@
-use Rattle.lio_view.proofs.LawLemmas.{view_is_printable}
+use Rattle.lio_events.proofs.ViewLaws.{view_is_printable}
 use Rattle.lio_rows.proofs.runs.view_of.Goals as goal
 
 pub print_journal-requires : goal.print_journal-requires

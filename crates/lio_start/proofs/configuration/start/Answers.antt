@@ -1,6 +1,6 @@
 use Rattle.std.proofs.Common.{◌∙◌, ◌+◌, List, ℕ, length, ap, sym, subst}
 use Rattle.lio_syntax.specs.Statements.{Procedure}
-use Rattle.lio_wellformed.specs.WellFormed.{IsWellFormed}
+use Rattle.lio_calculus_rounds.specs.WellFormed.{IsWellFormed}
 use Rattle.lio_policy.specs.Policy.{PolicyParts}
 use Rattle.lio_policy.specs.declared.policy.FileEntry.{FileEntry}
 use Rattle.lio_start.specs.Job.{IsJob, JobParts}

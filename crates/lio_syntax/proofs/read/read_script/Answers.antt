@@ -1,6 +1,6 @@
 use Rattle.std.proofs.Common.{All, sym, subst, arith, rules}
-use Rattle.lio_lines.specs.WellFormed.{IsLine}
-use Rattle.lio_lines.proofs.SaidLemmas.{lines_said}
+use Rattle.lio_syntax_lines.specs.Line.{IsLine}
+use Rattle.lio_syntax_lines.proofs.SaidLemmas.{lines_said}
 use Rattle.lio_syntax.specs.Refusal.{Refuses}
 use Rattle.lio_syntax.specs.Verdict.{parsed_lines, script_fault}
 use Rattle.lio_syntax.proofs.ReadLemmas.{Reached, reached-step, reached-fault, reached-unclosed, reached-keeps, reached-script, parsed-split, parsed-none, too_long, over-script}

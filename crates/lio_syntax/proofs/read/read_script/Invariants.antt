@@ -1,5 +1,5 @@
 use Rattle.std.proofs.Common.{length, All}
-use Rattle.lio_lines.specs.WellFormed.{IsLine}
+use Rattle.lio_syntax_lines.specs.Line.{IsLine}
 use Rattle.lio_syntax.specs.Verdict.{parsed_lines}
 use Rattle.lio_syntax.proofs.ReadLemmas.{Reached}
 use Rattle.lio_syntax.proofs.read.read_script.Given as goal

@@ -5,11 +5,11 @@ use Rattle.lio_values.specs.declared.act.Reply.TheVariants.{Done}
 use Rattle.lio_syntax.specs.Lines.{script_lines}
 use Rattle.lio_calculus.specs.Going.{End}
 use Rattle.lio_calculus.specs.Plan.{Own}
-use Rattle.lio_plan.specs.declared.planned.Planned.TheVariants as planned
-use Rattle.lio_turns.specs.declared.turn.Turn.TheVariants as turn
-use Rattle.lio_plan.specs.Planned.{plan_of}
-use Rattle.lio_plan.specs.Leads.{LeadsOn}
-use Rattle.lio_turns.specs.StateOf.{program_of}
+use Rattle.lio_task_plan.specs.declared.planned.Planned.TheVariants as planned
+use Rattle.lio_task_turns.specs.declared.turn.Turn.TheVariants as turn
+use Rattle.lio_task_plan.specs.Planned.{plan_of}
+use Rattle.lio_task_plan.specs.Leads.{LeadsOn}
+use Rattle.lio_task_turns.specs.StateOf.{program_of}
 use Rattle.lio_task.specs.StateOf.{state_in}
 use Rattle.lio_config.specs.Configuration.{configuration_of}
 use Rattle.lio_config.proofs.HolderLemmas.{no-task-cell, task-cell}

@@ -1,7 +1,7 @@
 use Rattle.std.proofs.Common.{◌≡◌, ◌∙◌, sym, ap, subst}
 use Rattle.std.proofs.lemmas.Result.{IfOk-from_err}
 use Rattle.lio_calculus.specs.Step.{blank, met_after}
-use Rattle.lio_turns.specs.StateOf.{program_of}
+use Rattle.lio_task_turns.specs.StateOf.{program_of}
 use Rattle.lio_task.specs.Births.{CanBear}
 use Rattle.lio_erasure.specs.Low.{low_cell_of, seen_cell}
 use Rattle.lio_erasure.specs.LowParts.{LowParts}

@@ -1,5 +1,5 @@
 use Rattle.std.proofs.Common.{◌≡◌, Some, false, sym, refl}
-use Rattle.lio_lines.specs.Header.{line_call}
+use Rattle.lio_syntax_lines.specs.Header.{line_call}
 use Rattle.lio_syntax.specs.OpenBlocks.{is_misplaced, open_behind}
 use Rattle.lio_syntax.specs.Rules.{broken_call}
 use Rattle.lio_syntax.proofs.progress.Progress.broken_rule.Goals as goal

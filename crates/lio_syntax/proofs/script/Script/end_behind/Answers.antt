@@ -1,6 +1,6 @@
 use Rattle.std.proofs.Common.{◌+◌, ◌<◌, List, length, ap, sym, ◌∙◌, arith}
 use Rattle.std.proofs.lemmas.Grind.{get_or_default_zero}
-use Rattle.lio_lines.specs.declared.line.Line.{Line}
+use Rattle.lio_syntax_lines.specs.declared.line.Line.{Line}
 use Rattle.lio_syntax.specs.Closing.{end_of}
 use Rattle.lio_syntax.specs.declared.script.Kept.{Kept}
 use Rattle.lio_syntax.specs.Lines.{script_lines}

@@ -1,5 +1,5 @@
 use Rattle.std.proofs.Common.{◌<◌, List, length, map, ap, sym, subst, ◌∙◌, arith}
-use Rattle.lio_lines.specs.declared.line.Line.{Line}
+use Rattle.lio_syntax_lines.specs.declared.line.Line.{Line}
 use Rattle.lio_syntax.specs.Statements.{Procedure}
 use Rattle.lio_syntax.specs.Behind.{script_of_lines}
 use Rattle.lio_syntax.specs.declared.script.Kept.{Kept}

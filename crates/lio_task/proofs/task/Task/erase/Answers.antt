@@ -1,10 +1,10 @@
 use Rattle.std.proofs.Common.{◌≡◌, ◌∙◌, ap, List}
 use Rattle.std.proofs.lemmas.Result.{IfOk-weaker}
-use Rattle.lio_lines.specs.declared.line.Line.{Line}
+use Rattle.lio_syntax_lines.specs.declared.line.Line.{Line}
 use Rattle.lio_syntax.specs.Statements.{Procedure}
 use Rattle.lio_syntax.specs.Lines.{script_lines}
-use Rattle.lio_control.specs.Continuation.{place_of}
-use Rattle.lio_control.specs.Hiding.{hide_place}
+use Rattle.lio_task_control.specs.Continuation.{place_of}
+use Rattle.lio_task_control.specs.Hiding.{hide_place}
 use Rattle.lio_calculus.specs.Going.{at}
 use Rattle.lio_calculus.specs.Hiding.{hide_task}
 use Rattle.lio_task.specs.declared.task.Task.{Task}

@@ -2,11 +2,11 @@ use Rattle.std.proofs.Common.{◌≡◌, ◌∙◌, ◌-◌, sym, subst}
 use Rattle.lio_values.specs.declared.value.Value.TheVariants.{Bare}
 use Rattle.lio_values.specs.declared.value.Plain.TheVariants.{Unit as unit}
 use Rattle.lio_syntax.specs.Lines.{script_lines}
-use Rattle.lio_control.specs.Items.{rest_of, enter}
-use Rattle.lio_control.specs.Continuation.{block_at, mark_at}
-use Rattle.lio_control.specs.Throwing.{returned}
+use Rattle.lio_task_control.specs.Items.{rest_of, enter}
+use Rattle.lio_task_control.specs.Continuation.{block_at, mark_at}
+use Rattle.lio_task_control.specs.Throwing.{returned}
 use Rattle.lio_calculus.specs.Going.{at}
-use Rattle.lio_plan.specs.Leads.{Leads}
+use Rattle.lio_task_plan.specs.Leads.{Leads}
 use Rattle.lio_task.specs.Goes.{Steps, spent}
 use Rattle.lio_task.specs.StateOf.{state_in}
 use Rattle.lio_task.proofs.StepLemmas.{skip_on, guard_on, leave_on, ok_on}

@@ -1,6 +1,6 @@
 use Rattle.std.proofs.Common.{◌∙◌, ap}
 use Rattle.lio_labels.specs.declared.label.Label.{Label}
-use Rattle.lio_control.specs.Continuation.{place_of}
+use Rattle.lio_task_control.specs.Continuation.{place_of}
 use Rattle.lio_calculus.specs.Going.{at}
 use Rattle.lio_calculus.specs.Task.{TaskState}
 use Rattle.lio_task.specs.StateOf.{state_of}

@@ -1,6 +1,6 @@
 use Rattle.std.proofs.Common.{◌∙◌, ap, sym}
 use Rattle.lio_syntax.specs.Lines.{script_lines}
-use Rattle.lio_plan.specs.Planned.{plan_of}
+use Rattle.lio_task_plan.specs.Planned.{plan_of}
 use Rattle.lio_task.specs.Next.{next_by}
 use Rattle.lio_task.specs.StateOf.{state_in}
 use Rattle.lio_task.proofs.task.Task.next.Goals as goal

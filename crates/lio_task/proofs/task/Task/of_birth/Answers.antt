@@ -1,5 +1,5 @@
 use Rattle.lio_syntax.specs.Lines.{script_lines}
-use Rattle.lio_control.specs.Continuation.{place_of}
+use Rattle.lio_task_control.specs.Continuation.{place_of}
 use Rattle.lio_task.proofs.BirthLemmas.{child_with}
 use Rattle.lio_task.proofs.task.Task.of_birth.Goals as goal
 

@@ -1,11 +1,11 @@
 use Rattle.std.proofs.Common.{◌∙◌, sym, ap, subst}
 use Rattle.lio_syntax.specs.Lines.{script_lines}
 use Rattle.lio_calculus.specs.Afforded.{Affords}
-use Rattle.lio_turns.specs.declared.turn.Onward.{Onward}
-use Rattle.lio_plan.specs.Planned.{plan_of, simple_of}
-use Rattle.lio_turns.specs.Turns.{onward_of}
-use Rattle.lio_plan.specs.Leads.{LeadsOn}
-use Rattle.lio_turns.specs.StateOf.{program_of}
+use Rattle.lio_task_turns.specs.declared.turn.Onward.{Onward}
+use Rattle.lio_task_plan.specs.Planned.{plan_of, simple_of}
+use Rattle.lio_task_turns.specs.Turns.{onward_of}
+use Rattle.lio_task_plan.specs.Leads.{LeadsOn}
+use Rattle.lio_task_turns.specs.StateOf.{program_of}
 use Rattle.lio_task.specs.StateOf.{state_in}
 use Rattle.lio_task.proofs.PlannedLemmas.{turn_afforded}
 use Rattle.lio_task.proofs.task.Task.resume.Goals as goal

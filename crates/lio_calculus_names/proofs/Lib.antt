@@ -1,0 +1,12 @@
+pub mod Operators
+pub mod Guards
+pub mod Lookups
+pub mod Plans
+pub mod Statements
+pub mod Tasks
+pub mod Nodes
+pub mod Turns
+pub mod Literals
+pub mod LowTurns
+pub mod FlowLemmas
+pub mod PowerLaws

@@ -1,0 +1,31 @@
+//! The laws of the principals and of the privileges of runs. Each function does nothing: its
+//! contract is the law.
+ghost use Rattle.lio_calculus_names.specs.NameLaws.{ErasedNamesOnly, LowTurnNamesOnly};
+ghost use Rattle.lio_calculus_names.specs.NameLaws.{RunNamesOnly, TurnNamesOnly};
+ghost use Rattle.lio_calculus_names.specs.PowerLaws.{RunReleasesByPowers};
+
+/// A turn names no principal that nothing named before it.
+pub fn turn_names_only()
+    ensures { TurnNamesOnly }
+{}
+
+/// Nor does a run.
+pub fn run_names_only()
+    ensures { RunNamesOnly }
+{}
+
+/// What an observer sees of a configuration names no more than the configuration.
+pub fn erased_names_only()
+    ensures { ErasedNamesOnly }
+{}
+
+/// A turn of the erased calculus names no principal that nothing named before it.
+pub fn low_turn_names_only()
+    ensures { LowTurnNamesOnly }
+{}
+
+/// A run from a sound configuration releases by the privileges in it alone, and each release that
+/// it carries out is one that the privilege allows.
+pub fn run_releases_by_powers()
+    ensures { RunReleasesByPowers }
+{}

@@ -1,0 +1,9 @@
+pub mod Round
+pub mod Rounds
+pub mod Laws
+pub mod LowRounds
+pub mod LowLaws
+pub mod Calls
+pub mod Turns
+pub mod WellFormed
+pub mod WellFormedLaws

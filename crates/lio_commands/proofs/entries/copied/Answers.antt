@@ -1,4 +1,0 @@
-use Rattle.lio_commands.proofs.entries.copied.Goals as goal
-
-pub line-answer-requires : goal.line-answer-requires
-line-answer-requires c = rw c.in_ok-copy.ensures c.requires

@@ -1,9 +1,0 @@
-use Rattle.std.proofs.Common.{◌∙◌}
-use Rattle.lio_control.specs.Continuation.{place_of}
-use Rattle.lio_control.proofs.ContinuationLemmas.{below, place_eq, empty, no_calls}
-use Rattle.lio_control.proofs.continuation.Continuation.end.Goals as goal
-
-pub returns : goal.returns
-unfolding place_of
-returns c = λ lines.
-    place_eq _ _ _ _ c.clear-2.ensures.0 (empty lines c.clear-2.new.self (below lines c.clear.new.self.items) c.clear-2.ensures.1 ∙ no_calls lines c.clear.new.self.items c.clear.ensures.items)

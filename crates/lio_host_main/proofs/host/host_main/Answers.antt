@@ -1,0 +1,9 @@
+use Rattle.std.proofs.Common.{refl}
+use Rattle.lio_host_main.proofs.Says.{follows_verdict, bad_words}
+use Rattle.lio_host_main.proofs.host.host_main.Goals as goal
+
+pub returns-clause-follows : goal.returns-clause-follows
+returns-clause-follows g c = follows_verdict _ c.answer.result.status (g.S.Store.holds c.args.store.now) refl c.answer.ensures.says
+
+pub returns-clause-bad_words : goal.returns-clause-bad_words
+returns-clause-bad_words g c = bad_words _ c.answer.result.status c.answer.ensures.says

@@ -1,0 +1,159 @@
+//! What the files say of a refusal, beside the numbers in the answer.
+
+ghost use Rattle.std.specs.Prelude.{◌≡◌, ◌≤◌};
+
+use lio_clauses::NoMemory;
+use lio_front::{MOST_POLICY_BYTES, MOST_SCRIPT_BYTES};
+use lio_host_main::HostStatus;
+use lio_outside::Store;
+use lio_policy::{Policy, read_policy};
+use lio_policy_draft::{EntryAt, PolicyFault, entry_at};
+use lio_syntax::{Hint, hint_at, line_at, parameter_count};
+use lio_values::Text;
+use std::alloc::Global;
+use std::fs;
+use std::fs::Files;
+
+/// What helps to mend what was refused.
+#[derive(Drop)]
+pub enum Detail {
+    /// Nothing beyond the answer.
+    Nothing,
+    /// The entry of the policy that breaks a rule.
+    Entry(EntryAt),
+    /// The task that can't begin.
+    Task(TaskAt),
+    /// The line of the script that breaks a rule.
+    Line(LineAt),
+}
+
+impl Detail {
+    /// The entry, if it is one.
+    pub fn entry(&self) -> Option<&EntryAt> {
+        match self {
+            Detail::Entry(entry) => Some(entry),
+            _ => None,
+        }
+    }
+}
+
+/// A task that can't begin: its name, its procedure, how many arguments it gives, and how many
+/// parameters the procedure has, if it is there.
+#[derive(Drop)]
+pub struct TaskAt {
+    pub name: Text,
+    pub procedure: Text,
+    pub given: usize,
+    pub wanted: Option<usize>,
+}
+
+/// A line of a script that breaks a rule: its text, and a hint.
+#[derive(Drop)]
+pub struct LineAt {
+    pub text: Text,
+    pub hint: Hint,
+}
+
+/// A line of a script that breaks a rule.
+fn line_detail(alloc: Global, script: &[u8], number: u32, rule: u32) -> Result<Detail, NoMemory> {
+    if number == 0 {
+        return Ok(Detail::Nothing);
+    }
+    Ok(Detail::Line(LineAt {
+        text: Text::of(alloc, line_at(script, number))?,
+        hint: hint_at(alloc, script, number, rule)?,
+    }))
+}
+
+/// A task of a policy that can't begin in a script.
+fn task_at(alloc: Global, policy: &Policy, script: &[u8], place: u32) -> Result<Detail, NoMemory> {
+    let Some(task) = policy.tasks.as_slice().get(place as usize) else {
+        return Ok(Detail::Nothing);
+    };
+    Ok(Detail::Task(TaskAt {
+        name: task.name.copy(alloc)?,
+        procedure: task.proc_name.copy(alloc)?,
+        given: task.args.as_slice().len(),
+        wanted: parameter_count(alloc, script, task.proc_name.bytes())?,
+    }))
+}
+
+/// The same, of the policy that a text is.
+fn task_detail(
+    alloc: Global,
+    policy: &[u8],
+    script: &[u8],
+    place: u32,
+) -> Result<Detail, NoMemory> {
+    match read_policy(alloc, policy) {
+        Ok(policy) => {
+            let detail = task_at(alloc, &policy, script, place);
+            drop(policy);
+            detail
+        }
+        Err(PolicyFault::Bad { .. }) => Ok(Detail::Nothing),
+        Err(PolicyFault::NoMemory) => Err(NoMemory),
+    }
+}
+
+/// What the texts of the policy and the script say of a refusal.
+pub fn detail_of(
+    alloc: Global,
+    status: &HostStatus,
+    policy: &[u8],
+    script: &[u8],
+) -> Result<Detail, NoMemory> {
+    match status {
+        HostStatus::BadPolicy(_, entry) => match entry_at(alloc, policy, *entry)? {
+            Some(entry) => Ok(Detail::Entry(entry)),
+            None => Ok(Detail::Nothing),
+        },
+        HostStatus::BadScript(line, rule) => line_detail(alloc, script, *line, *rule),
+        HostStatus::BadStart(place, _) => task_detail(alloc, policy, script, *place),
+        _ => Ok(Detail::Nothing),
+    }
+}
+
+/// The text of the file that a word names, where it is a plain file, which can be read once more;
+/// else no bytes. The files stay as they are.
+fn text_again<S: Store>(
+    alloc: Global,
+    files: &impl Files,
+    store: &mut S,
+    word: Option<&String>,
+    limit: u32,
+) -> Vec<u8>
+    ensures files { S.holds store.new ≡ S.holds store.old }
+    ensures count { S.faults store.old ≤ S.faults store.new }
+{
+    let Some(name) = word else {
+        return Vec::new(alloc);
+    };
+    match fs::metadata(files, name.as_str()) {
+        Ok(about) if about.is_file() => store
+            .fetch(alloc, name.as_bytes(), limit)
+            .unwrap_or(Vec::new(alloc)),
+        _ => Vec::new(alloc),
+    }
+}
+
+/// What the files that the words name say of a refusal. They are read once more, and stay as they
+/// are; where they can't be, nothing beyond the answer is known.
+pub fn refusal_detail<S: Store>(
+    alloc: Global,
+    files: &impl Files,
+    store: &mut S,
+    status: &HostStatus,
+    words: &[String],
+) -> Detail
+    ensures files { S.holds store.new ≡ S.holds store.old }
+    ensures count { S.faults store.old ≤ S.faults store.new }
+{
+    match status {
+        HostStatus::BadPolicy(_, _) | HostStatus::BadScript(_, _) | HostStatus::BadStart(_, _) => {}
+        _ => return Detail::Nothing,
+    }
+    let policy = text_again(alloc, files, store, words.first(), MOST_POLICY_BYTES);
+    let script = text_again(alloc, files, store, words.get(1), MOST_SCRIPT_BYTES);
+    detail_of(alloc, status, policy.as_slice(), script.as_slice()).unwrap_or(Detail::Nothing)
+}

@@ -1,0 +1,9 @@
+//! What is printed of a refusal of the host: the answer, what was refused and where, and how to
+//! mend it.
+#![tactic(auto)]
+
+mod detail;
+mod refusal;
+
+pub use detail::{Detail, LineAt, TaskAt, detail_of, refusal_detail};
+pub use refusal::{print_refusal, refusal_text};

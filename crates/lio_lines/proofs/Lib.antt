@@ -1,4 +1,0 @@
-pub mod FormLemmas
-pub mod HeaderLemmas
-pub mod PrintedLines
-pub mod SaidLemmas

@@ -1,5 +1,0 @@
-pub mod RunLemmas
-pub mod RoundLemmas
-pub mod MachineLemmas
-pub mod HolderTasks
-pub mod SeenLemmas

@@ -1,4 +1,0 @@
-use Rattle.lio_machine.proofs.machine.Machine.turn.Goals as goal
-
-pub next_entry-requires : goal.next_entry-requires
-next_entry-requires c = c.self.invariant.well_formed.sound

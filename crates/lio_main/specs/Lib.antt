@@ -1,4 +1,0 @@
-pub mod Command
-pub mod Verdict
-pub mod Answers
-pub mod Preparing

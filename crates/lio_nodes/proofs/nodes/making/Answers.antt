@@ -1,5 +1,0 @@
-use Rattle.std.proofs.Common.{refl}
-use Rattle.lio_nodes.proofs.nodes.making.Goals as goal
-
-pub returns : goal.returns
-returns c = refl

@@ -1,6 +1,0 @@
-use Rattle.std.specs.Prelude.{◌==◌}
-use Rattle.std.proofs.Common.{ap}
-use Rattle.lio_plan.proofs.binding.is_main.Goals as goal
-
-pub returns : goal.returns
-returns c = λ lines. ap (λ n. n == 0) (c.open_calls.ensures lines)

@@ -1,0 +1,25 @@
+-- What a machine keeps beside its value.
+use Rattle.std.specs.Prelude.{◌≡◌, ◌<◌, ℕ, List, Some, length, slice_index_or}
+use Rattle.lio_values.specs.declared.entry.Entry.{Entry}
+use Rattle.lio_calculus.specs.Run.{run}
+use Rattle.lio_calculus.specs.Step.{Configuration}
+use Rattle.lio_calculus_rounds.specs.Laws.{IsOrderOf}
+use Rattle.lio_calculus_rounds.specs.WellFormed.{IsWellFormed}
+
+-- each ticket is the number of entries before it
+abbrev pub AreNumbered : List Entry → Type 0
+AreNumbered entries = (i : ℕ) (d : Entry) → i < length entries → (slice_index_or entries i d).ticket ≡ i
+
+-- the entries are a run that leads to the configuration, from a well-formed one in which no turn was taken
+pub record IsRunTo (c : Configuration) (entries : List Entry) : Type 0 where
+  pub first : Configuration
+  pub well_formed : IsWellFormed first
+  pub tasks : List ℕ
+  pub is_run : run 0 first tasks ≡ Some (record { entries = entries; last = c })
+
+-- the entries are a run to the configuration, which is well-formed, the order lists its tasks, each once, and the entries are numbered by their tickets
+pub record IsMachine (c : Configuration) (order : List ℕ) (entries : List Entry) : Type 0 where
+  pub ran : IsRunTo c entries
+  pub well_formed : IsWellFormed c
+  pub lists : IsOrderOf c order
+  pub numbered : AreNumbered entries

@@ -1,0 +1,9 @@
+pub mod MachineState
+pub mod MachineParts
+pub mod Invariant
+pub mod Births
+pub mod MachineLaws
+pub mod Runs
+pub mod Schedule
+pub mod Headline
+pub mod Laws

@@ -1,0 +1,14 @@
+//! Machines and runs: a configuration with its script, which takes turns by hand, by rounds or by a
+//! schedule, and keeps their journal.
+#![tactic(auto)]
+
+mod births;
+mod by_rounds;
+mod by_schedule;
+pub mod laws;
+mod machine;
+
+pub use by_rounds::{Ran, run};
+pub use by_schedule::{Scheduled, run_by_schedule};
+pub use lio_config::StepFault as TurnFault;
+pub use machine::Machine;

@@ -1,0 +1,231 @@
+//! A machine that is stepped by hand or by rounds.
+ghost use Rattle.std.specs.Prelude.{◌≡◌};
+
+use crate::births::born_in;
+use lio_clauses::NoMemory;
+use lio_config::{Config, StepFault as TurnFault};
+use lio_events::Journal;
+use lio_syntax::Script;
+use lio_values::Entry;
+use std::alloc::Global;
+use std::marker::Model;
+
+/// A configuration with its script, and the journal of the turns taken so far.
+#[derive(Drop)]
+pub struct Machine {
+    config: Config,
+    script: Script,
+    entries: Vec<Entry>,
+    order: Vec<u32>,
+}
+
+impl Model for Machine {
+    ghost use Rattle.lio_config.specs.Configuration.{configuration_of};
+    ghost use Rattle.lio_rounds.specs.MachineParts.{MachineParts, machine_code};
+    ghost use Rattle.lio_rounds.specs.Invariant.{IsMachine};
+
+    ghost Value = { MachineParts };
+
+    ghost coded = { machine_code };
+
+    ghost view = { λ m. record {
+      script = m.script;
+      config = m.config;
+      entries = m.entries.items;
+      order = m.order.items;
+    } };
+
+    ghost invariant = { λ m. IsMachine
+        (configuration_of m.script m.config) m.order.items m.entries.items };
+}
+
+impl Machine {
+    ghost use Rattle.std.specs.Prelude.{◌≡◌, ◌<◌, ◌^◌, [], length, slice_index, IfOk, IfErr, OnOk};
+    ghost use Rattle.std.specs.Prelude.{OnErr};
+    ghost use Rattle.lio_config.specs.Configuration.{configuration_of};
+    ghost use Rattle.lio_calculus.specs.Step.{can};
+    ghost use Rattle.lio_calculus_rounds.specs.WellFormed.{IsWellFormed};
+    ghost use Rattle.lio_calculus_rounds.specs.Round.{round};
+    ghost use Rattle.lio_calculus_rounds.specs.Laws.{IsOrderOf};
+    ghost use Rattle.lio_calculus_rounds.specs.Rounds.{IsComplete, rounds_from, stepped, tasks};
+    ghost use Rattle.lio_config.specs.Takes.{Stays};
+    ghost use Rattle.lio_rounds.specs.MachineState.{HasBegun, HasRun, HasTaken, HasWalked};
+    ghost use Rattle.lio_rounds.specs.MachineParts.{machine_of};
+    ghost use Rattle.lio_rounds.specs.MachineLaws.{HasRunSeen, IsSeenAsErased};
+
+    /// A machine that has taken no turn, of a well-formed configuration.
+    pub fn new(alloc: Global, config: Config, script: Script) -> Result<Machine, NoMemory>
+        requires { IsWellFormed (configuration_of script config) }
+        ensures { IfOk result (λ machine. let c = configuration_of script config
+            in machine_of machine ≡ record {
+              script = script;
+              configuration = c;
+              entries = [];
+              order = tasks c;
+            }) }
+    {
+        let mut order = Vec::new(alloc);
+        for (k, holder) in config.holders.iter().enumerate() {
+            if holder.task.is_some() {
+                order.push(k as u32)?;
+            }
+        }
+        Ok(Machine {
+            config,
+            script,
+            entries: Vec::new(alloc),
+            order,
+        })
+    }
+
+    /// The tasks: first by number, then children as they were made.
+    pub fn order(&self) -> &[u32]
+        ensures order { result.now ≡ (machine_of self.now).order }
+        ensures lists { IsOrderOf (machine_of self.now).configuration result.now }
+        ensures few { length result.now < 2 ^ 31 }
+    {
+        self.order.as_slice()
+    }
+
+    /// The task at this place of the order.
+    fn task_at(&self, i: usize) -> u32
+        requires { i < length (machine_of self.now).order }
+        ensures { result ≡ slice_index (machine_of self.now).order i }
+    {
+        self.order()[i]
+    }
+
+    /// The ticket of the next turn: the number of turns taken.
+    fn ticket(&self) -> u64
+        ensures { result ≡ length (machine_of self.now).entries }
+    {
+        self.entries.len() as u64
+    }
+
+    /// Takes the turn of task `k`, and keeps its entry; its ticket is the number of turns taken
+    /// before it.
+    fn advance(&mut self, alloc: Global, k: u32) -> Result<(), TurnFault>
+        ensures ok { OnOk result ((entry : Entry)
+            × HasTaken (machine_of self.old) (machine_of self.new) k entry) }
+        ensures fault { IfErr result (Stays (machine_of self.old).configuration k) }
+        ensures err { OnErr result (machine_of self.new ≡ machine_of self.old) }
+    {
+        if self.entries.try_reserve(1).is_err() || self.order.try_reserve(1).is_err() {
+            return Err(TurnFault::NoMemory);
+        }
+        let ticket = self.ticket();
+        match self.config.step(alloc, &self.script, k, ticket) {
+            Ok(entry) => {
+                if let Some(child) = born_in(&entry) {
+                    self.order.push_reserved(child);
+                }
+                self.entries.push_reserved(entry);
+                Ok(())
+            }
+            Err(fault) => Err(fault),
+        }
+    }
+
+    /// Whether task `k` can take a turn: it is there, hasn't ended, and has no turns left or stands
+    /// at no access whose node isn't ready. It takes no memory.
+    pub fn can_move(&self, k: u32) -> bool
+        ensures { result ≡ can (machine_of self.now).configuration k }
+    {
+        self.config.can_move(&self.script, k)
+    }
+
+    /// Takes the turn of task `k`, and answers its entry; its ticket is the number of turns taken
+    /// before it. After a refusal the machine is as before.
+    pub fn turn(&mut self, alloc: Global, k: u32) -> Result<Entry, TurnFault>
+        ensures ok { IfOk result (HasTaken (machine_of self.old) (machine_of self.new) k) }
+        ensures fault { IfErr result (Stays (machine_of self.old).configuration k) }
+        ensures err { OnErr result (machine_of self.new ≡ machine_of self.old) }
+    {
+        let ticket = self.ticket();
+        let entry = self.config.next_entry(alloc, &self.script, k, ticket)?;
+        match self.advance(alloc, k) {
+            Ok(()) => Ok(entry),
+            Err(fault) => {
+                drop(entry);
+                Err(fault)
+            }
+        }
+    }
+
+    /// Makes room in the journal for the turns that are left, where memory for all of them can be
+    /// had.
+    fn make_room(&mut self)
+        ensures { machine_of self.new ≡ machine_of self.old }
+    {
+        let mut turns = 0usize;
+        for holder in &self.config.holders {
+            if let Some(task) = &holder.task {
+                turns = turns.saturating_add(task.turns_left() as usize);
+            }
+        }
+        let _ = self.entries.try_reserve(turns);
+    }
+
+    /// Lets each task of the order, as it stands, take a turn if it can, and answers how many did.
+    /// After want of memory a first part of the round's turns was taken.
+    pub fn round(&mut self, alloc: Global) -> Result<u32, NoMemory>
+        ensures moved { IfOk result
+            (λ n. n ≡ length (round stepped (machine_of self.old).order
+            (machine_of self.old).configuration).moved) }
+        ensures ok { OnOk result (HasWalked (machine_of self.old) (machine_of self.new)
+            (machine_of self.old).order) }
+        ensures lists { IsOrderOf (machine_of self.old).configuration (machine_of self.old).order }
+        ensures err { OnErr result (HasBegun (machine_of self.old) (machine_of self.new)
+            (round stepped (machine_of self.old).order (machine_of self.old).configuration).moved) }
+    {
+        let count = self.order().len();
+        let mut moved = 0;
+        for i in 0..count {
+            let k = self.task_at(i);
+            match self.advance(alloc, k) {
+                Ok(()) => moved += 1,
+                Err(TurnFault::Still(_)) => {}
+                Err(TurnFault::NoMemory) => return Err(NoMemory),
+            }
+        }
+        Ok(moved)
+    }
+
+    /// Rounds until one moves nothing.
+    fn run_rounds(&mut self, alloc: Global) -> Result<(), NoMemory>
+        ensures ok { OnOk result (HasRun (machine_of self.old) (machine_of self.new)
+            (rounds_from (machine_of self.old).order (machine_of self.old).configuration)) }
+        ensures complete { OnOk result (IsComplete (machine_of self.new).configuration) }
+        ensures err { OnErr result (HasBegun (machine_of self.old) (machine_of self.new)
+            (rounds_from (machine_of self.old).order (machine_of self.old).configuration)) }
+    {
+        while self.round(alloc)? > 0 {}
+        Ok(())
+    }
+
+    /// Rounds until one moves nothing. After want of memory a first part of the rounds' turns was
+    /// taken.
+    pub fn run(&mut self, alloc: Global) -> Result<(), NoMemory>
+        ensures ok { OnOk result (HasRun (machine_of self.old) (machine_of self.new)
+            (rounds_from (machine_of self.old).order (machine_of self.old).configuration)) }
+        ensures complete { OnOk result (IsComplete (machine_of self.new).configuration) }
+        ensures err { OnErr result (HasBegun (machine_of self.old) (machine_of self.new)
+            (rounds_from (machine_of self.old).order (machine_of self.old).configuration)) }
+    {
+        self.make_room();
+        self.run_rounds(alloc)
+    }
+
+    /// Gives the journal of the turns taken, and the configuration after them. Each observer sees
+    /// of both what the erased calculus gives.
+    pub fn finish(self) -> (Journal, Config)
+        ensures journal { result.0 ≡ (machine_of self).entries }
+        ensures configuration { configuration_of (machine_of self).script result.1
+            ≡ (machine_of self).configuration }
+        ensures well_formed { IsWellFormed (machine_of self).configuration }
+        ensures seen { HasRunSeen (machine_of self) }
+        ensures since { IsSeenAsErased (machine_of self) }
+    {
+        (Journal::of(self.entries), self.config)
+    }
+}

@@ -1,5 +1,0 @@
-use Rattle.lio_run.proofs.InputLemmas.{other_inputs_change_nothing}
-use Rattle.lio_run.proofs.laws.other_inputs_change_nothing.Goals as goal
-
-pub returns : goal.returns
-returns c = other_inputs_change_nothing

@@ -1,0 +1,12 @@
+pub mod WordLemmas
+pub mod LiteralLemmas
+pub mod SolidLemmas
+pub mod RangeLemmas
+pub mod PrintedLemmas
+pub mod LabelLemmas
+pub mod InlineLemmas
+pub mod FormLemmas
+pub mod HeaderLemmas
+pub mod SimpleLemmas
+pub mod PrintedLines
+pub mod SaidLemmas

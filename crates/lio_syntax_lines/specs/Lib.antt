@@ -1,0 +1,10 @@
+pub mod Keyword
+pub mod Operators
+pub mod Words
+pub mod Literals
+pub mod Operands
+pub mod Forms
+pub mod Header
+pub mod Limited
+pub mod Simple
+pub mod Line

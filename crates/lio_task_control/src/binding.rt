@@ -1,0 +1,36 @@
+//! A name with its value.
+ghost use Rattle.std.specs.Prelude.{◌≡◌, IfOk};
+
+use lio_clauses::NoMemory;
+use lio_labels::Label;
+use lio_values::{Text, Value};
+use std::alloc::Global;
+
+/// A name with its value.
+#[derive(Drop)]
+pub struct Binding {
+    pub name: Text,
+    pub value: Value,
+}
+
+impl Binding {
+    ghost use Rattle.lio_task_control.specs.Hiding.{hide_binding};
+
+    /// An equal binding.
+    pub(crate) fn copy(&self, alloc: Global) -> Result<Binding, NoMemory>
+        ensures { IfOk result (λ binding. binding ≡ self.now) }
+    {
+        let name = self.name.copy(alloc)?;
+        let value = self.value.copy(alloc)?;
+        Ok(Binding { name, value })
+    }
+
+    /// The binding as an observer sees it.
+    pub(crate) fn erase(&self, alloc: Global, observer: &Label) -> Result<Binding, NoMemory>
+        ensures { IfOk result (λ binding. binding ≡ hide_binding observer.now self.now) }
+    {
+        let name = self.name.copy(alloc)?;
+        let value = self.value.erase(alloc, observer)?;
+        Ok(Binding { name, value })
+    }
+}

@@ -1,0 +1,109 @@
+//! What a task still has to do.
+ghost use Rattle.std.specs.Prelude.{◌≡◌, List, [], IfOk};
+ghost use Rattle.lio_syntax_lines.specs.declared.line.Line.{Line};
+ghost use Rattle.lio_syntax.specs.Lines.{script_lines};
+ghost use Rattle.lio_task_control.specs.Items.{enter, open_calls};
+ghost use Rattle.lio_task_control.specs.Continuation.{block_at, place_of};
+ghost use Rattle.lio_task_control.specs.Front.{IsFront};
+ghost use Rattle.lio_task_control.specs.Hiding.{hide_place};
+
+use crate::environment::Environment;
+use crate::frame::{Call, Frame};
+use crate::front::Front;
+use lio_clauses::NoMemory;
+use lio_labels::Label;
+use lio_syntax::Script;
+use std::alloc::Global;
+
+/// Where a task stands: the running procedure's frame, and the calls that it goes back to, the
+/// innermost last.
+#[derive(Drop)]
+pub struct Continuation {
+    pub(crate) calls: Vec<Call>,
+    pub(crate) frame: Frame,
+}
+
+impl Continuation {
+    /// Before the block that begins at a place.
+    pub fn of_body(
+        alloc: Global,
+        at: usize,
+        environment: Environment,
+    ) -> Result<Continuation, NoMemory>
+        ensures { IfOk result (λ continuation. (lines : List Line) → place_of lines continuation
+            ≡ record { environment = environment; items = enter (block_at lines at) [] }) }
+    {
+        let frame = Frame::of_body(alloc, at, environment)?;
+        Ok(Continuation {
+            calls: Vec::new(alloc),
+            frame,
+        })
+    }
+
+    /// Nothing is bound, and nothing is left.
+    pub fn ended(alloc: Global) -> Continuation
+        ensures { (lines : List Line)
+            → place_of lines result ≡ record { environment = []; items = [] } }
+    {
+        Continuation {
+            calls: Vec::new(alloc),
+            frame: Frame::ended(alloc),
+        }
+    }
+
+    /// What names are bound to.
+    pub fn environment(&self) -> &Environment
+        ensures { (lines : List Line) → result.now ≡ (place_of lines self.now).environment }
+    {
+        &self.frame.environment
+    }
+
+    /// How many calls are open.
+    pub fn open_calls(&self) -> usize
+        ensures { (lines : List Line) → result ≡ open_calls (place_of lines self.now).items }
+    {
+        self.calls.as_slice().len()
+    }
+
+    /// What comes first.
+    pub fn front<'t, 's>(&'t self, script: &'s Script) -> Front<'t, 's>
+        ensures { IsFront (script_lines script.now)
+            (place_of (script_lines script.now) self.now).items result }
+    {
+        if let Some(front) = self.frame.front(script) {
+            return front;
+        }
+        if self.calls.is_empty() {
+            Front::Nothing
+        } else {
+            Front::Back
+        }
+    }
+
+    /// An equal continuation.
+    pub fn copy(&self, alloc: Global) -> Result<Continuation, NoMemory>
+        ensures { IfOk result (λ continuation. (lines : List Line)
+            → place_of lines continuation ≡ place_of lines self.now) }
+    {
+        let mut calls = Vec::new(alloc);
+        for call in &self.calls {
+            calls.push(call.copy(alloc)?)?;
+        }
+        let frame = self.frame.copy(alloc)?;
+        Ok(Continuation { calls, frame })
+    }
+
+    /// The continuation as an observer sees it: each value in it is erased. Source: the erasure of
+    /// the concurrent calculus of LIO, ICFP 2012.
+    pub fn erase(&self, alloc: Global, observer: &Label) -> Result<Continuation, NoMemory>
+        ensures { IfOk result (λ continuation. (lines : List Line)
+            → place_of lines continuation ≡ hide_place observer.now (place_of lines self.now)) }
+    {
+        let mut calls = Vec::new(alloc);
+        for call in &self.calls {
+            calls.push(call.erase(alloc, observer)?)?;
+        }
+        let frame = self.frame.erase(alloc, observer)?;
+        Ok(Continuation { calls, frame })
+    }
+}

@@ -1,0 +1,4 @@
+pub mod Operands
+pub mod Procedure
+pub mod StateOf
+pub mod Turns

@@ -1,2 +1,0 @@
-pub mod StateOf
-pub mod Turns

@@ -1,3 +1,0 @@
-pub mod ChannelLemmas
-pub mod LawLemmas
-pub mod ViewLemmas

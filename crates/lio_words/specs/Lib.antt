@@ -1,4 +1,0 @@
-pub mod Keyword
-pub mod Operators
-pub mod Words
-pub mod Literals
