@@ -1,10 +1,10 @@
 -- The laws of implication, canonical form, conjunction and disjunction.
-use Rattle.std.proofs.Common.{ℕ, ◌<◌, Bool, ◌&&◌, ◌||◌, inl, inr, List, [], ◌∷◌, ◌++◌, length, All, refl, sym, ◌∙◌, ap}
+use Rattle.std.proofs.Common.{◌≡◌, ℕ, ◌<◌, Bool, ◌&&◌, ◌||◌, inl, inr, List, [], ◌∷◌, ◌++◌, length, IsTrue, All, refl, sym, ◌∙◌, ap}
 use Rattle.std.proofs.Math.Bool.{and_comm, or_comm, and_assoc, or_assoc, and_self, or_self}
 use Rattle.std.proofs.lemmas.Bool.{true≢false, and_parts, and_from, or_cases, or_left, or_right}
 use Rattle.lio_clauses.specs.Satisfaction.{sat}
-use Rattle.lio_clauses.specs.Implication.{named}
-use Rattle.lio_clauses.specs.Canonical.{canonical_of, and, or}
+use Rattle.lio_clauses.specs.Implication.{named, implies}
+use Rattle.lio_clauses.specs.Canonical.{IsCanonical, canonical_of, and, or}
 use Rattle.lio_clauses.specs.FormulaPrint.{AreNamed}
 use Rattle.lio_clauses.specs.Laws.{ImplicationIsTested, ImplicationIsReflexive, ImplicationIsTransitive, ImplicationIsAntisymmetric, ImplicationIsByClauses, FalsityIsLeast, TruthIsGreatest, CanonicalFormIsUnique, CanonicalFormIsCanonical, CanonicalFormMeansTheSame, CanonicalFormOfCanonical, ConjunctionIsCanonical, ConjunctionMeansBoth, DisjunctionIsCanonical, DisjunctionMeansEither, ConjunctionImpliesLeft, ConjunctionImpliesRight, ConjunctionIsGreatest, LeftImpliesDisjunction, RightImpliesDisjunction, DisjunctionIsLeast, ConjunctionIsCommutative, ConjunctionIsAssociative, ConjunctionIsIdempotent, DisjunctionIsCommutative, DisjunctionIsAssociative, DisjunctionIsIdempotent, ConjunctionIsNamed, DisjunctionIsNamed}
 use Rattle.lio_clauses.proofs.Members.{In, In-append_cases, All-In, In-All, Contains-from_In, In-from_Contains, same_tests}
@@ -130,6 +130,20 @@ disjunction_is_associative A B C h k l =
 
 pub disjunction_is_idempotent : DisjunctionIsIdempotent
 disjunction_is_idempotent A a = canonical-unique (or A A) A (IsCanonical-or A A a.clauses a.clauses) a (λ who. sat-or who A A ∙ or_self (sat who A))
+
+-- of two canonical formulas of which one implies the other, that one is the conjunction, and the other the disjunction
+
+pub conjunction_with_implied : (A B : List (List ℕ)) → IsCanonical A → IsCanonical B → IsTrue (implies A B) → A ≡ and A B
+conjunction_with_implied A B a b h =
+    canonical-unique A (and A B) a (IsCanonical-and A B a.clauses b.clauses) (λ who. same_tests (sat who A) (sat who (and A B))
+    (λ s. implies-Implies A (and A B) (conjunction_is_greatest A B A (implication_is_reflexive A) h) who s)
+    (λ s. implies-Implies (and A B) A (conjunction_implies_left A B) who s))
+
+pub disjunction_with_implied : (A B : List (List ℕ)) → IsCanonical A → IsCanonical B → IsTrue (implies A B) → B ≡ or A B
+disjunction_with_implied A B a b h =
+    canonical-unique B (or A B) b (IsCanonical-or A B a.clauses b.clauses) (λ who. same_tests (sat who B) (sat who (or A B))
+    (λ s. implies-Implies B (or A B) (right_implies_disjunction A B) who s)
+    (λ s. implies-Implies (or A B) B (disjunction_is_least A B B h (implication_is_reflexive B)) who s))
 
 -- the principals of what is made are principals of what it is made of
 

@@ -20,3 +20,7 @@ pub IfOk-sets : (r : Result (List (List ℕ)) FormFault) (A : List (List ℕ)) (
     → IfOk r (λ f. f ≡ A) → IfOk r (λ f. (who : ℕ → Bool) → sat who f ≡ passes who)
 IfOk-sets (Ok f) A passes e h = λ who. ap (sat who) h ∙ e who
 IfOk-sets (Err fault) A passes e h = tt
+
+-- one fault of two types of answers
+pub err-same : {X Y : Type 0} (e f : FormFault) → ◌≡◌ {A = Result X FormFault} (Err e) (Err f) → ◌≡◌ {A = Result Y FormFault} (Err e) (Err f)
+err-same e f h = cc

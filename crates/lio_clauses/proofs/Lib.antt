@@ -7,6 +7,7 @@ pub mod Minimal
 pub mod Forms
 pub mod ClauseBits
 pub mod Reduced
+pub mod Merged
 pub mod Answered
 pub mod Algebra
 pub mod NameLemmas

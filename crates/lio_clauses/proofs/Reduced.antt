@@ -5,13 +5,13 @@ use Rattle.std.specs.Int.Bits.{and_self}
 use Rattle.std.specs.List.{All, insert}
 use Rattle.std.proofs.lemmas.List.{length-map}
 use Rattle.std.proofs.lemmas.List.Edits.{length-insert}
-use Rattle.std.proofs.lemmas.Bool.{both_ways, cases_Bool, eqb-true, eq-eqb}
+use Rattle.std.proofs.lemmas.Bool.{both_ways, cases_Bool, cases_order, eqb-true, eq-eqb, false_from_ne_true}
 use Rattle.std.proofs.lemmas.Nat.{and_le_r, and_assoc}
 use Rattle.lio_clauses.specs.Principals.{principals}
 use Rattle.lio_clauses.specs.Canonical.{in_order, is_before, IsCanonical, canonical}
 use Rattle.lio_clauses.specs.Width.{IsWide}
-use Rattle.lio_clauses.specs.Bits.{IsFormula, IsLeastUncovered, IsMinimalOf, KeepsMinimal, covers, mask_before}
-use Rattle.lio_clauses.proofs.Members.{In, In-map, In-map_cases, any_by, any_some, In-from_Contains, All-In, In-All}
+use Rattle.lio_clauses.specs.Bits.{IsFormula, IsLeastUncovered, IsMinimalOf, IsNextMinimal, KeepsMinimal, covers, mask_before}
+use Rattle.lio_clauses.proofs.Members.{In, In-place, In-map, In-map_cases, any_by, any_some, In-from_Contains, All-In, In-All}
 use Rattle.lio_clauses.proofs.Orders.{in_order-head, in_order-tail, in_order-cons, in_order-map, same_in_order, is_before-asym, is_before-trans, is_before-total}
 use Rattle.lio_clauses.proofs.Subsets.{within}
 use Rattle.lio_clauses.proofs.Forms.{canonical-only, canonical-among, canonical-minimal, canonical-ordered, IsCanonical-canonical}
@@ -44,6 +44,28 @@ length-members {X} (x ∷ xs) ys d f =
 pub in_order-repeats : {X : Type 0} (before : X → X → Bool) → ((x : X) → before x x ≡ true → ⊥) → (xs : List X) → in_order before xs ≡ true → IsWithoutRepeats xs
 in_order-repeats before irr [] h = tt
 in_order-repeats before irr (x ∷ xs) h = (λ m. irr x (in_order-head before x xs h x m), in_order-repeats before irr xs (in_order-tail before x xs h))
+
+pub in_order-places : {X : Type 0} (before : X → X → Bool) (d : X) (xs : List X) (i j : ℕ) → in_order before xs ≡ true → i < j → j < length xs
+    → before (get_or xs i d) (get_or xs j d) ≡ true
+in_order-places before d [] i j h l k = absurd (omega arith)
+in_order-places before d (x ∷ xs) i zero h l k = absurd (omega arith)
+in_order-places before d (x ∷ xs) zero (suc j) h l k = in_order-head before x xs h (get_or xs j d) (In-place d xs j (omega arith))
+in_order-places before d (x ∷ xs) (suc i) (suc j) h l k = in_order-places before d xs i j (in_order-tail before x xs h) (omega arith) (omega arith)
+
+-- what does not stand before an element of a list in order stands before none ahead of it
+pub not_before-ahead : (m : ℕ) (ks : List ℕ) (i : ℕ) → in_order mask_before ks ≡ true → i < length ks → mask_before m (get_or ks i 0) ≡ false
+    → (k : ℕ) → k ≤ i → mask_before m (get_or ks k 0) ≡ false
+not_before-ahead m ks i o l f k h =
+    elim (cases_order k i) [
+      | inl e ↦ ap (λ v. mask_before m (get_or ks v 0)) e ∙ f
+      | inr r ↦ elim r [
+        | inl b ↦
+            false_from_ne_true (mask_before m (get_or ks k 0)) (λ t.
+            both_ways (mask_before m (get_or ks i 0)) f
+            (is_before-trans (principals m) (principals (get_or ks k 0)) (principals (get_or ks i 0)) t (in_order-places mask_before 0 ks k i o b l)))
+        | inr b ↦ absurd (omega arith)
+      ]
+    ]
 
 -- putting an element in its place
 
@@ -101,7 +123,7 @@ covers-from ks m k h e = any_by (λ v. bit_and v m == v) ks k h (eq-eqb (bit_and
 pub covers-some : (ks : List ℕ) (m : ℕ) → covers ks m ≡ true → (k : ℕ) × (In k ks × (bit_and k m ≡ k))
 covers-some ks m h = let r = any_some (λ v. bit_and v m == v) ks h in (r.0, (r.1.0, eqb-true (bit_and r.0 m) r.0 r.1.1))
 
-and_trans : (k u m : ℕ) → bit_and k u ≡ k → bit_and u m ≡ u → bit_and k m ≡ k
+pub and_trans : (k u m : ℕ) → bit_and k u ≡ k → bit_and u m ≡ u → bit_and k m ≡ k
 and_trans k u m e f = ap (λ v. bit_and v m) (sym e) ∙ and_assoc m k u ∙ ap (bit_and k) f ∙ e
 
 -- a clause that contains no kept one is none of them
@@ -116,23 +138,26 @@ least-seen us seen ks found least e f h =
     subst P f (subst Q e h)
 
 -- the least clause that contains no kept one is minimal
-pub next-minimal : (us ks : List ℕ) (m : ℕ) → IsLeastUncovered ks us (Some m) → IsMinimalOf us m
-next-minimal us ks m h = record {
-  among = h.0;
-  only = In-All (λ u. bit_and u m ≡ u → u ≡ m) us (λ u p e.
-      let below : u ≤ m = let k : bit_and u m ≤ m = and_le_r u m in let P : ℕ → Type 0 = λ v. v ≤ m in subst P e k in
-      elim (cases_Bool (covers ks u)) [
-        | inl t ↦ let r = covers-some ks u t in absurd (both_ways (covers ks m) h.1 (covers-from ks m r.0 r.1.0 (and_trans r.0 u m r.1.1 e)))
-        | inr f ↦ let above : m ≤ u = All-In (λ u. covers ks u ≡ false → m ≤ u) us h.2 u p f in omega arith
-      ]);
-}
+pub least-next : (us ks : List ℕ) (m : ℕ) → IsLeastUncovered ks us (Some m) → IsNextMinimal ks us m
+least-next us ks m h = (
+  record {
+    among = h.0;
+    only = In-All (λ u. bit_and u m ≡ u → u ≡ m) us (λ u p e.
+        let below : u ≤ m = let k : bit_and u m ≤ m = and_le_r u m in let P : ℕ → Type 0 = λ v. v ≤ m in subst P e k in
+        elim (cases_Bool (covers ks u)) [
+          | inl t ↦ let r = covers-some ks u t in absurd (both_ways (covers ks m) h.1 (covers-from ks m r.0 r.1.0 (and_trans r.0 u m r.1.1 e)))
+          | inr f ↦ let above : m ≤ u = All-In (λ u. covers ks u ≡ false → m ≤ u) us h.2 u p f in omega arith
+        ]);
+  },
+  h.1,
+)
 
 -- it and a kept one do not contain each other
-pub next-apart : (us ks : List ℕ) (m : ℕ) → KeepsMinimal us ks → IsLeastUncovered ks us (Some m) → All (λ k. (bit_and k m ≡ k → ⊥) × (bit_and m k ≡ m → ⊥)) ks
+pub next-apart : (us ks : List ℕ) (m : ℕ) → KeepsMinimal us ks → IsNextMinimal ks us m → All (λ k. (bit_and k m ≡ k → ⊥) × (bit_and m k ≡ m → ⊥)) ks
 next-apart us ks m p h =
     In-All (λ k. (bit_and k m ≡ k → ⊥) × (bit_and m k ≡ m → ⊥)) ks (λ k i. (
       λ e. both_ways (covers ks m) h.1 (covers-from ks m k i e),
-      λ e. new-other ks m h.1 k i (only us k (minimal-at us ks p k i) m (among us m (next-minimal us ks m h)) e),
+      λ e. new-other ks m h.1 k i (only us k (minimal-at us ks p k i) m (among us m h.0) e),
     ))
 
 -- nothing is kept at first
@@ -141,10 +166,10 @@ KeepsMinimal-none us ks fits e =
     subst (KeepsMinimal us) (sym e) (record { fits = fits; minimal = λ k d l. absurd (omega arith); ordered = refl; few = omega arith })
 
 -- one more is kept at its place
-pub KeepsMinimal-next : (us ks : List ℕ) (m i : ℕ) → KeepsMinimal us ks → IsLeastUncovered ks us (Some m) → (length ks ≡ 64 → ⊥) → i ≤ length ks
+pub KeepsMinimal-next : (us ks : List ℕ) (m i : ℕ) → KeepsMinimal us ks → IsNextMinimal ks us m → (length ks ≡ 64 → ⊥) → i ≤ length ks
     → ((j : ℕ) → j < i → mask_before m (get_or ks j 0) ≡ false) → (i < length ks → mask_before m (get_or ks i 0) ≡ true) → KeepsMinimal us (insert ks i m)
 KeepsMinimal-next us ks m i p h room l low here =
-    let q : IsMinimalOf us m = next-minimal us ks m h in
+    let q : IsMinimalOf us m = h.0 in
     let longer : length (insert ks i m) ≡ length ks + 1 = length-insert ks i m l in
     let few : length ks ≤ 64 = p.few in
     record {
@@ -204,9 +229,9 @@ kept-formula us ks p all = record {
 }
 
 -- where 64 are kept and one more clause is minimal, the canonical form is wide
-pub kept-wide : (us ks : List ℕ) (m : ℕ) → KeepsMinimal us ks → IsLeastUncovered ks us (Some m) → length ks ≡ 64 → IsWide (canonical (map principals us))
+pub kept-wide : (us ks : List ℕ) (m : ℕ) → KeepsMinimal us ks → IsNextMinimal ks us m → length ks ≡ 64 → IsWide (canonical (map principals us))
 kept-wide us ks m p h full =
-    let q : IsMinimalOf us m = next-minimal us ks m h in
+    let q : IsMinimalOf us m = h.0 in
     let l : length (map principals (m ∷ ks)) ≤ length (canonical (map principals us)) =
     length-members (map principals (m ∷ ks)) (canonical (map principals us)) (
       λ n.

@@ -32,6 +32,10 @@ pub record IsMinimalOf (clauses : List ℕ) (m : ℕ) : Type 0 where
   pub among : Contains clauses m
   pub only : All (λ u. bit_and u m ≡ u → u ≡ m) clauses
 
+-- m is a minimal clause that contains no kept one
+abbrev pub IsNextMinimal : List ℕ → List ℕ → ℕ → Type 0
+IsNextMinimal kept clauses m = IsMinimalOf clauses m × (covers kept m ≡ false)
+
 -- the kept ones are at most 64 minimal ones of clauses of 64 bits, in lexicographic order
 pub record KeepsMinimal (clauses kept : List ℕ) : Type 0 where
   pub fits : All (λ u. u < 2 ^ 64) clauses

@@ -5,7 +5,6 @@ pub mod Canonical
 pub mod Width
 pub mod Bits
 pub mod Clauses
-pub mod Conjuncts
 pub mod Laws
 pub mod Names
 pub mod Refusal

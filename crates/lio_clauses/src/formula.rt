@@ -9,11 +9,11 @@ ghost use Rattle.lio_clauses.specs.Satisfaction.{sat, set_of};
 ghost use Rattle.lio_clauses.specs.Implication.{Implies, ImplyTogether, implies};
 ghost use Rattle.lio_clauses.specs.Canonical.{IsCanonical, canonical, and, or};
 ghost use Rattle.lio_clauses.specs.Width.{IsWide};
-ghost use Rattle.lio_clauses.specs.Bits.{IsFormula};
+ghost use Rattle.lio_clauses.specs.Bits.{IsFormula, unions};
 
 use crate::faults::{FormFault, NoMemory};
 use crate::masks::{are_covered, are_met};
-use crate::reduce::Conjuncts;
+use crate::reduce::{minimal_clauses, minimal_unions};
 use std::alloc::Global;
 use std::marker::Model;
 use std::slice;
@@ -55,8 +55,6 @@ impl Model for Formula {
 
 /// Formulas that are made.
 impl Formula {
-    ghost use Rattle.lio_clauses.specs.Conjuncts.{clauses_of};
-
     /// True, the formula without a clause.
     pub fn truth(_alloc: Global) -> Formula
         ensures clauses { result ≡ [] }
@@ -98,7 +96,8 @@ impl Formula {
         ensures wide { result ≢ Err FormFault.NoMemory
             → (result ≡ Err FormFault.Wide) ↔ IsWide (canonical (map principals clauses.now)) }
     {
-        Formula::of_conjuncts(alloc, Conjuncts::Both(clauses, &[]))
+        // A disjunction with False, the formula of the empty clause.
+        Formula::of_unions(alloc, clauses, &[0])
     }
 
     /// The conjunction.
@@ -109,7 +108,14 @@ impl Formula {
         ensures wide { result ≢ Err FormFault.NoMemory
             → (result ≡ Err FormFault.Wide) ↔ IsWide (and self.now other.now) }
     {
-        Formula::of_conjuncts(alloc, Conjuncts::Both(self.clauses(), other.clauses()))
+        let (left, right) = (self.clauses(), other.clauses());
+        if self.implies(other) {
+            return self.copy_narrow(alloc);
+        }
+        if other.implies(self) {
+            return other.copy_narrow(alloc);
+        }
+        Formula::of_both(alloc, left, right)
     }
 
     /// The disjunction.
@@ -120,18 +126,36 @@ impl Formula {
         ensures wide { result ≢ Err FormFault.NoMemory
             → (result ≡ Err FormFault.Wide) ↔ IsWide (or self.now other.now) }
     {
-        Formula::of_conjuncts(alloc, Conjuncts::Unions(self.clauses(), other.clauses()))
+        let (left, right) = (self.clauses(), other.clauses());
+        if self.implies(other) {
+            return other.copy_narrow(alloc);
+        }
+        if other.implies(self) {
+            return self.copy_narrow(alloc);
+        }
+        Formula::of_unions(alloc, left, right)
     }
 
-    /// The canonical form of a conjunction.
-    fn of_conjuncts(alloc: Global, conjuncts: Conjuncts<'_>) -> Result<Formula, FormFault>
+    /// The canonical form of the unions of a clause of each side.
+    fn of_unions(alloc: Global, left: &[u64], right: &[u64]) -> Result<Formula, FormFault>
         ensures ok { IfOk result
-            (λ f. f ≡ canonical (map principals (clauses_of conjuncts.entry))) }
-        ensures wide { result ≢ Err FormFault.NoMemory
-            → (result ≡ Err FormFault.Wide)
-            ↔ IsWide (canonical (map principals (clauses_of conjuncts.entry))) }
+            (λ f. f ≡ canonical (map principals (unions left.now right.now))) }
+        ensures wide { result ≢ Err FormFault.NoMemory → (result ≡ Err FormFault.Wide)
+            ↔ IsWide (canonical (map principals (unions left.now right.now))) }
     {
-        let kept = conjuncts.minimal(alloc)?;
+        let kept = minimal_unions(alloc, left, right)?;
+        Ok(Formula::of_kept(alloc, kept.as_slice())?)
+    }
+
+    /// The canonical form of the clauses of two formulas.
+    fn of_both(alloc: Global, left: &[u64], right: &[u64]) -> Result<Formula, FormFault>
+        requires left { IsFormula left.now }
+        requires right { IsFormula right.now }
+        ensures ok { IfOk result (λ f. f ≡ canonical (map principals (left.now ++ right.now))) }
+        ensures wide { result ≢ Err FormFault.NoMemory → (result ≡ Err FormFault.Wide)
+            ↔ IsWide (canonical (map principals (left.now ++ right.now))) }
+    {
+        let kept = minimal_clauses(alloc, left, right)?;
         Ok(Formula::of_kept(alloc, kept.as_slice())?)
     }
 
@@ -149,7 +173,17 @@ impl Formula {
         Ok(Formula { kept })
     }
 
+    /// An equal formula, which is never wide.
+    fn copy_narrow(&self, alloc: Global) -> Result<Formula, FormFault>
+        ensures ok { IfOk result (λ f. f ≡ self.now) }
+        ensures wide { result ≢ Err FormFault.NoMemory
+            → (result ≡ Err FormFault.Wide) ↔ IsWide self.now }
+    {
+        Ok(self.copy(alloc)?)
+    }
+
     /// An equal formula.
+    #[inline(always)]
     pub fn copy(&self, _alloc: Global) -> Result<Formula, NoMemory>
         ensures ok { IfOk result (λ f. f ≡ self.now) }
         ensures takes_no_memory { length self.now ≤ 1 → IsOk result }
@@ -181,11 +215,24 @@ impl Formula {
 
     /// Whether each set of principals that satisfies this formula satisfies the other one: each
     /// clause of the other contains one of this formula.
+    #[inline(always)]
     pub fn implies(&self, other: &Formula) -> bool
         ensures test { result ≡ implies self.now other.now }
         ensures all_sets { IsTrue result ↔ Implies self.now other.now }
     {
-        are_covered(&[], self.clauses(), other.clauses())
+        match (&self.kept, &other.kept) {
+            (_, Clauses::Truth) => true,
+            (Clauses::One(clause), Clauses::One(implied)) => *clause & *implied == *clause,
+            _ => self.implies_each(other),
+        }
+    }
+
+    /// The same by all clauses. Equal formulas imply each other.
+    fn implies_each(&self, other: &Formula) -> bool
+        ensures { result ≡ implies self.now other.now }
+    {
+        let (left, right) = (self.clauses(), other.clauses());
+        left == right || are_covered(&[], left, right)
     }
 
     /// Whether each set of principals that satisfies this formula and another one satisfies the

@@ -1,6 +1,6 @@
 //! Questions about clauses that are kept as 64 bits.
-ghost use Rattle.std.specs.Prelude.{◌≡◌, ◌==◌, ◌||◌, not, bit_and};
-ghost use Rattle.std.specs.List.{list_all};
+ghost use Rattle.std.specs.Prelude.{◌≡◌, ◌==◌, ◌&&◌, ◌||◌, not, bit_and};
+ghost use Rattle.std.specs.List.{list_all, list_any};
 ghost use Rattle.lio_clauses.specs.Bits.{covers};
 
 /// Whether a clause contains one of the kept ones.
@@ -8,6 +8,13 @@ pub(crate) fn is_covered(kept: &[u64], clause: u64) -> bool
     ensures { result ≡ covers kept.now clause }
 {
     kept.iter().any(|k| *k & clause == *k)
+}
+
+/// Whether a clause contains one of the kept ones and isn't that one.
+pub(crate) fn contains_other(kept: &[u64], clause: u64) -> bool
+    ensures { result ≡ list_any (λ k. not (k == clause) && bit_and k clause == k) kept.now }
+{
+    kept.iter().any(|k| *k != clause && *k & clause == *k)
 }
 
 /// Whether each clause contains one of the left or of the right ones.

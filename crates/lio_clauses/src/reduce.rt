@@ -1,16 +1,16 @@
-//! The minimal clauses of a conjunction, found in rising number and kept in lexicographic order.
+//! The minimal clauses of a conjunction, kept in lexicographic order.
 ghost use Rattle.std.specs.Prelude.{◌≡◌, ◌≢◌, ℕ, ◌+◌, ◌^◌, ◌<◌, ◌≤◌, true, false, List, [], ◌∷◌};
-ghost use Rattle.std.specs.Prelude.{◌++◌, length, map, insert, IfOk, OnOk, OnErr, bit_and};
+ghost use Rattle.std.specs.Prelude.{◌++◌, length, map, insert, IsTrue, IfOk, OnOk, OnErr, bit_and};
 ghost use Rattle.std.specs.Prelude.{slice_index};
 ghost use Rattle.std.specs.List.{All};
 ghost use Rattle.lio_clauses.specs.Principals.{principals};
-ghost use Rattle.lio_clauses.specs.Canonical.{canonical};
+ghost use Rattle.lio_clauses.specs.Canonical.{canonical, in_order};
 ghost use Rattle.lio_clauses.specs.Width.{IsWide};
-ghost use Rattle.lio_clauses.specs.Bits.{IsFormula, IsLeastUncovered, KeepsMinimal, mask_before};
-ghost use Rattle.lio_clauses.specs.Bits.{unions};
+ghost use Rattle.lio_clauses.specs.Bits.{IsFormula, IsLeastUncovered, IsNextMinimal};
+ghost use Rattle.lio_clauses.specs.Bits.{KeepsMinimal, mask_before, unions};
 
 use crate::faults::{FormFault, NoMemory};
-use crate::masks::is_covered;
+use crate::masks::{contains_other, is_covered};
 use smallvec::SmallVec;
 use std::alloc::Global;
 
@@ -20,19 +20,20 @@ const MAX_CLAUSES: usize = 64;
 /// The minimal clauses that were found so far. Up to four take no memory.
 pub(crate) type Kept = SmallVec<u64, 4>;
 
-/// Keeps one more clause, the least one, as a number, of some clauses that contains no kept one. It
-/// is minimal, since what it contains is less. After a fault the kept ones are as before.
-pub(crate) fn keep(kept: &mut Kept, clause: u64) -> Result<(), FormFault>
+/// Keeps one more minimal clause of some clauses. After a fault the kept ones are as before.
+fn keep(kept: &mut Kept, clause: u64) -> Result<(), FormFault>
     requires { (clauses : List ℕ) × KeepsMinimal clauses kept.old.items
-        × IsLeastUncovered kept.old.items clauses (Some clause) }
+        × IsNextMinimal kept.old.items clauses clause }
     ensures room { OnOk result (length kept.old.items < 64) }
     ensures one_more { OnOk result (length kept.new.items ≡ length kept.old.items + 1) }
+    ensures inserted { OnOk result ((place : ℕ) × (place ≤ length kept.old.items)
+        × (kept.new.items ≡ insert kept.old.items place clause)) }
     ensures minimal { OnOk result ((clauses : List ℕ) → KeepsMinimal clauses kept.old.items
-        → IsLeastUncovered kept.old.items clauses (Some clause)
+        → IsNextMinimal kept.old.items clauses clause
         → KeepsMinimal clauses kept.new.items) }
     ensures wide { result ≡ Err FormFault.Wide
         → (clauses : List ℕ) → KeepsMinimal clauses kept.old.items
-        → IsLeastUncovered kept.old.items clauses (Some clause)
+        → IsNextMinimal kept.old.items clauses clause
         → IsWide (canonical (map principals clauses)) }
     ensures unchanged { OnErr result (kept.new.items ≡ kept.old.items) }
 {
@@ -54,56 +55,47 @@ fn insert(kept: &mut Kept, place: usize, clause: u64) -> Result<(), NoMemory>
     Ok(())
 }
 
-/// The clauses of a conjunction.
-#[derive(Clone, Copy)]
-pub(crate) enum Conjuncts<'a> {
-    /// The clauses of both sides.
-    Both(&'a [u64], &'a [u64]),
-    /// The unions of a clause of each side.
-    Unions(&'a [u64], &'a [u64]),
-}
-
-impl<'a> Conjuncts<'a> {
-    ghost use Rattle.lio_clauses.specs.Conjuncts.{clauses_of};
-
-    /// The minimal clauses, in lexicographic order: the canonical form.
-    pub(crate) fn minimal(self, alloc: Global) -> Result<Kept, FormFault>
-        ensures formula { IfOk result (λ kept. IsFormula kept.items) }
-        ensures canonical { IfOk result (λ kept. map principals kept.items
-            ≡ canonical (map principals (clauses_of self.entry))) }
-        ensures wide { result ≡ Err FormFault.Wide
-            → IsWide (canonical (map principals (clauses_of self.entry))) }
-    {
-        let mut kept = Kept::new(alloc);
-        'rounds: while let Some(clause) = self.least_uncovered(kept.as_slice()) {
-            keep(&mut kept, clause)?;
-        }
-        Ok(kept)
-    }
-
-    /// The least clause, as a number, that contains no kept one.
-    fn least_uncovered(self, kept: &[u64]) -> Option<u64>
-        ensures least { IsLeastUncovered kept.now (clauses_of self.entry) result }
-        ensures fits { All (λ m. m < 2 ^ 64) (clauses_of self.entry) }
-    {
-        match self {
-            Conjuncts::Both(left, right) => least_among(least_among(None, left, kept), right, kept),
-            Conjuncts::Unions(left, right) => least_union(left, right, kept),
-        }
-    }
-}
-
-/// The least clause, as a number, among those before and these that contains no kept one.
-fn least_among(before: Option<u64>, clauses: &[u64], kept: &[u64]) -> Option<u64>
-    ensures least { (others : List ℕ) → IsLeastUncovered kept.now others before
-        → IsLeastUncovered kept.now (others ++ clauses.now) result }
-    ensures fits { All (λ m. m < 2 ^ 64) clauses.now }
+/// The minimal ones of the unions of a clause of each side, in lexicographic order: the canonical
+/// form of the disjunction. They are found in rising number.
+pub(crate) fn minimal_unions(alloc: Global, left: &[u64], right: &[u64]) -> Result<Kept, FormFault>
+    ensures formula { IfOk result (λ kept. IsFormula kept.items) }
+    ensures canonical { IfOk result (λ kept. map principals kept.items
+        ≡ canonical (map principals (unions left.now right.now))) }
+    ensures wide { result ≡ Err FormFault.Wide
+        → IsWide (canonical (map principals (unions left.now right.now))) }
 {
-    let mut least = before;
-    for clause in clauses {
-        least = lesser_uncovered(least, *clause, kept);
+    let mut kept = Kept::new(alloc);
+    'rounds: while let Some(clause) = least_union(left, right, kept.as_slice()) {
+        keep(&mut kept, clause)?;
     }
-    least
+    Ok(kept)
+}
+
+/// The minimal ones of the clauses of two formulas, in lexicographic order: the canonical form of
+/// the conjunction.
+pub(crate) fn minimal_clauses(alloc: Global, left: &[u64], right: &[u64]) -> Result<Kept, FormFault>
+    requires left { IsFormula left.now }
+    requires right { IsFormula right.now }
+    ensures formula { IfOk result (λ kept. IsFormula kept.items) }
+    ensures canonical { IfOk result (λ kept. map principals kept.items
+        ≡ canonical (map principals (left.now ++ right.now))) }
+    ensures wide { result ≡ Err FormFault.Wide
+        → IsWide (canonical (map principals (left.now ++ right.now))) }
+{
+    let mut kept = Kept::new(alloc);
+    'lefts: for clause in left {
+        if contains_other(right, *clause) {
+            continue;
+        }
+        keep(&mut kept, *clause)?;
+    }
+    'rights: for clause in right {
+        if is_covered(left, *clause) {
+            continue;
+        }
+        keep(&mut kept, *clause)?;
+    }
+    Ok(kept)
 }
 
 /// The least union, as a number, of a clause of each side that contains no kept clause.
@@ -121,7 +113,7 @@ fn least_union(left: &[u64], right: &[u64], kept: &[u64]) -> Option<u64>
 }
 
 /// The lesser one of the least clause so far and one more, if that one contains no kept clause.
-pub(crate) fn lesser_uncovered(least: Option<u64>, clause: u64, kept: &[u64]) -> Option<u64>
+fn lesser_uncovered(least: Option<u64>, clause: u64, kept: &[u64]) -> Option<u64>
     ensures { (clauses : List ℕ) → IsLeastUncovered kept.now clauses least
         → IsLeastUncovered kept.now (clauses ++ clause ∷ []) result }
 {
@@ -133,20 +125,21 @@ pub(crate) fn lesser_uncovered(least: Option<u64>, clause: u64, kept: &[u64]) ->
 }
 
 /// Where a clause has its place among kept ones in lexicographic order, where none contains
-/// another.
+/// another. Clauses that come in order have theirs at the end.
 fn place_of(kept: &[u64], clause: u64) -> usize
-    requires { All (λ k. (bit_and k clause ≢ k) × (bit_and clause k ≢ clause)) kept.now }
+    requires apart { All (λ k. (bit_and k clause ≢ k) × (bit_and clause k ≢ clause)) kept.now }
+    requires ordered { IsTrue (in_order mask_before kept.now) }
     ensures within { result ≤ length kept.now }
     ensures before { (k : ℕ) → k < result → mask_before clause (slice_index kept.now k) ≡ false }
     ensures after { result < length kept.now
         → mask_before clause (slice_index kept.now result) ≡ true }
 {
-    for (i, k) in kept.iter().enumerate() {
-        if precedes(clause, *k) {
-            return i;
+    for i in (0..kept.len()).rev() {
+        if !precedes(clause, kept[i]) {
+            return i + 1;
         }
     }
-    kept.len()
+    0
 }
 
 /// Whether a clause stands before another in lexicographic order, where neither contains the other:

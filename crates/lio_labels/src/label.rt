@@ -22,6 +22,7 @@ impl Label {
 
     /// Whether what has this label may flow to the other: the other's secrecy implies this secrecy,
     /// and this integrity implies the other's. It takes no memory.
+    #[inline(always)]
     pub fn flows(&self, to: &Label) -> bool
         ensures test { result ≡ flows self.now to.now }
         ensures all_sets { IsTrue result ↔ Flows self.now to.now }
@@ -87,6 +88,7 @@ impl Label {
     }
 
     /// An equal label.
+    #[inline(always)]
     pub fn copy(&self, alloc: Global) -> Result<Label, NoMemory>
         ensures ok { IfOk result (λ label. label ≡ self.now) }
         ensures takes_no_memory { length self.now.secrecy ≤ 1

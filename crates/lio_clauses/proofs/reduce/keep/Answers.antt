@@ -9,8 +9,8 @@ pub returns-then-len-eq-MAX_CLAUSES-clause-wide : goal.returns-then-len-eq-MAX_C
 returns-then-len-eq-MAX_CLAUSES-clause-wide c =
     λ _ clauses p h. kept-wide clauses c.args.kept.now.items c.args.clause p h (sym c.len.ensures.value ∙ c.if-len-eq-MAX_CLAUSES.true)
 
-pub place_of-place-requires : goal.place_of-place-requires
-place_of-place-requires c =
+pub place_of-place-requires-clause-apart : goal.place_of-place-requires-clause-apart
+place_of-place-requires-clause-apart c =
     let k = c.requires in
     let P : List ℕ → Type 0 = λ v. All (λ k. (bit_and k c.args.clause ≡ k → ⊥) × (bit_and c.args.clause k ≡ c.args.clause → ⊥)) v in
     subst P (sym c.as_slice.ensures) (next-apart k.0 c.args.kept.now.items c.args.clause k.1 k.2)

@@ -1,6 +1,6 @@
-use Rattle.std.proofs.Common.{◌≡◌, ℕ, ◌<◌, false, get_or}
+use Rattle.std.proofs.Common.{◌≡◌, ◌<◌, true, get_or, length}
 use Rattle.lio_clauses.specs.Bits.{mask_before}
 use Rattle.lio_clauses.proofs.reduce.place_of.Given as goal
 
 abbrev pub invariant-loop-i : goal.invariant-loop-i
-invariant-loop-i l = (j : ℕ) → j < l.i → mask_before l.clause (get_or l.kept j 0) ≡ false
+invariant-loop-i l = l.i < length l.kept → mask_before l.clause (get_or l.kept l.i 0) ≡ true
