@@ -10,6 +10,7 @@ mod open_block;
 mod print;
 mod procedures;
 mod progress;
+mod ranks;
 mod read;
 mod rules;
 mod script;

@@ -10,7 +10,7 @@ ghost use Rattle.lio_syntax.specs.Rules as spec;
 
 use crate::headers::Headers;
 use lio_syntax_lines::Line;
-use lio_values::Text;
+use lio_values::Name;
 
 /// The rule that a called procedure is there.
 pub(crate) const KNOWN: u32 = 3;
@@ -19,14 +19,14 @@ pub(crate) const KNOWN: u32 = 3;
 pub(crate) const COUNT: u32 = 4;
 
 /// Whether the name is among these.
-fn contains(names: &[Text], name: &[u8]) -> bool
+fn contains(names: &[Name], name: &[u8]) -> bool
     ensures { result ≡ list_any (bytes_eq name.now) names.now }
 {
     names.iter().any(|other| name == other.bytes())
 }
 
 /// Whether a name is there twice.
-pub(crate) fn has_twice(names: &[Text]) -> bool
+pub(crate) fn has_twice(names: &[Name]) -> bool
     ensures { result ≡ spec.has_twice names.now }
 {
     for (i, name) in names.iter().enumerate() {

@@ -3,6 +3,7 @@ ghost use Rattle.std.specs.Prelude.{◌≡◌, ◌<◌, ◌+◌, ◌^◌, length
 
 use crate::ends::ends_of;
 use crate::procedures::Procedures;
+use crate::ranks::rank_names;
 use lio_clauses::NoMemory;
 use lio_syntax_lines::Line;
 use std::alloc::Global;
@@ -55,11 +56,12 @@ impl Script {
     ghost use Rattle.lio_syntax.specs.Lines.{script_lines};
 
     /// The script of these lines.
-    pub(crate) fn of(alloc: Global, lines: Vec<Line>) -> Result<Script, NoMemory>
+    pub(crate) fn of(alloc: Global, mut lines: Vec<Line>) -> Result<Script, NoMemory>
         requires rules { KeepsRules lines.items }
         requires literals { SaysLiterals lines.items }
         ensures { IfOk result (λ script. script ≡ script_of_lines lines.items) }
     {
+        rank_names(alloc, lines.as_mut_slice())?;
         let ends = ends_of(alloc, lines.as_slice())?;
         let procedures = Procedures::of(alloc, lines.as_slice())?;
         let kept = Kept {

@@ -13,7 +13,7 @@ use crate::fault::LineFault;
 use crate::line::Operand;
 use crate::{is_name, read_literal, split_word};
 use lio_clauses::Names;
-use lio_values::Text;
+use lio_values::Name;
 use std::alloc::Global;
 use std::marker::Model;
 
@@ -40,7 +40,7 @@ pub(crate) fn read_operand(alloc: Global, names: &Names, word: &[u8]) -> Result<
         (λ fault. fault ≡ LineFault.Invalid → operand_of names.now word.now ≡ None) }
 {
     if is_name(word) {
-        return Ok(Operand::Name(Text::of(alloc, word)?));
+        return Ok(Operand::Name(Name::of(alloc, word)?));
     }
     match read_literal(alloc, names, word)? {
         Some(plain) => Ok(Operand::Literal(plain)),
@@ -68,7 +68,7 @@ impl<'a> Words<'a> {
     }
 
     /// Takes a name.
-    pub(crate) fn name(&mut self, alloc: Global) -> Result<Text, LineFault>
+    pub(crate) fn name(&mut self, alloc: Global) -> Result<Name, LineFault>
         ensures ok { IfOk result
             (λ name. name_at self.old ≡ Some (record { value = name; rest = self.new })) }
         ensures sound { IfOk result IsName }
@@ -76,7 +76,7 @@ impl<'a> Words<'a> {
             (λ fault. fault ≡ LineFault.Invalid → name_at self.old ≡ None) }
     {
         match self.next() {
-            Some(word) if is_name(word) => Ok(Text::of(alloc, word)?),
+            Some(word) if is_name(word) => Ok(Name::of(alloc, word)?),
             _ => Err(LineFault::Invalid),
         }
     }

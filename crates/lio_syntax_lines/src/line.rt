@@ -1,12 +1,12 @@
 //! What the lines of a script say.
 use crate::{One, Two};
-use lio_values::{List, Plain, Text};
+use lio_values::{List, Plain, Name};
 
 /// What a statement works on.
 #[derive(Drop)]
 pub enum Operand {
     /// What the name is bound to.
-    Name(Text),
+    Name(Name),
     /// A whole, a text, a label, a flag or unit.
     Literal(Plain),
 }
@@ -14,20 +14,20 @@ pub enum Operand {
 /// A list of operands.
 pub type Operands = List<Operand>;
 
-/// A list of texts.
-pub type Texts = List<Text>;
+/// The parameters of a procedure.
+pub type Parameters = List<Name>;
 
 /// A statement that opens no block. Its parts stand in the order of its form.
 #[derive(Drop)]
 pub enum Simple {
     /// `let X = A`
-    Let(Text, Operand),
+    Let(Name, Operand),
     /// `let X = OP A`
-    LetOne(Text, One, Operand),
+    LetOne(Name, One, Operand),
     /// `let X = A OP A`
-    LetTwo(Text, Operand, Two, Operand),
+    LetTwo(Name, Operand, Two, Operand),
     /// `call X P A ..`
-    Call(Text, Text, Operands),
+    Call(Name, Name, Operands),
     /// `return A`
     Return(Operand),
     /// `stop`
@@ -35,35 +35,35 @@ pub enum Simple {
     /// `throw A`
     Throw(Operand),
     /// `label X L A`
-    Label(Text, Operand, Operand),
+    Label(Name, Operand, Operand),
     /// `unlabel X A`
-    Unlabel(Text, Operand),
+    Unlabel(Name, Operand),
     /// `taint L`
     Taint(Operand),
     /// `lower L`
     Lower(Operand),
     /// `relabel X A L P`
-    Relabel(Text, Operand, Operand, Operand),
+    Relabel(Name, Operand, Operand, Operand),
     /// `newref X L A`
-    NewRef(Text, Operand, Operand),
+    NewRef(Name, Operand, Operand),
     /// `newvar X L`
-    NewVar(Text, Operand),
+    NewVar(Name, Operand),
     /// `fullvar X L A`
-    FullVar(Text, Operand, Operand),
+    FullVar(Name, Operand, Operand),
     /// `read X R`
-    Read(Text, Operand),
+    Read(Name, Operand),
     /// `write R A`
     Write(Operand, Operand),
     /// `take X V`
-    Take(Text, Operand),
+    Take(Name, Operand),
     /// `put V A`
     Put(Operand, Operand),
     /// `fork X L T C P A ..`
-    Fork(Text, Operand, Operand, Operand, Text, Operands),
+    Fork(Name, Operand, Operand, Operand, Name, Operands),
     /// `spawn T C P A ..`
-    Spawn(Operand, Operand, Text, Operands),
+    Spawn(Operand, Operand, Name, Operands),
     /// `wait X R`
-    Wait(Text, Operand),
+    Wait(Name, Operand),
     /// `send C A`
     Send(Operand, Operand),
 }
@@ -72,7 +72,7 @@ pub enum Simple {
 #[derive(Drop)]
 pub enum Line {
     /// `proc P X ..`: a procedure begins, with these parameters.
-    Proc(Text, Texts),
+    Proc(Name, Parameters),
     /// `if A`
     If(Operand),
     /// `else`
@@ -82,7 +82,7 @@ pub enum Line {
     /// `try`
     Try,
     /// `catch X Y`
-    Catch(Text, Text),
+    Catch(Name, Name),
     /// `end`
     End,
     /// A statement that opens no block.

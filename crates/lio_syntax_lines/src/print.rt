@@ -16,7 +16,7 @@ ghost use Rattle.lio_syntax_lines.specs.Line.{IsLine};
 use crate::Keyword;
 use crate::line::{Line, Operand, Simple};
 use lio_clauses::{Names, NoMemory};
-use lio_values::Text;
+use lio_values::Name;
 
 /// Appends a first word.
 fn print_keyword(out: &mut Vec<u8>, keyword: Keyword) -> Result<(), NoMemory>
@@ -61,7 +61,7 @@ fn print_operands(out: &mut Vec<u8>, names: &Names, operands: &[Operand]) -> Res
 }
 
 /// Appends names, each behind a blank.
-fn print_names(out: &mut Vec<u8>, parameters: &[Text]) -> Result<(), NoMemory>
+fn print_names(out: &mut Vec<u8>, parameters: &[Name]) -> Result<(), NoMemory>
     ensures { OnOk result (out.new.items ≡ out.old.items ++ names_spaced parameters.now) }
 {
     for name in parameters {
@@ -103,7 +103,7 @@ fn print_two(
 }
 
 /// Appends `K X`.
-fn print_name(out: &mut Vec<u8>, keyword: Keyword, x: &Text) -> Result<(), NoMemory>
+fn print_name(out: &mut Vec<u8>, keyword: Keyword, x: &Name) -> Result<(), NoMemory>
     ensures { OnOk result (out.new.items ≡ out.old.items ++ (word_of keyword ++ spaced x.now)) }
 {
     print_keyword(out, keyword)?;
@@ -115,7 +115,7 @@ fn print_name_one(
     out: &mut Vec<u8>,
     names: &Names,
     keyword: Keyword,
-    x: &Text,
+    x: &Name,
     a: &Operand,
 ) -> Result<(), NoMemory>
     requires { IsOperand names.now a.now }
@@ -131,7 +131,7 @@ fn print_name_two(
     out: &mut Vec<u8>,
     names: &Names,
     keyword: Keyword,
-    x: &Text,
+    x: &Name,
     a: &Operand,
     b: &Operand,
 ) -> Result<(), NoMemory>
@@ -148,7 +148,7 @@ fn print_name_two(
 fn print_called(
     out: &mut Vec<u8>,
     names: &Names,
-    p: &Text,
+    p: &Name,
     arguments: &[Operand],
 ) -> Result<(), NoMemory>
     requires { All (IsOperand names.now) arguments.now }

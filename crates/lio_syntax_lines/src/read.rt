@@ -15,11 +15,11 @@ use crate::forms::{Words, read_operand};
 use crate::line::{Line, ParsedLine, Simple};
 use crate::{Keyword, One, Two, without_return};
 use lio_clauses::{Names, NoMemory, beside};
-use lio_values::Text;
+use lio_values::Name;
 use std::alloc::Global;
 
 /// `OP A`, behind `let X =`
-fn unary(alloc: Global, names: &Names, x: Text, op: &[u8], a: &[u8]) -> Result<Simple, LineFault>
+fn unary(alloc: Global, names: &Names, x: Name, op: &[u8], a: &[u8]) -> Result<Simple, LineFault>
     requires { IsName x }
     ensures ok { IfOk result (λ simple. spec.unary names.now x op.now a.now ≡ Some simple) }
     ensures sound { IfOk result (IsSimple names.now) }
@@ -38,7 +38,7 @@ fn unary(alloc: Global, names: &Names, x: Text, op: &[u8], a: &[u8]) -> Result<S
 fn binary(
     alloc: Global,
     names: &Names,
-    x: Text,
+    x: Name,
     a: &[u8],
     op: &[u8],
     b: &[u8],
@@ -59,7 +59,7 @@ fn binary(
 
 /// What stands behind `let X =`
 #[tactic(auto, unfolding(crate::specs::Forms::expression))]
-fn expression(alloc: Global, names: &Names, x: Text, words: &mut Words) -> Result<Simple, LineFault>
+fn expression(alloc: Global, names: &Names, x: Name, words: &mut Words) -> Result<Simple, LineFault>
     requires { IsName x }
     ensures ok { IfOk result (λ simple. spec.expression names.now x words.old ≡ Some simple) }
     ensures sound { IfOk result (IsSimple names.now) }

@@ -10,9 +10,9 @@ ghost use Rattle.lio_syntax_lines.specs.Simple.{IsSimple};
 use crate::fault::LineFault;
 use crate::forms::{Words, read_operand};
 use crate::is_name;
-use crate::line::{Operand, Operands, Texts};
+use crate::line::{Operand, Operands, Parameters};
 use lio_clauses::{Names, beside};
-use lio_values::{List, Text};
+use lio_values::{List, Name};
 use std::alloc::Global;
 
 /// The most parameters of a procedure.
@@ -71,7 +71,7 @@ impl<'a> Words<'a> {
         &mut self,
         alloc: Global,
         names: &Names,
-    ) -> Result<(Text, Operand), LineFault>
+    ) -> Result<(Name, Operand), LineFault>
         ensures ok { IfOk result (λ p. spec.name_one names.now self.old ≡ Some p) }
         ensures sound { IfOk result (λ p. IsName p.0 × IsOperand names.now p.1) }
         ensures invalid { IfErr result
@@ -88,7 +88,7 @@ impl<'a> Words<'a> {
         &mut self,
         alloc: Global,
         names: &Names,
-    ) -> Result<(Text, Operand, Operand), LineFault>
+    ) -> Result<(Name, Operand, Operand), LineFault>
         ensures ok { IfOk result (λ p. spec.name_two names.now self.old ≡ Some p) }
         ensures sound { IfOk result
             (λ p. IsName p.0 × IsOperand names.now p.1 × IsOperand names.now p.2) }
@@ -106,7 +106,7 @@ impl<'a> Words<'a> {
         &mut self,
         alloc: Global,
         names: &Names,
-    ) -> Result<(Text, Operand, Operand, Operand), LineFault>
+    ) -> Result<(Name, Operand, Operand, Operand), LineFault>
         ensures ok { IfOk result (λ p. spec.name_three names.now self.old ≡ Some p) }
         ensures sound { IfOk result (λ p. IsName p.0
             × IsOperand names.now p.1 × IsOperand names.now p.2 × IsOperand names.now p.3) }
@@ -120,7 +120,7 @@ impl<'a> Words<'a> {
 
     /// `X Y`
     #[tactic(auto, unfolding(crate::specs::Forms::two_names))]
-    pub(crate) fn two_names(&mut self, alloc: Global) -> Result<(Text, Text), LineFault>
+    pub(crate) fn two_names(&mut self, alloc: Global) -> Result<(Name, Name), LineFault>
         ensures ok { IfOk result (λ p. spec.two_names self.old ≡ Some p) }
         ensures sound { IfOk result (λ p. IsName p.0 × IsName p.1) }
         ensures invalid { IfErr result
@@ -147,7 +147,7 @@ impl<'a> Words<'a> {
     }
 
     /// Names up to the end.
-    pub(crate) fn names(&mut self, alloc: Global) -> Result<Texts, LineFault>
+    pub(crate) fn names(&mut self, alloc: Global) -> Result<Parameters, LineFault>
         ensures ok { IfOk result (λ parameters. spec.names_of self.old ≡ Some parameters) }
         ensures sound { IfOk result (All IsName) }
         ensures invalid { IfErr result
@@ -158,14 +158,14 @@ impl<'a> Words<'a> {
             if !is_name(word) {
                 return Err(LineFault::Invalid);
             }
-            names.push(Text::of(alloc, word)?)?;
+            names.push(Name::of(alloc, word)?)?;
         }
         Ok(names)
     }
 
     /// `P X ..`
     #[tactic(auto, unfolding(crate::specs::Forms::header))]
-    pub(crate) fn header(&mut self, alloc: Global) -> Result<(Text, Texts), LineFault>
+    pub(crate) fn header(&mut self, alloc: Global) -> Result<(Name, Parameters), LineFault>
         ensures ok { IfOk result (λ p. spec.header self.old ≡ Some p) }
         ensures sound { IfOk result (λ p. IsName p.0 × All IsName p.1 × (length p.1 ≤ 8)) }
         ensures invalid { IfErr result
@@ -186,7 +186,7 @@ impl<'a> Words<'a> {
         &mut self,
         alloc: Global,
         names: &Names,
-    ) -> Result<(Text, Operands), LineFault>
+    ) -> Result<(Name, Operands), LineFault>
         ensures ok { IfOk result (λ p. spec.called names.now self.old ≡ Some p) }
         ensures sound { IfOk result (λ p. IsName p.0 × All (IsOperand names.now) p.1) }
         ensures invalid { IfErr result
@@ -203,7 +203,7 @@ impl<'a> Words<'a> {
         &mut self,
         alloc: Global,
         names: &Names,
-    ) -> Result<(Text, Text, Operands), LineFault>
+    ) -> Result<(Name, Name, Operands), LineFault>
         ensures ok { IfOk result (λ p. spec.call names.now self.old ≡ Some p) }
         ensures sound { IfOk result (λ p. IsName p.0 × IsName p.1 × All (IsOperand names.now) p.2) }
         ensures invalid { IfErr result
@@ -220,7 +220,7 @@ impl<'a> Words<'a> {
         &mut self,
         alloc: Global,
         names: &Names,
-    ) -> Result<(Operand, Operand, Text, Operands), LineFault>
+    ) -> Result<(Operand, Operand, Name, Operands), LineFault>
         ensures ok { IfOk result (λ p. spec.spawn names.now self.old ≡ Some p) }
         ensures sound { IfOk result (λ p. IsOperand names.now p.0
             × IsOperand names.now p.1 × IsName p.2 × All (IsOperand names.now) p.3) }
@@ -239,7 +239,7 @@ impl<'a> Words<'a> {
         &mut self,
         alloc: Global,
         names: &Names,
-    ) -> Result<(Text, Operand, Operand, Operand, Text, Operands), LineFault>
+    ) -> Result<(Name, Operand, Operand, Operand, Name, Operands), LineFault>
         ensures ok { IfOk result (λ p. spec.fork names.now self.old ≡ Some p) }
         ensures sound { IfOk result
             (λ p. IsName p.0 × IsOperand names.now p.1 × IsOperand names.now p.2

@@ -10,7 +10,7 @@ use lio_clauses::NoMemory;
 use lio_labels::Label;
 use lio_syntax::Script;
 use lio_task_control::Environment;
-use lio_values::{Act, Content, Fault, Handle, Held, Plain, Reply, Text, Value};
+use lio_values::{Act, Content, Fault, Handle, Held, Name, Plain, Reply, Value};
 use std::alloc::Global;
 
 /// Done, or out of memory, after which all is as before.
@@ -46,7 +46,7 @@ impl Task {
 
     /// A name is bound to a value.
     #[inline(always)]
-    fn go_bind(&mut self, alloc: Global, script: &Script, name: &Text, value: Value) -> Done
+    fn go_bind(&mut self, alloc: Global, script: &Script, name: &Name, value: Value) -> Done
         requires { AtStatement (state_in script.now self.old).items }
         ensures ok { OnOk result (state_in script.now self.new
             ≡ going.binding (spent (state_in script.now self.old)) name.now value) }
@@ -62,7 +62,7 @@ impl Task {
         &mut self,
         alloc: Global,
         script: &Script,
-        name: &Text,
+        name: &Name,
         label: Label,
         plain: Plain,
     ) -> Done
@@ -88,7 +88,7 @@ impl Task {
     }
 
     /// Binds a name to what a task was given; a fault in it is thrown instead.
-    fn go_given(&mut self, alloc: Global, script: &Script, name: &Text, content: Content) -> Done
+    fn go_given(&mut self, alloc: Global, script: &Script, name: &Name, content: Content) -> Done
         requires { AtStatement (state_in script.now self.old).items }
         ensures ok { OnOk result (state_in script.now self.new
             ≡ going.given (spent (state_in script.now self.old)) name.now content) }
@@ -106,7 +106,7 @@ impl Task {
         &mut self,
         alloc: Global,
         script: &Script,
-        name: &Text,
+        name: &Name,
         environment: Environment,
         body: usize,
     ) -> Done
@@ -261,7 +261,7 @@ impl Task {
         &mut self,
         alloc: Global,
         script: &Script,
-        name: &Text,
+        name: &Name,
         handle: Plain,
         count: u32,
     ) -> Done
@@ -292,7 +292,7 @@ impl Task {
         &mut self,
         alloc: Global,
         script: &Script,
-        name: &Text,
+        name: &Name,
         handle: Plain,
         cells: u32,
         turns: u32,
@@ -328,7 +328,7 @@ impl Task {
         &mut self,
         alloc: Global,
         script: &Script,
-        name: &Text,
+        name: &Name,
         label: Label,
         content: Content,
     ) -> Done
@@ -344,7 +344,7 @@ impl Task {
     }
 
     /// A reply is given.
-    fn go_reply(&mut self, alloc: Global, script: &Script, name: &Text, reply: &Reply) -> Done
+    fn go_reply(&mut self, alloc: Global, script: &Script, name: &Name, reply: &Reply) -> Done
         requires { AtStatement (state_in script.now self.old).items }
         ensures ok { OnOk result (state_in script.now self.new
             ≡ going.replied (spent (state_in script.now self.old)) name.now reply.now) }
@@ -371,7 +371,7 @@ impl Task {
         &mut self,
         alloc: Global,
         script: &Script,
-        name: &Text,
+        name: &Name,
         label: Label,
         act: &Act,
     ) -> Done

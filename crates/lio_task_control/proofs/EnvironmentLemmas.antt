@@ -7,30 +7,31 @@ use Rattle.std.specs.declared.cmp.Ordering.TheVariants.{Less, Equal, Greater}
 use Rattle.std.proofs.Common.{◌≡◌, ℕ, zero, suc, ◌+◌, ◌<◌, ◌≤◌, Bool, true, false, List, [], ◌∷◌, ◌++◌, length, take, drop, get_or, refl, ap, sym, subst, ◌∙◌, arith, add-one, append_assoc, min}
 use Rattle.std.proofs.Math.Seq.{drop-cons, set_split}
 use Rattle.std.proofs.lemmas.List.{take_more}
+use Rattle.std.proofs.lemmas.Option.{none-some}
 use Rattle.std.proofs.lemmas.Grind.{common_steps}
 use Rattle.std.proofs.lemmas.Map.Text.{is_eq-slice_cmp}
 use Rattle.std.proofs.lemmas.Slice.Eq.{bytes_eq-Decides}
 use Rattle.lio_values.specs.declared.value.Value.{Value}
 use Rattle.lio_task_control.specs.Environment.{Environment, Binding, bind_before, bind, bind_all, value_of}
-use Rattle.lio_task_control.specs.Bound.{IsBoundAt, IsBoundBefore}
+use Rattle.lio_task_control.specs.Bound.{IsBoundBefore}
 
 pub drop_at : {X : Type 0} (xs : List X) (i : ℕ) (x : X) → i < length xs → x ≡ get_or xs i x → drop i xs ≡ x ∷ drop (i + 1) xs
 drop_at xs i x within is = drop-cons xs i x within ∙ ap (λ y. y ∷ drop (suc i) xs) (sym is) ∙ ap (λ (n : ℕ). x ∷ drop n xs) (sym (add-one i))
 
-get_or-other : {X : Type 0} (xs : List X) (i : ℕ) (d e : X) → i < length xs → get_or xs i d ≡ get_or xs i e
+pub get_or-other : {X : Type 0} (xs : List X) (i : ℕ) (d e : X) → i < length xs → get_or xs i d ≡ get_or xs i e
 get_or-other [] i d e within = absurd (omega arith)
 get_or-other (x ∷ xs) zero d e within = refl
 get_or-other (x ∷ xs) (suc i) d e within = get_or-other xs i d e (omega arith)
 
 -- names that compare as equal are the same
-same_name : (xs ys : List ℕ) → slice_cmp nat_cmp xs ys ≡ Equal → xs ≡ ys
+pub same_name : (xs ys : List ℕ) → slice_cmp nat_cmp xs ys ≡ Equal → xs ≡ ys
 same_name xs ys e = (bytes_eq-Decides xs ys).0 (sym (is_eq-slice_cmp xs ys) ∙ ap is_eq e)
 
 -- the name comes behind the bindings before a place
 abbrev pub ComesBehind : Environment → List ℕ → ℕ → Type 0
 ComesBehind environment name i = (value : Value) → bind environment name value ≡ take i environment ++ bind (drop i environment) name value
 
-bind-first : (first : Binding) (rest : Environment) (name : List ℕ) (value : Value) (o : Ordering) → slice_cmp nat_cmp name first.name ≡ o
+pub bind-first : (first : Binding) (rest : Environment) (name : List ℕ) (value : Value) (o : Ordering) → slice_cmp nat_cmp name first.name ≡ o
     → bind (first ∷ rest) name value ≡ bind_before o (record { name = name; value = value }) first rest (bind rest name value)
 unfolding bind
 bind-first first rest name value o e = ap (λ p. bind_before p (record { name = name; value = value }) first rest (bind rest name value)) e
@@ -55,17 +56,6 @@ bound_last environment name i n is same behind =
       within = omega arith;
       bound = λ value. behind value ∙ ap (λ e. take i environment ++ bind e name value) none ∙ ap (λ e. take i environment ++ record { name = name; value = value } ∷ e) (sym none);
     })
-
-pub bound_at : (environment : Environment) (name : List ℕ) (i : ℕ) (b : Binding) → i < length environment → b ≡ get_or environment i b → ComesBehind environment name i
-    → slice_cmp nat_cmp name b.name ≡ Equal → IsBoundAt environment name i
-bound_at environment name i b within is behind equal = record {
-  within = within;
-  bound = λ value.
-      let here = drop_at environment i b within is in
-      behind value ∙ ap (λ e. take i environment ++ bind e name value) here ∙ ap (λ e. take i environment ++ e) (bind-first b (drop (i + 1) environment) name value Equal equal)
-      ∙ ap (λ (n : ℕ). take i environment ++ record { name = name; value = value } ∷ drop n environment) (add-one i) ∙ sym (set_split environment i (record { name = name; value = value }) within);
-  same = λ d. ap (λ (x : Binding). x.name) (get_or-other environment i d b within ∙ sym is) ∙ sym (same_name name b.name equal);
-}
 
 pub comes_behind : (environment : Environment) (name : List ℕ) (i : ℕ) (b : Binding) → i < length environment → b ≡ get_or environment i b → ComesBehind environment name i
     → slice_cmp nat_cmp name b.name ≡ Greater → ComesBehind environment name (i + 1)
@@ -125,3 +115,21 @@ item_of environment items i b same is = is ∙ ap (λ e. get_or e i b) same
 
 pub tested : (x y name other : List ℕ) (b : Bool) → x ≡ name → y ≡ other → b ≡ bytes_eq x y → bytes_eq name other ≡ b
 tested x y name other b first second is = ap (λ n. bytes_eq n other) (sym first) ∙ ap (λ n. bytes_eq x n) (sym second) ∙ sym is
+
+-- what the first of bindings says of a name
+value_of-first : (first : Binding) (rest : Environment) (name : List ℕ) (t : Bool) → bytes_eq first.name name ≡ t → value_of (first ∷ rest) name ≡ (if t then Some first.value else value_of rest name)
+unfolding value_of
+value_of-first first rest name t is = ap (λ s. if s then Some first.value else value_of rest name) is
+
+value_of-rest : (first : Binding) (rest : Environment) (name : List ℕ) (t : Bool) → bytes_eq first.name name ≡ t → value_of (first ∷ rest) name ≡ None → value_of rest name ≡ None
+value_of-rest first rest name true is none = absurd (none-some first.value (sym none ∙ value_of-first first rest name true is))
+value_of-rest first rest name false is none = sym (value_of-first first rest name false is) ∙ none
+
+-- where a name isn't bound, no binding has it
+pub not_bound : (environment : Environment) (name : List ℕ) (i : ℕ) (b : Binding) → value_of environment name ≡ None → i < length environment → b ≡ get_or environment i b
+    → slice_cmp nat_cmp name b.name ≡ Equal → ⊥
+not_bound [] name i b none within is equal = absurd (omega (arith, within))
+not_bound (first ∷ rest) name zero b none within is equal =
+    let here : bytes_eq first.name name ≡ true = (bytes_eq-Decides first.name name).1 (sym (ap (λ (x : Binding). x.name) is) ∙ sym (same_name name b.name equal)) in
+    absurd (none-some first.value (sym none ∙ value_of-first first rest name true here))
+not_bound (first ∷ rest) name (suc i) b none within is equal = not_bound rest name i b (value_of-rest first rest name (bytes_eq first.name name) refl none) (omega (arith, within)) is equal

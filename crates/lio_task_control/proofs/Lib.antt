@@ -3,3 +3,4 @@ pub mod PartLemmas
 pub mod EnvironmentLemmas
 pub mod ContinuationLemmas
 pub mod HidingLemmas
+pub mod OrderLemmas

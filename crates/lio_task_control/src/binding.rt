@@ -3,13 +3,13 @@ ghost use Rattle.std.specs.Prelude.{◌≡◌, IfOk};
 
 use lio_clauses::NoMemory;
 use lio_labels::Label;
-use lio_values::{Text, Value};
+use lio_values::{Name, Value};
 use std::alloc::Global;
 
 /// A name with its value.
 #[derive(Drop)]
 pub struct Binding {
-    pub name: Text,
+    pub name: Name,
     pub value: Value,
 }
 

@@ -23,7 +23,7 @@ use crate::frame::{Call, Frame};
 use crate::part::Part;
 use lio_clauses::NoMemory;
 use lio_syntax::Script;
-use lio_values::{Fault, Held, Plain, Text, Value};
+use lio_values::{Fault, Held, Name, Plain, Value};
 use std::alloc::Global;
 use std::mem;
 
@@ -50,7 +50,7 @@ impl Continuation {
         &mut self,
         alloc: Global,
         script: &Script,
-        name: &Text,
+        name: &Name,
         value: Value,
     ) -> Result<(), NoMemory>
         requires { AtStatement (place_of (script_lines script.now) self.old).items }
@@ -122,7 +122,7 @@ impl Continuation {
         &mut self,
         alloc: Global,
         script: &Script,
-        name: &Text,
+        name: &Name,
         environment: Environment,
         body: usize,
     ) -> Result<(), NoMemory>

@@ -1,5 +1,5 @@
 //! What names are bound to.
-ghost use Rattle.std.specs.Prelude.{◌≡◌, [], length, IfOk, IsOk, OnOk, OnErr, MatchResult};
+ghost use Rattle.std.specs.Prelude.{◌≡◌, [], length, IfOk, IsOk, OnOk, OnErr, MatchOption, None};
 ghost use Rattle.std.specs.Option.{option_copied};
 ghost use Rattle.lio_task_control.specs.Environment.{bind, bind_all, value_of};
 ghost use Rattle.lio_task_control.specs.Bound.{IsBoundAt, IsBoundBefore};
@@ -8,7 +8,7 @@ ghost use Rattle.lio_task_control.specs.Hiding.{hide_environment};
 use crate::binding::Binding;
 use lio_clauses::{NoMemory, assign, beside};
 use lio_labels::Label;
-use lio_values::{Text, Value};
+use lio_values::{Name, Value};
 use std::alloc::Global;
 use std::cmp::Ordering;
 use std::marker::Model;
@@ -22,10 +22,13 @@ pub struct Environment {
 impl Model for Environment {
     ghost use Rattle.std.specs.Prelude.{List};
     ghost use Rattle.lio_task_control.specs.declared.binding.Binding.{Binding};
+    ghost use Rattle.lio_task_control.specs.Bound.{AreInOrder};
 
     ghost Value = { List Binding };
 
     ghost view = { λ environment. environment.bindings.items };
+
+    ghost invariant = { λ environment. AreInOrder environment.bindings.items };
 }
 
 impl Environment {
@@ -40,7 +43,7 @@ impl Environment {
 
     /// The names bound to the values, as a procedure's parameters to its arguments: the later over
     /// the earlier.
-    pub fn of(alloc: Global, names: &[Text], values: &[Value]) -> Result<Environment, NoMemory>
+    pub fn of(alloc: Global, names: &[Name], values: &[Value]) -> Result<Environment, NoMemory>
         ensures { IfOk result (λ environment. environment ≡ bind_all [] names.now values.now) }
     {
         let mut environment = Environment::new(alloc);
@@ -51,58 +54,117 @@ impl Environment {
     }
 
     /// What a name is bound to.
-    pub fn get(&self, name: &Text) -> Option<&Value>
+    #[inline(always)]
+    pub fn get(&self, name: &Name) -> Option<&Value>
         ensures { option_copied result ≡ value_of self.now name.now }
     {
-        for binding in &self.bindings {
-            if binding.name.bytes() == name.bytes() {
-                return Some(&binding.value);
+        match self.place_of(name) {
+            Some(place) => Some(&self.bindings[place].value),
+            None => None,
+        }
+    }
+
+    /// Binds a name to a value, and leaves each other name as it is. Where the name is bound
+    /// already its value is replaced in place, and no memory is taken.
+    pub fn bind(&mut self, alloc: Global, name: &Name, value: Value) -> Result<(), NoMemory>
+        ensures ok { OnOk result (self.new ≡ bind self.old name.now value) }
+        ensures err { OnErr result (self.new ≡ self.old) }
+        ensures in_place { length (bind self.old name.now value) ≡ length self.old → IsOk result }
+    {
+        match self.place_of(name) {
+            Some(place) => {
+                assign(&mut self.bindings[place].value, value);
+                Ok(())
+            }
+            None => self.add(alloc, name, value),
+        }
+    }
+
+    /// Binds a name that isn't bound.
+    fn add(&mut self, alloc: Global, name: &Name, value: Value) -> Result<(), NoMemory>
+        requires { value_of self.old name.now ≡ None }
+        ensures ok { OnOk result (self.new ≡ bind self.old name.now value) }
+        ensures err { OnErr result (self.new ≡ self.old) }
+        ensures in_place { length (bind self.old name.now value) ≡ length self.old → IsOk result }
+    {
+        let place = self.place_before(name);
+        let (value, name) = beside(value, name.copy(alloc))?;
+        Ok(self.bindings.insert(place, Binding { name, value })?)
+    }
+
+    /// Where a name is bound, if it is. It is looked for first at the place that its rank is.
+    #[inline(always)]
+    fn place_of(&self, name: &Name) -> Option<usize>
+        ensures { MatchOption result
+            (value_of self.now name.now ≡ None) (IsBoundAt self.now name.now) }
+    {
+        let rank = name.rank();
+        if rank < self.bindings.len() && self.bindings[rank].name.is(name) {
+            Some(rank)
+        } else {
+            self.search(name)
+        }
+    }
+
+    /// Where a name is bound, if it is, by a look at each.
+    #[inline(never)]
+    fn search(&self, name: &Name) -> Option<usize>
+        ensures { MatchOption result
+            (value_of self.now name.now ≡ None) (IsBoundAt self.now name.now) }
+    {
+        for (place, binding) in self.bindings.iter().enumerate() {
+            if binding.name.is(name) {
+                return Some(place);
             }
         }
         None
     }
 
-    /// Binds a name to a value, and leaves each other name as it is. Where the name is bound
-    /// already its value is replaced in place, and no memory is taken.
-    pub fn bind(&mut self, alloc: Global, name: &Text, value: Value) -> Result<(), NoMemory>
-        ensures ok { OnOk result (self.new ≡ bind self.old name.now value) }
-        ensures err { OnErr result (self.new ≡ self.old) }
-        ensures in_place { length (bind self.old name.now value) ≡ length self.old → IsOk result }
-    {
-        match self.place_for(name) {
-            Ok(at) => {
-                assign(&mut self.bindings[at].value, value);
-                Ok(())
-            }
-            Err(at) => {
-                let (value, name) = beside(value, name.copy(alloc))?;
-                Ok(self.bindings.insert(at, Binding { name, value })?)
-            }
-        }
-    }
-
-    /// Where a name is bound, or else where it is to be.
-    fn place_for(&self, name: &Text) -> Result<usize, usize>
-        ensures { MatchResult result
-            (IsBoundAt self.now name.now) (IsBoundBefore self.now name.now) }
+    /// Where a name that isn't bound is to be.
+    fn place_before(&self, name: &Name) -> usize
+        requires { value_of self.now name.now ≡ None }
+        ensures { IsBoundBefore self.now name.now result }
     {
         for (i, binding) in self.bindings.iter().enumerate() {
             match name.bytes().cmp(binding.name.bytes()) {
-                Ordering::Less => return Err(i),
-                Ordering::Equal => return Ok(i),
+                Ordering::Less => return i,
+                Ordering::Equal => unreachable!(),
                 Ordering::Greater => {}
             }
         }
-        Err(self.bindings.len())
+        self.bindings.len()
     }
 
     /// Binds two names, one after the other, or neither.
     pub(crate) fn bind_two(
         &mut self,
         alloc: Global,
-        first: &Text,
+        first: &Name,
         value: Value,
-        second: &Text,
+        second: &Name,
+        other: Value,
+    ) -> Result<(), NoMemory>
+        ensures ok { OnOk result (self.new
+            ≡ bind (bind self.old first.now value) second.now other) }
+        ensures err { OnErr result (self.new ≡ self.old) }
+    {
+        match (self.place_of(first), self.place_of(second)) {
+            (Some(place), Some(behind)) => {
+                assign(&mut self.bindings[place].value, value);
+                assign(&mut self.bindings[behind].value, other);
+                Ok(())
+            }
+            _ => self.bind_two_in_copy(alloc, first, value, second, other),
+        }
+    }
+
+    /// Binds two names, one after the other, in a copy that takes its place.
+    fn bind_two_in_copy(
+        &mut self,
+        alloc: Global,
+        first: &Name,
+        value: Value,
+        second: &Name,
         other: Value,
     ) -> Result<(), NoMemory>
         ensures ok { OnOk result (self.new
@@ -116,7 +178,7 @@ impl Environment {
     }
 
     /// A copy in which a name is bound to a value.
-    fn binding(&self, alloc: Global, name: &Text, value: Value) -> Result<Environment, NoMemory>
+    fn binding(&self, alloc: Global, name: &Name, value: Value) -> Result<Environment, NoMemory>
         ensures { IfOk result (λ environment. environment ≡ bind self.now name.now value) }
     {
         let (value, mut environment) = beside(value, self.copy(alloc))?;

@@ -19,7 +19,7 @@ use crate::part::{Left, Part};
 use lio_clauses::NoMemory;
 use lio_labels::Label;
 use lio_syntax::Script;
-use lio_values::{Fault, Plain, Text, Value};
+use lio_values::{Fault, Name, Plain, Value};
 use std::alloc::Global;
 
 /// What a procedure's names are bound to, and the parts of what it still has to do, the top part
@@ -34,7 +34,7 @@ pub(crate) struct Frame {
 #[derive(Drop)]
 pub(crate) struct Call {
     pub(crate) caller: Frame,
-    pub(crate) name: Text,
+    pub(crate) name: Name,
 }
 
 impl Frame {

@@ -13,7 +13,7 @@ use crate::places::{line_at, next_place, statement_at};
 use lio_clauses::NoMemory;
 use lio_syntax::Script;
 use lio_syntax_lines::Line;
-use lio_values::{Fault, Held, Text};
+use lio_values::{Fault, Held, Name};
 use std::alloc::Global;
 
 /// A part of what a procedure still has to do. A place is the number of a line, from 0.
@@ -43,8 +43,8 @@ pub(crate) enum Left {
 /// A handler: the names that it binds, and the place at which it begins.
 #[derive(Drop)]
 pub(crate) struct Handler<'s> {
-    pub(crate) code: &'s Text,
-    pub(crate) payload: &'s Text,
+    pub(crate) code: &'s Name,
+    pub(crate) payload: &'s Name,
     pub(crate) at: usize,
 }
 

@@ -27,7 +27,7 @@ use lio_operators::{OpFault, operate_plains, operate1};
 use lio_syntax::Script;
 use lio_syntax_lines::{One, Operand, Operands, Two};
 use lio_task_turns::{Attempt, Onward, Procedure, Standing, Turn, operands};
-use lio_values::{Act, Content, FaultKind, Held, Plain, Reply, Text, Value, Values};
+use lio_values::{Act, Content, FaultKind, Held, Name, Plain, Reply, Value, Values};
 use std::alloc::Global;
 
 /// The most calls that a task has open.
@@ -38,7 +38,7 @@ const MOST_CALLS: usize = 64;
 pub(crate) fn plan_let<'s>(
     alloc: Global,
     task: &Standing<'_>,
-    name: &'s Text,
+    name: &'s Name,
     value: &Operand,
 ) -> Attempt<'s>
     ensures { IfOk result (Plans task.now (line.Let name.now value.now)) }
@@ -56,7 +56,7 @@ pub(crate) fn plan_let_one<'s>(
     task: &Standing<'_>,
     script: &Script,
     longest: u32,
-    name: &'s Text,
+    name: &'s Name,
     op: One,
     value: &Operand,
 ) -> Attempt<'s>
@@ -75,7 +75,7 @@ fn let_one<'s>(
     alloc: Global,
     task: &Standing<'_>,
     longest: u32,
-    name: &'s Text,
+    name: &'s Name,
     op: One,
     seen: Option<&Value>,
 ) -> Attempt<'s>
@@ -94,7 +94,7 @@ pub(crate) fn plan_let_two<'s>(
     task: &Standing<'_>,
     script: &Script,
     longest: u32,
-    name: &'s Text,
+    name: &'s Name,
     left: &Operand,
     op: Two,
     right: &Operand,
@@ -122,7 +122,7 @@ pub(crate) fn plan_let_two<'s>(
 fn computed<'s>(
     alloc: Global,
     task: &Standing<'_>,
-    name: &'s Text,
+    name: &'s Name,
     made: Result<Value, OpFault>,
 ) -> Attempt<'s>
     ensures { IfOk result (λ planned. (answer : Result Value FaultKind)
@@ -140,8 +140,8 @@ pub(crate) fn plan_call<'s>(
     alloc: Global,
     task: &Standing<'_>,
     script: &Script,
-    name: &'s Text,
-    procedure: &Text,
+    name: &'s Name,
+    procedure: &Name,
     arguments: &Operands,
 ) -> Attempt<'s>
     ensures { IfOk result (λ turn. (longest : ℕ) → PlansBy (program_of script.now longest) task.now
@@ -161,7 +161,7 @@ fn calling<'s>(
     alloc: Global,
     task: &Standing<'_>,
     script: &Script,
-    name: &'s Text,
+    name: &'s Name,
     values: &Values,
     procedure: Procedure,
 ) -> Attempt<'s>

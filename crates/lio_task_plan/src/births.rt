@@ -17,7 +17,7 @@ use lio_labels::Label;
 use lio_syntax::Script;
 use lio_syntax_lines::{Operand, Operands};
 use lio_task_turns::{Attempt, Onward, Standing, both, operands};
-use lio_values::{Act, Birth, FaultKind, Held, Op, Text, Values};
+use lio_values::{Act, Birth, FaultKind, Held, Name, Op, Values};
 use std::alloc::Global;
 
 /// `fork X L T C P A ..`
@@ -25,11 +25,11 @@ pub fn plan_fork<'s>(
     alloc: Global,
     task: &Standing<'_>,
     script: &Script,
-    name: &'s Text,
+    name: &'s Name,
     label: &Operand,
     turns: &Operand,
     cells: &Operand,
-    procedure: &Text,
+    procedure: &Name,
     arguments: &Operands,
 ) -> Attempt<'s>
     ensures { IfOk result (λ turn. (longest : ℕ) → PlansBy (program_of script.now longest) task.now
@@ -68,7 +68,7 @@ pub fn plan_fork<'s>(
 fn forking<'s>(
     alloc: Global,
     task: &Standing<'_>,
-    name: &'s Text,
+    name: &'s Name,
     label: &Label,
     turns: u32,
     cells: u32,
@@ -127,7 +127,7 @@ pub fn plan_spawn<'s>(
     script: &Script,
     turns: &Operand,
     cells: &Operand,
-    procedure: &Text,
+    procedure: &Name,
     arguments: &Operands,
 ) -> Attempt<'s>
     ensures { IfOk result (λ turn. (longest : ℕ) → PlansBy (program_of script.now longest) task.now

@@ -15,14 +15,14 @@ use lio_guards::Verdict;
 use lio_labels::Label;
 use lio_syntax_lines::Operand;
 use lio_task_turns::{Attempt, Onward, Standing, Target, Turn, both, operands};
-use lio_values::{Act, FaultKind, Handle, Held, Op, Reply, Text, Value};
+use lio_values::{Act, FaultKind, Handle, Held, Name, Op, Reply, Text, Value};
 use std::alloc::Global;
 
 /// `newref X L A`
 pub fn plan_newref<'s>(
     alloc: Global,
     task: &Standing<'_>,
-    name: &'s Text,
+    name: &'s Name,
     label: &Operand,
     value: &Operand,
 ) -> Attempt<'s>
@@ -43,7 +43,7 @@ pub fn plan_newref<'s>(
 fn new_reference<'s>(
     alloc: Global,
     task: &Standing<'_>,
-    name: &'s Text,
+    name: &'s Name,
     label: &Label,
     value: Value,
 ) -> Attempt<'s>
@@ -111,7 +111,7 @@ fn guarded_node<'s>(
 pub fn plan_newvar<'s>(
     alloc: Global,
     task: &Standing<'_>,
-    name: &'s Text,
+    name: &'s Name,
     label: &Operand,
 ) -> Attempt<'s>
     ensures { IfOk result (Plans task.now (line.NewVar name.now label.now)) }
@@ -126,7 +126,7 @@ pub fn plan_newvar<'s>(
 pub fn plan_fullvar<'s>(
     alloc: Global,
     task: &Standing<'_>,
-    name: &'s Text,
+    name: &'s Name,
     label: &Operand,
     value: &Operand,
 ) -> Attempt<'s>
@@ -147,7 +147,7 @@ pub fn plan_fullvar<'s>(
 fn new_variable<'s>(
     alloc: Global,
     task: &Standing<'_>,
-    name: &'s Text,
+    name: &'s Name,
     label: &Label,
     value: Option<Value>,
 ) -> Attempt<'s>
@@ -189,7 +189,7 @@ fn raise_turn<'s>(alloc: Global, op: Op, label: &Label, current: Label) -> Attem
 pub fn plan_read<'s>(
     alloc: Global,
     task: &Standing<'_>,
-    name: &Text,
+    name: &Name,
     reference: &Operand,
 ) -> Attempt<'s>
     ensures { IfOk result (Plans task.now (line.Read name.now reference.now)) }
@@ -237,7 +237,7 @@ fn writing<'s>(alloc: Global, task: &Standing<'_>, handle: &Handle, value: Value
 pub fn plan_take<'s>(
     alloc: Global,
     task: &Standing<'_>,
-    name: &Text,
+    name: &Name,
     variable: &Operand,
 ) -> Attempt<'s>
     ensures { IfOk result (Plans task.now (line.Take name.now variable.now)) }
@@ -271,7 +271,7 @@ pub fn plan_put<'s>(
 pub fn plan_wait<'s>(
     alloc: Global,
     task: &Standing<'_>,
-    name: &'s Text,
+    name: &'s Name,
     result_handle: &Operand,
 ) -> Attempt<'s>
     ensures { IfOk result (Plans task.now (line.Wait name.now result_handle.now)) }

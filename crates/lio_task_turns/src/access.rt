@@ -12,7 +12,7 @@ use crate::operands;
 use crate::standing::Standing;
 use crate::turn::{Attempt, Onward, Target, Turn};
 use lio_syntax_lines::{Operand, Simple};
-use lio_values::{Act, Handle, Held, Text, Value};
+use lio_values::{Act, Handle, Held, Name, Value};
 use std::alloc::Global;
 
 impl Standing<'_> {
@@ -34,7 +34,7 @@ impl Standing<'_> {
     }
 
     /// The access of `read X R`
-    fn access_read<'s>(&self, alloc: Global, name: &'s Text, reference: &Operand) -> Attempt<'s>
+    fn access_read<'s>(&self, alloc: Global, name: &'s Name, reference: &Operand) -> Attempt<'s>
         ensures { IfOk result (PlansAccess self.now (line.Read name.now reference.now)) }
     {
         let Some(handle) = operands::reference(self.environment(), reference) else {
@@ -49,7 +49,7 @@ impl Standing<'_> {
     }
 
     /// The access of `take X V`
-    fn access_take<'s>(&self, alloc: Global, name: &'s Text, variable: &Operand) -> Attempt<'s>
+    fn access_take<'s>(&self, alloc: Global, name: &'s Name, variable: &Operand) -> Attempt<'s>
         ensures { IfOk result (PlansAccess self.now (line.Take name.now variable.now)) }
     {
         let Some(handle) = operands::variable(self.environment(), variable) else {
@@ -75,7 +75,7 @@ impl Standing<'_> {
     }
 
     /// The access of `wait X R`
-    fn access_wait<'s>(&self, alloc: Global, name: &'s Text, task_result: &Operand) -> Attempt<'s>
+    fn access_wait<'s>(&self, alloc: Global, name: &'s Name, task_result: &Operand) -> Attempt<'s>
         ensures { IfOk result (PlansAccess self.now (line.Wait name.now task_result.now)) }
     {
         let Some(handle) = operands::task_result(self.environment(), task_result) else {

@@ -17,7 +17,7 @@ use lio_clauses::{NoMemory, beside};
 use lio_guards::{Verdict, guard_relabel};
 use lio_labels::{Label, Priv};
 use lio_syntax_lines::Operand;
-use lio_values::{Act, Content, FaultKind, Held, Op, Plain, Reply, Text};
+use lio_values::{Act, Content, FaultKind, Held, Name, Op, Plain, Reply};
 use std::alloc::Global;
 
 impl Standing<'_> {
@@ -35,7 +35,7 @@ impl Standing<'_> {
     pub fn plan_label<'s>(
         &self,
         alloc: Global,
-        name: &'s Text,
+        name: &'s Name,
         label: &Operand,
         value: &Operand,
     ) -> Attempt<'s>
@@ -55,7 +55,7 @@ impl Standing<'_> {
     fn sealing<'s>(
         &self,
         alloc: Global,
-        name: &'s Text,
+        name: &'s Name,
         label: &Label,
         plain: &Plain,
     ) -> Attempt<'s>
@@ -68,7 +68,7 @@ impl Standing<'_> {
     }
 
     /// `unlabel X A`
-    pub fn plan_unlabel<'s>(&self, alloc: Global, name: &'s Text, value: &Operand) -> Attempt<'s>
+    pub fn plan_unlabel<'s>(&self, alloc: Global, name: &'s Name, value: &Operand) -> Attempt<'s>
         ensures { IfOk result (Plans self.now (line.Unlabel name.now value.now)) }
     {
         match operands::sealed(self.environment(), value) {
@@ -81,7 +81,7 @@ impl Standing<'_> {
     fn unlabelling<'s>(
         &self,
         alloc: Global,
-        name: &'s Text,
+        name: &'s Name,
         label: &Label,
         content: &Content,
     ) -> Attempt<'s>
@@ -154,7 +154,7 @@ impl Standing<'_> {
     pub fn plan_relabel<'s>(
         &self,
         alloc: Global,
-        name: &'s Text,
+        name: &'s Name,
         value: &Operand,
         label: &Operand,
         power: &Operand,
@@ -179,7 +179,7 @@ impl Standing<'_> {
     fn releasing<'s>(
         &self,
         alloc: Global,
-        name: &'s Text,
+        name: &'s Name,
         source: &Label,
         content: &Content,
         target: &Label,
@@ -213,7 +213,7 @@ impl Standing<'_> {
 }
 
 /// The turn that seals a plain value.
-fn seal_turn<'s>(alloc: Global, name: &'s Text, label: &Label, plain: &Plain) -> Attempt<'s>
+fn seal_turn<'s>(alloc: Global, name: &'s Name, label: &Label, plain: &Plain) -> Attempt<'s>
     ensures { IfOk result (λ made. made
         ≡ turn.Own (act.Seal label.now) reply.Done (onward.Seal name.entry label.now plain.now)) }
 {
@@ -257,7 +257,7 @@ fn lower_turn<'s>(alloc: Global, label: &Label) -> Attempt<'s>
 /// The turn that opens a sealed value, at this current label.
 fn unlabel_turn<'s>(
     alloc: Global,
-    name: &'s Text,
+    name: &'s Name,
     label: &Label,
     content: &Content,
     current: Label,
@@ -302,7 +302,7 @@ fn held_content(alloc: Global, content: &Content) -> Result<Held<Content>, NoMem
 /// The turn that releases a content.
 fn release_turn<'s>(
     alloc: Global,
-    name: &'s Text,
+    name: &'s Name,
     source: &Label,
     content: &Content,
     target: &Label,

@@ -6,22 +6,22 @@ ghost use Rattle.lio_task_turns.specs.Procedure.{IsNamed, IsNumbered};
 
 use lio_clauses::NoMemory;
 use lio_syntax::Script;
-use lio_syntax_lines::{Line, Texts};
+use lio_syntax_lines::{Line, Parameters};
 use lio_task_control::Environment;
-use lio_values::{Text, Values};
+use lio_values::{Name, Values};
 use std::alloc::Global;
 
 /// A procedure of a script: its number, its parameters, and the place at which its body begins.
 #[derive(Drop)]
 pub struct Procedure<'s> {
     pub number: u32,
-    pub parameters: &'s Texts,
+    pub parameters: &'s Parameters,
     pub body: usize,
 }
 
 impl<'s> Procedure<'s> {
     /// The first with this name.
-    pub fn find(script: &'s Script, name: &Text) -> Option<Procedure<'s>>
+    pub fn find(script: &'s Script, name: &Name) -> Option<Procedure<'s>>
         ensures { MatchOption result (number_of script.now name.now ≡ None) (λ procedure. IsNamed
             script.now name.now procedure.number procedure.parameters.now procedure.body) }
     {

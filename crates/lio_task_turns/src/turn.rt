@@ -2,7 +2,7 @@
 use lio_clauses::NoMemory;
 use lio_labels::Label;
 use lio_task_control::Environment;
-use lio_values::{Act, Content, Fault, Handle, Held, Plain, Reply, Text, Value};
+use lio_values::{Act, Content, Fault, Handle, Held, Name, Plain, Reply, Value};
 
 /// The turn of a statement that opens no block, or of its access.
 #[derive(Drop)]
@@ -34,12 +34,12 @@ pub enum Onward<'s> {
     /// With what comes next.
     Advance,
     /// The name is bound to the value.
-    Bind(&'s Text, Value),
+    Bind(&'s Name, Value),
     /// The name is bound to the plain value, sealed under the label.
-    Seal(&'s Text, Label, Held<Plain>),
+    Seal(&'s Name, Label, Held<Plain>),
     /// With the body of a procedure, which begins at a place, in this environment; the name is
     /// bound to what it returns.
-    Call(&'s Text, Environment, usize),
+    Call(&'s Name, Environment, usize),
     /// With the caller, to which the value is returned.
     Return(Value),
     /// At the raised label.
@@ -48,22 +48,22 @@ pub enum Onward<'s> {
     RaiseTo(Label),
     /// At the first label, with the content, which was sealed under the second, bound to the name,
     /// or thrown.
-    Unlabel(&'s Text, Label, Held<Label>, Held<Content>),
+    Unlabel(&'s Name, Label, Held<Label>, Held<Content>),
     /// With the lower clearance.
     Lower(Label),
     /// The name is bound to the content that was released, sealed under the label.
-    Release(&'s Text, Label),
+    Release(&'s Name, Label),
     /// The name is bound to the handle of the new reference.
-    HoldReference(&'s Text, Label),
+    HoldReference(&'s Name, Label),
     /// The name is bound to the handle of the new variable.
-    HoldVariable(&'s Text, Label),
+    HoldVariable(&'s Name, Label),
     /// The name is bound to the handle of the child's result; that many more numbers and that many
     /// turns went to the child.
-    Fork(&'s Text, Label, u32, u32),
+    Fork(&'s Name, Label, u32, u32),
     /// That many more numbers and that many turns went to the child.
     Spawn(u32, u32),
     /// The name is bound to what was got or told, or the fault that was told is thrown.
-    BindReply(&'s Text),
+    BindReply(&'s Name),
     /// With the nearest handler of the fault.
     Throw(Held<Fault>),
     /// Not at all.

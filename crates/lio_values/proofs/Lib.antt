@@ -2,3 +2,4 @@ pub mod ErasureLemmas
 pub mod DerivedEquality
 pub mod EqualityLemmas
 pub mod AllLaws
+pub mod NameLemmas

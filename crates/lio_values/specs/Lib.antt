@@ -3,3 +3,4 @@ pub mod Laws
 pub mod Equality
 pub mod Quoted
 pub mod PlainText
+pub mod Names

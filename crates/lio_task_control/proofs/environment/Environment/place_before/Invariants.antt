@@ -1,7 +1,7 @@
 use Rattle.std.proofs.Common.{◌≡◌, ◌++◌, take, drop}
 use Rattle.lio_values.specs.declared.value.Value.{Value}
 use Rattle.lio_task_control.specs.Environment.{bind}
-use Rattle.lio_task_control.proofs.environment.Environment.place_for.Given as goal
+use Rattle.lio_task_control.proofs.environment.Environment.place_before.Given as goal
 
 -- the name comes behind the bindings before the place
 abbrev pub invariant-loop-i : goal.invariant-loop-i
