@@ -1,3 +1,4 @@
+pub mod Pieces
 pub mod State
 pub mod Room
 pub mod Node

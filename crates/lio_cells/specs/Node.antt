@@ -1,5 +1,5 @@
 -- A node as contracts see it.
-use Rattle.std.specs.Prelude.{◌≡◌, ◌≤◌, ℕ, Bool, ◌||◌, List, length, take}
+use Rattle.std.specs.Prelude.{Bool, ◌||◌}
 use Rattle.lio_values.specs.declared.act.Act.{Act}
 use Rattle.lio_cells.specs.declared.state.State.{State}
 use Rattle.lio_cells.specs.declared.room.Room.{Room}
@@ -18,8 +18,3 @@ node_of state = record { state = state; room = Nothing }
 -- whether an act may change a node: the node is ready for it, or is the actor's own
 abbrev pub takes_part : State → Act → Bool
 takes_part state act = ready state act || is_job state
-
--- the first bytes of a list
-pub record Begins (first bytes : List ℕ) : Type 0 where
-  pub within : length first ≤ length bytes
-  pub same : take (length first) bytes ≡ first

@@ -1,5 +1,5 @@
 -- What a node keeps ready for an act, so that the act itself takes no memory: what it will put into the node's state.
-use Rattle.std.specs.Prelude.{ℕ, List, [], ◌++◌, Some, None, if◌then◌else◌}
+use Rattle.std.specs.Prelude.{ℕ, List, ◌++◌, Some, None, if◌then◌else◌}
 use Rattle.lio_values.specs.declared.act.Act.{Act}
 use Rattle.lio_values.specs.declared.act.Act.TheVariants as act
 use Rattle.lio_cells.specs.declared.state.State.{State}
@@ -7,14 +7,6 @@ use Rattle.lio_cells.specs.declared.state.State.TheVariants.{Absent, Ref, Var, C
 use Rattle.lio_cells.specs.declared.room.Room.{Room}
 use Rattle.lio_cells.specs.declared.room.Room.TheVariants.{Nothing, Empties, Holds, Receives, Becomes, Ends}
 use Rattle.lio_cells.specs.State.{is_absent, is_reference, is_variable, is_job, written, filled, ended}
-
--- the bytes of a channel, of which another node has none
-abbrev pub bytes_of : State → List ℕ
-bytes_of (Chan label bytes) = bytes
-bytes_of Absent = []
-bytes_of (Ref label value) = []
-bytes_of (Var label value) = []
-bytes_of (Job label result) = []
 
 -- a channel will have received these bytes too
 abbrev pub room_to_send : State → List ℕ → Room
@@ -59,19 +51,3 @@ state_with state (Holds value) = filled (written state value) (Some value)
 state_with state (Receives bytes) = with_bytes state bytes
 state_with state (Becomes new) = new
 state_with state (Ends content) = ended state content
-
--- the bytes that a node leaves over when it receives: what a channel had received before, and else what was left over earlier
-abbrev pub left_by : State → List ℕ → List ℕ
-left_by (Chan label before) spare = before
-left_by Absent spare = spare
-left_by (Ref label value) spare = spare
-left_by (Var label value) spare = spare
-left_by (Job label result) spare = spare
-
-abbrev pub left_with : State → Room → List ℕ → List ℕ
-left_with state (Receives bytes) spare = left_by state spare
-left_with state Nothing spare = spare
-left_with state Empties spare = spare
-left_with state (Holds value) spare = spare
-left_with state (Becomes new) spare = spare
-left_with state (Ends content) spare = spare

@@ -2,6 +2,7 @@
 //! them. Source: the concurrent calculus of LIO, ICFP 2012.
 #![tactic(auto)]
 
+mod bytes;
 mod node;
 mod ready;
 mod reply;
@@ -11,6 +12,7 @@ mod served;
 mod state;
 mod wish;
 
+pub use bytes::Bytes;
 pub use node::Node;
 pub use state::State;
 pub use wish::Wish;

@@ -8,8 +8,8 @@ use crate::room::Room;
 use crate::state::State;
 use crate::wish::Wish;
 use crate::{ready, reply, reserve, served};
-use lio_clauses::{NoMemory, assign, beside};
-use lio_values::{Act, Reply, Text};
+use lio_clauses::{NoMemory, assign};
+use lio_values::{Act, Reply};
 use std::alloc::Global;
 use std::marker::Model;
 use std::mem;
@@ -19,40 +19,32 @@ use std::mem;
 pub struct Node {
     state: State,
     room: Room,
-    // First bytes of what a channel has received, in a text of their own, which the next bytes are
-    // put after.
-    spare: Text,
 }
 
 impl Model for Node {
-    ghost use Rattle.lio_cells.specs.Node.{Begins, NodeState};
-    ghost use Rattle.lio_cells.specs.Room.{bytes_of};
+    ghost use Rattle.lio_cells.specs.Node.{NodeState};
 
     ghost Value = { NodeState };
 
     ghost view = { λ n. record { state = n.state; room = n.room } };
-
-    ghost invariant = { λ n. Begins n.spare (bytes_of n.state) };
 }
 
 impl Node {
     /// A node of this state, which keeps nothing ready.
-    pub fn of(alloc: Global, state: State) -> Result<Node, NoMemory>
-        ensures { IfOk result (λ node. node ≡ node_of state) }
+    pub fn of(state: State) -> Node
+        ensures { result ≡ node_of state }
     {
-        let (state, spare) = beside(state, Text::of(alloc, b""))?;
-        Ok(Node {
+        Node {
             state,
             room: Room::Nothing,
-            spare,
-        })
+        }
     }
 
     /// A node of an equal state, which keeps nothing ready.
     pub fn copy(&self, alloc: Global) -> Result<Node, NoMemory>
         ensures { IfOk result (λ node. node ≡ node_of self.now.state) }
     {
-        Node::of(alloc, self.state.copy(alloc)?)
+        Ok(Node::of(self.state.copy(alloc)?))
     }
 
     /// What it holds.
@@ -92,7 +84,7 @@ impl Node {
         ensures err { OnErr result (self.new ≡ node_of self.old.state) }
     {
         assign(&mut self.room, Room::Nothing);
-        match reserve::room_for(alloc, &self.state, &mut self.spare, act)? {
+        match reserve::room_for(alloc, &self.state, act)? {
             Room::Nothing => {}
             room => assign(&mut self.room, room),
         }
@@ -106,6 +98,6 @@ impl Node {
         ensures { self.new ≡ node_of (state_after self.old.state act.now) }
     {
         let room = mem::replace(&mut self.room, Room::Nothing);
-        served::serve(&mut self.state, room, &mut self.spare);
+        served::serve(&mut self.state, room);
     }
 }

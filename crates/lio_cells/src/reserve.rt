@@ -1,10 +1,9 @@
 //! What is taken of memory for an act.
 #![tactic(auto, unfolding(crate::specs::Room::room_for))]
 
-ghost use Rattle.std.specs.Prelude.{◌≡◌, ◌++◌, IfOk, if◌then◌else◌};
+ghost use Rattle.std.specs.Prelude.{◌≡◌, IfOk, if◌then◌else◌};
 ghost use Rattle.lio_cells.specs.State.{is_absent, is_job, is_reference, is_variable};
-ghost use Rattle.lio_cells.specs.Node.{Begins};
-ghost use Rattle.lio_cells.specs.Room.{bytes_of, room_for, room_to_send};
+ghost use Rattle.lio_cells.specs.Room.{room_for, room_to_send};
 
 use crate::ready::{is_absent, is_job, is_reference, is_variable};
 use crate::room::Room;
@@ -13,7 +12,6 @@ use lio_clauses::NoMemory;
 use lio_labels::Label;
 use lio_values::{Act, Birth, Content, Text, Value};
 use std::alloc::Global;
-use std::mem;
 
 /// A copy of the value that a node will hold.
 fn room_to_hold(alloc: Global, value: &Value) -> Result<Room, NoMemory>
@@ -57,38 +55,12 @@ fn room_to_put(alloc: Global, state: &State, value: &Value) -> Result<Room, NoMe
     }
 }
 
-/// The bytes that a channel has received, and then the text. They are put after those that `spare`
-/// has of them already, so that the room for many sends costs no more than their bytes.
-fn continued(
-    alloc: Global,
-    spare: &mut Text,
-    received: &Text,
-    text: &Text,
-) -> Result<Text, NoMemory>
-    requires { Begins spare.old received.now }
-    ensures ok { IfOk result (λ bytes. bytes ≡ received.now ++ text.now) }
-    ensures spare { Begins spare.new received.now }
-{
-    let empty = Text::of(alloc, b"")?;
-    let had = spare.bytes().len();
-    spare.append(&received.bytes()[had..])?;
-    spare.append(text.bytes())?;
-    Ok(mem::replace(spare, empty))
-}
-
 /// For a channel, the bytes that it will have received.
-fn room_to_send(
-    alloc: Global,
-    state: &State,
-    spare: &mut Text,
-    text: &Text,
-) -> Result<Room, NoMemory>
-    requires { Begins spare.old (bytes_of state.now) }
-    ensures ok { IfOk result (λ room. room ≡ room_to_send state.now text.now) }
-    ensures spare { Begins spare.new (bytes_of state.now) }
+fn room_to_send(alloc: Global, state: &State, text: &Text) -> Result<Room, NoMemory>
+    ensures { IfOk result (λ room. room ≡ room_to_send state.now text.now) }
 {
     match state {
-        State::Chan(_, received) => Ok(Room::Receives(continued(alloc, spare, received, text)?)),
+        State::Chan(_, received) => Ok(Room::Receives(received.with(alloc, text)?)),
         State::Absent => Ok(Room::Nothing),
         State::Ref(_, _) => Ok(Room::Nothing),
         State::Var(_, _) => Ok(Room::Nothing),
@@ -157,18 +129,15 @@ fn room_to_end(alloc: Global, state: &State, content: &Content) -> Result<Room, 
     }
 }
 
-/// The room for an act in a node of this state. `spare` has first bytes of what a channel has
-/// received, before and after.
-pub fn room_for(alloc: Global, state: &State, spare: &mut Text, act: &Act) -> Result<Room, NoMemory>
-    requires { Begins spare.old (bytes_of state.now) }
-    ensures ok { IfOk result (λ room. room ≡ room_for state.now act.now) }
-    ensures spare { Begins spare.new (bytes_of state.now) }
+/// The room for an act in a node of this state.
+pub fn room_for(alloc: Global, state: &State, act: &Act) -> Result<Room, NoMemory>
+    ensures { IfOk result (λ room. room ≡ room_for state.now act.now) }
 {
     match act {
         Act::Write(value) => room_to_write(alloc, state, value.get()),
         Act::Take => Ok(room_to_take(state)),
         Act::Put(value) => room_to_put(alloc, state, value.get()),
-        Act::Send(text) => room_to_send(alloc, state, spare, text),
+        Act::Send(text) => room_to_send(alloc, state, text),
         Act::NewRef(label, value) => room_for_reference(alloc, state, label, value.get()),
         Act::NewVar(label, value) => room_for_variable(alloc, state, label, value.get()),
         Act::Fork(birth) => room_for_job(alloc, state, birth.get()),

@@ -1,7 +1,8 @@
 //! What a node keeps ready for an act.
 
+use crate::bytes::Bytes;
 use crate::state::State;
-use lio_values::{Content, Text, Value};
+use lio_values::{Content, Value};
 
 /// What a node keeps ready for an act: what the act will put into the node's state.
 #[derive(Drop)]
@@ -13,7 +14,7 @@ pub enum Room {
     /// A reference or a variable will hold this value.
     Holds(Value),
     /// A channel will have received these bytes in all.
-    Receives(Text),
+    Receives(Bytes),
     /// The node will be this.
     Becomes(State),
     /// A job will have this result.

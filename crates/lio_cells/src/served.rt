@@ -1,13 +1,13 @@
 //! What a node becomes. Nothing here takes memory.
 ghost use Rattle.std.specs.Prelude.{◌≡◌, Some, None};
 ghost use Rattle.lio_cells.specs.State.{ended, filled, written};
-ghost use Rattle.lio_cells.specs.Room.{left_by, left_with, state_with, with_bytes};
+ghost use Rattle.lio_cells.specs.Room.{state_with, with_bytes};
 
+use crate::bytes::Bytes;
 use crate::room::Room;
 use crate::state::State;
 use lio_clauses::assign;
-use lio_values::{Content, Text, Value};
-use std::mem;
+use lio_values::{Content, Value};
 
 /// Puts a value into a reference or a variable.
 fn hold(state: &mut State, value: Value)
@@ -40,29 +40,25 @@ fn end(state: &mut State, content: Content)
     }
 }
 
-/// Gives a channel the bytes that it has received in all. What it had received before is left in
-/// `spare`.
-fn receive(state: &mut State, bytes: Text, spare: &mut Text)
-    ensures state { state.new ≡ with_bytes state.old bytes }
-    ensures spare { spare.new ≡ left_by state.old spare.old }
+/// Gives a channel the bytes that it has received in all.
+fn receive(state: &mut State, bytes: Bytes)
+    ensures { state.new ≡ with_bytes state.old bytes }
 {
     match state {
-        State::Chan(_, received) => assign(spare, mem::replace(received, bytes)),
-        State::Absent | State::Ref(_, _) | State::Var(_, _) | State::Job(_, _) => {}
+        State::Chan(_, received) => assign(received, bytes),
+        State::Absent | State::Ref(_, _) | State::Var(_, _) | State::Job(_, _) => drop(bytes),
     }
 }
 
-/// Makes of a state what the room makes of it. What a channel had received before is left in
-/// `spare`.
-pub fn serve(state: &mut State, room: Room, spare: &mut Text)
-    ensures state { state.new ≡ state_with state.old room }
-    ensures spare { spare.new ≡ left_with state.old room spare.old }
+/// Makes of a state what the room makes of it.
+pub fn serve(state: &mut State, room: Room)
+    ensures { state.new ≡ state_with state.old room }
 {
     match room {
         Room::Nothing => {}
         Room::Empties => empty(state),
         Room::Holds(value) => hold(state, value),
-        Room::Receives(bytes) => receive(state, bytes, spare),
+        Room::Receives(bytes) => receive(state, bytes),
         Room::Becomes(new) => assign(state, new),
         Room::Ends(content) => end(state, content),
     }

@@ -1,9 +1,10 @@
 //! What a node holds.
 ghost use Rattle.std.specs.Prelude.{◌≡◌, IfOk};
 
+use crate::bytes::Bytes;
 use lio_clauses::NoMemory;
 use lio_labels::Label;
-use lio_values::{Content, Text, Value};
+use lio_values::{Content, Value};
 use std::alloc::Global;
 
 /// What a node holds.
@@ -16,7 +17,7 @@ pub enum State {
     /// A blocking variable: its label and, where it is full, its value.
     Var(Label, Option<Value>),
     /// A channel: its label and the bytes that it has received.
-    Chan(Label, Text),
+    Chan(Label, Bytes),
     /// A task's job: the label of its result and, once the task has ended, the result.
     Job(Label, Option<Content>),
 }
@@ -60,11 +61,11 @@ pub fn copy_variable(alloc: Global, label: &Label, value: &Option<Value>) -> Res
 }
 
 /// A channel with copies of its label and of what it has received.
-fn copy_channel(alloc: Global, label: &Label, received: &Text) -> Result<State, NoMemory>
+fn copy_channel(alloc: Global, label: &Label, received: &Bytes) -> Result<State, NoMemory>
     ensures { IfOk result (λ state. state ≡ State.Chan label.now received.now) }
 {
     let label = label.copy(alloc)?;
-    let received = received.copy(alloc)?;
+    let received = received.copy()?;
     Ok(State::Chan(label, received))
 }
 

@@ -21,7 +21,7 @@ fn made_node(alloc: Global, act: &Act) -> Result<Node, NoMemory>
     requires { IsTrue (makes act.now) }
     ensures { IfOk result (λ node. node.state ≡ state_after (State.Absent) act.now) }
 {
-    let mut node = Node::of(alloc, State::Absent)?;
+    let mut node = Node::of(State::Absent);
     match node.reserve(alloc, act) {
         Ok(()) => {
             node.serve(act);

@@ -29,9 +29,7 @@ fn joined(alloc: Global, a: &[u8], b: &[u8], longest: u32) -> Result<Plain, OpFa
     if a.len() + b.len() > longest as usize {
         return Err(OpFault::Kind(FaultKind::TooLong));
     }
-    let mut text = Text::of(alloc, a)?;
-    text.append(b)?;
-    Ok(Plain::Bytes(text))
+    Ok(Plain::Bytes(Text::joined(alloc, a, b)?))
 }
 
 /// The first place at which a text stands in another.

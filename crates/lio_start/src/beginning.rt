@@ -69,7 +69,7 @@ fn task(
 fn job_node(alloc: Global, label: &Label) -> Result<Node, NoMemory>
     ensures { IfOk result (λ node. node ≡ node_of (state.Job label.now None)) }
 {
-    Node::of(alloc, State::Job(label.copy(alloc)?, None))
+    Ok(Node::of(State::Job(label.copy(alloc)?, None)))
 }
 
 /// A job with its task, whose range of numbers begins at the given one.

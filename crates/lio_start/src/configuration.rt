@@ -33,7 +33,7 @@ pub fn start(alloc: Global, job: &Job) -> Result<Config, NoMemory>
     let mut holders = Vec::new(alloc);
     add_channels(alloc, channels, &mut holders)?;
     add_jobs(alloc, script, &inputs, first, tasks, &mut holders)?;
-    add_free(alloc, cells_in_all(tasks), &mut holders)?;
+    add_free(cells_in_all(tasks), &mut holders)?;
     Ok(Config {
         holders,
         longest: policy.longest,

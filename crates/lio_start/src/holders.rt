@@ -8,12 +8,12 @@ ghost use Rattle.lio_start.specs.Start.{cells_in_all, channel_cell, job_cells};
 ghost use Rattle.lio_start.specs.Making.{Adds, CanBeginAll};
 
 use crate::beginning::job;
-use lio_cells::{Node, State};
+use lio_cells::{Bytes, Node, State};
 use lio_clauses::NoMemory;
 use lio_config::Holder;
 use lio_policy::{FileEntry, TaskEntry};
 use lio_syntax::Script;
-use lio_values::{Text, Values};
+use lio_values::Values;
 use std::alloc::Global;
 
 /// A channel that has received nothing.
@@ -21,18 +21,17 @@ fn channel(alloc: Global, channel: &FileEntry) -> Result<Holder, NoMemory>
     ensures { IfOk result (λ holder. (script : List Procedure)
         → cell_of script holder ≡ channel_cell channel.now) }
 {
-    let received = Text::of(alloc, b"")?;
     let label = channel.label.copy(alloc)?;
-    let node = Node::of(alloc, State::Chan(label, received))?;
+    let node = Node::of(State::Chan(label, Bytes::new()));
     Ok(Holder { node, task: None })
 }
 
 /// What stands at a number that holds nothing.
-fn free(alloc: Global) -> Result<Holder, NoMemory>
-    ensures { IfOk result (λ holder. (script : List Procedure) → cell_of script holder ≡ blank) }
+fn free() -> Holder
+    ensures { (script : List Procedure) → cell_of script result ≡ blank }
 {
-    let node = Node::of(alloc, State::Absent)?;
-    Ok(Holder { node, task: None })
+    let node = Node::of(State::Absent);
+    Holder { node, task: None }
 }
 
 /// Puts the channels behind the holders, in their order.
@@ -73,12 +72,12 @@ pub(crate) fn add_jobs(
 }
 
 /// Puts so many numbers behind the holders that hold nothing.
-pub(crate) fn add_free(alloc: Global, count: u32, holders: &mut Vec<Holder>) -> Result<(), NoMemory>
+pub(crate) fn add_free(count: u32, holders: &mut Vec<Holder>) -> Result<(), NoMemory>
     ensures { OnOk result ((script : List Procedure)
         → Adds script holders.old.items holders.new.items (replicate count blank)) }
 {
     for _n in 0..count {
-        holders.push(free(alloc)?)?;
+        holders.push(free())?;
     }
     Ok(())
 }

@@ -100,7 +100,10 @@ impl Ranks {
     fn rank(&self, name: &mut Name)
         ensures { name.new ≡ name.old }
     {
-        if let Ok(rank) = self.names.binary_search_by(|other| other.as_slice().cmp(name.bytes())) {
+        if let Ok(rank) = self
+            .names
+            .binary_search_by(|other| other.as_slice().cmp(name.bytes()))
+        {
             name.set_rank(rank.min(u32::MAX as usize) as u32);
         }
     }

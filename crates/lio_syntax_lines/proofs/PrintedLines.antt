@@ -1,43 +1,28 @@
 -- What is printed of a line is read as it.
-use Rattle.std.proofs.Common.{◌≡◌, ℕ, zero, suc, ◌-◌, Bool, true, false, All, List, [], ◌∷◌, ◌++◌, length, map, drop, refl, ap, sym, arith, ◌∙◌, append_assoc, Some, true≢false, codes, bytes_eq}
+use Rattle.std.proofs.Common.{◌≡◌, ℕ, zero, suc, ◌-◌, Bool, true, false, All, List, [], ◌∷◌, ◌++◌, length, drop, refl, ap, sym, arith, ◌∙◌, append_assoc, Some, true≢false, codes, bytes_eq}
 use Rattle.std.specs.Prelude.{nat_le}
 use Rattle.std.proofs.lemmas.Bool.Decides.{nat_tests}
 use Rattle.std.proofs.lemmas.Bool.{and_parts}
-use Rattle.std.proofs.lemmas.List.{append-nil}
 use Rattle.std.proofs.lemmas.Slice.Eq.{bytes_eq-Decides}
 use Rattle.std.specs.List.{list_all, flat_map, AllByRecursion}
 use Rattle.std.specs.Option.{option_map}
 use Rattle.lio_clauses.specs.Names.{AreNames}
 use Rattle.lio_syntax_lines.specs.declared.keyword.Keyword.{Keyword}
 use Rattle.lio_syntax_lines.specs.declared.keyword.Keyword.TheVariants as keyword
-use Rattle.lio_syntax_lines.specs.declared.operators.One.{One}
-use Rattle.lio_syntax_lines.specs.declared.operators.One.TheVariants as one_op
-use Rattle.lio_syntax_lines.specs.declared.operators.Two.{Two}
-use Rattle.lio_syntax_lines.specs.declared.operators.Two.TheVariants as two_op
-use Rattle.lio_syntax_lines.specs.Keyword.{word_of, keyword_of}
-use Rattle.lio_syntax_lines.specs.Operators.{one_word, two_word, one_of, two_of}
+use Rattle.lio_syntax_lines.specs.Keyword.{word_of}
 use Rattle.lio_syntax_lines.specs.Words.{cut, words, without_return}
 use Rattle.lio_syntax_lines.proofs.WordLemmas.{words-blank}
-use Rattle.lio_syntax_lines.proofs.SolidLemmas.{solid_keyword, solid_one, solid_two, solid_plain}
 use Rattle.lio_syntax_lines.proofs.LabelLemmas.{is_inline, both}
-use Rattle.lio_syntax_lines.proofs.InlineLemmas.{Good, good_name, good_literal, literal_no_name, literal_back}
-use Rattle.lio_syntax_lines.specs.declared.line.Operand.{Operand}
-use Rattle.lio_syntax_lines.specs.declared.line.Operand.TheVariants.{Name, Literal}
-use Rattle.lio_syntax_lines.specs.declared.line.Simple.{Simple}
-use Rattle.lio_syntax_lines.specs.declared.line.Simple.TheVariants.{Let, LetOne, LetTwo, Call, Return, Stop, Throw, Label, Unlabel, Taint, Lower, Relabel, NewRef, NewVar, FullVar, Read, Write, Take, Put, Fork, Spawn, Wait, Send}
+use Rattle.lio_syntax_lines.proofs.InlineLemmas.{Good, good_name}
 use Rattle.lio_syntax_lines.specs.declared.line.Line.{Line}
 use Rattle.lio_syntax_lines.specs.declared.line.Line.TheVariants.{Proc, If, Else, While, Try, Catch, End, Do}
 use Rattle.lio_syntax_lines.specs.declared.line.ParsedLine.TheVariants.{Says}
-use Rattle.lio_syntax_lines.specs.Simple.{simple}
 use Rattle.lio_syntax_lines.specs.Line.{form, line_of_words, line_of}
-use Rattle.lio_syntax_lines.specs.Forms.{operands, names_of, one, two, three, name_one, name_two, name_three, two_names, header, called, call, spawn, fork, unary, binary, expression, assignment, begins_comment}
+use Rattle.lio_syntax_lines.specs.Forms.{names_of, one, two_names, header}
 use Rattle.lio_syntax_lines.specs.Words.{spaced, names_spaced}
-use Rattle.lio_syntax_lines.specs.Operands.{operand_text, operand_spaced, operands_spaced}
-use Rattle.lio_syntax_lines.specs.Simple.{simple_text}
+use Rattle.lio_syntax_lines.specs.Operands.{operand_text, operand_spaced}
 use Rattle.lio_syntax_lines.specs.Line.{line_text}
-use Rattle.lio_syntax_lines.specs.Operands.{operand_of, IsOperand}
 use Rattle.lio_syntax_lines.specs.Literals.{IsName}
-use Rattle.lio_syntax_lines.specs.Simple.{IsSimple}
 use Rattle.lio_syntax_lines.specs.Line.{IsLine}
 use Rattle.lio_syntax_lines.proofs.SimpleLemmas.{keyword_back, keyword_inline, keyword_no_comment, good_keyword, good_operand, operand_back, simple_first, simple_rest, good_simple, Spelled, spell_one, spell_two, simple_spelled, simple_back, form-simple}
 

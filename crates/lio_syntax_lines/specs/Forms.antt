@@ -6,16 +6,14 @@ use Rattle.lio_syntax_lines.specs.declared.keyword.Keyword.{Keyword}
 use Rattle.lio_syntax_lines.specs.declared.keyword.Keyword.TheVariants as keyword
 use Rattle.lio_syntax_lines.specs.declared.line.Operand.{Operand}
 use Rattle.lio_syntax_lines.specs.declared.line.Simple.{Simple}
-use Rattle.lio_syntax_lines.specs.declared.line.Simple.TheVariants.{Let, LetOne, LetTwo, Call, Return, Stop, Throw, Label, Unlabel, Taint, Lower, Relabel, NewRef, NewVar, FullVar, Read, Write, Take, Put, Fork, Spawn, Wait, Send}
+use Rattle.lio_syntax_lines.specs.declared.line.Simple.TheVariants.{Let, LetOne, LetTwo}
 use Rattle.lio_syntax_lines.specs.declared.line.Line.{Line}
-use Rattle.lio_syntax_lines.specs.declared.line.Line.TheVariants.{Proc, If, Else, While, Try, Catch, End, Do}
 use Rattle.lio_syntax_lines.specs.declared.line.ParsedLine.{ParsedLine}
-use Rattle.lio_syntax_lines.specs.declared.line.ParsedLine.TheVariants.{Blank, Invalid, Says}
+use Rattle.lio_syntax_lines.specs.declared.line.ParsedLine.TheVariants.{Invalid, Says}
 use Rattle.lio_syntax_lines.specs.Keyword.{keyword_of}
 use Rattle.lio_syntax_lines.specs.Literals.{is_name}
 use Rattle.lio_syntax_lines.specs.Operators.{one_of, two_of}
 use Rattle.lio_syntax_lines.specs.Operands.{operand_of}
-use Rattle.lio_syntax_lines.specs.Words.{words, without_return}
 
 -- a value, and the words after those that it was read from
 pub record Parsed (A : Type 0) : Type 0 where

@@ -1,5 +1,5 @@
 -- Statements that open no block: the line of each, one equation a statement in each of four tables: its form, its text, what it is made of, its operands.
-use Rattle.std.specs.Prelude.{ℕ, List, [], ◌∷◌, ◌++◌, codes, Option, None, All, IsTrue}
+use Rattle.std.specs.Prelude.{ℕ, List, [], ◌∷◌, ◌++◌, codes, Option, None, All}
 use Rattle.std.specs.Option.{option_map}
 use Rattle.lio_syntax_lines.specs.declared.keyword.Keyword.{Keyword}
 use Rattle.lio_syntax_lines.specs.declared.keyword.Keyword.TheVariants as keyword

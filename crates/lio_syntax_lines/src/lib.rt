@@ -16,7 +16,7 @@ mod words;
 
 pub use header::read_header;
 pub use keyword::Keyword;
-pub use line::{Line, Operand, Operands, ParsedLine, Simple, Parameters};
+pub use line::{Line, Operand, Operands, Parameters, ParsedLine, Simple};
 pub use literals::{is_name, read_literal, read_whole};
 pub use operators::{One, Two};
 pub use read::read_line;

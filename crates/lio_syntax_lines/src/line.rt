@@ -1,6 +1,6 @@
 //! What the lines of a script say.
 use crate::{One, Two};
-use lio_values::{List, Plain, Name};
+use lio_values::{List, Name, Plain};
 
 /// What a statement works on.
 #[derive(Drop)]

@@ -190,26 +190,31 @@ fn split_byte(bytes: &[u8]) -> Option<(u8, &[u8])>
 }
 
 /// The text, where nothing stands behind its last quote.
-fn closed(text: Text, behind: &[u8]) -> Option<Text>
-    ensures { result ≡ option_map (λ more. text ++ more) (at_end behind.now) }
+fn closed(alloc: Global, text: Vec<u8>, behind: &[u8]) -> Result<Option<Text>, NoMemory>
+    ensures { IfOk result
+        (λ whole. whole ≡ option_map (λ more. text.items ++ more) (at_end behind.now)) }
 {
-    if behind.is_empty() { Some(text) } else { None }
+    if behind.is_empty() {
+        Ok(Some(Text::of_vec(alloc, text)?))
+    } else {
+        Ok(None)
+    }
 }
 
 /// The bytes of what stands behind the first quote of a text.
 fn unquoted(alloc: Global, bytes: &[u8]) -> Result<Option<Text>, NoMemory>
     ensures { IfOk result (λ text. text ≡ spec.unquoted bytes.now) }
 {
-    let mut text = Text::of(alloc, b"")?;
+    let mut text = Vec::new(alloc);
     let mut rest = bytes;
     while let [byte, behind @ ..] = rest {
         if *byte == b'"' {
-            return Ok(closed(text, behind));
+            return closed(alloc, text, behind);
         }
         let Some((byte, behind)) = split_byte(rest) else {
             return Ok(None);
         };
-        text.append(&[byte])?;
+        text.push(byte)?;
         rest = behind;
     }
     Ok(None)

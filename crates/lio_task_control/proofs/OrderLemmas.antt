@@ -142,7 +142,7 @@ still_bound bindings first second value i j all one other =
     let names : map (λ (b : Binding). b.name) after ≡ map (λ (b : Binding). b.name) bindings = map-set_same (λ (b : Binding). b.name) bindings i new new (sym (one.same new)) in
     let within : j < length after = omega (arith, length-set bindings i new, other.within) in
     let named : (get_or after j new).name ≡ second =
-        sym (get_or-map (λ (b : Binding). b.name) after j new) ∙ ap (λ ns. get_or ns j new.name) names ∙ get_or-map (λ (b : Binding). b.name) bindings j new ∙ other.same new in
+    sym (get_or-map (λ (b : Binding). b.name) after j new) ∙ ap (λ ns. get_or ns j new.name) names ∙ get_or-map (λ (b : Binding). b.name) bindings j new ∙ other.same new in
     let P : Environment → Type 0 = λ e. IsBoundAt e second j in
     subst P (sym (one.bound value))
     (is_bound_at after second j (get_or after j new) (subst AreInOrder (one.bound value) (bound_in_order bindings first value all)) within

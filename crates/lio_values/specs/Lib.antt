@@ -1,3 +1,4 @@
+pub mod Kept
 pub mod Erasure
 pub mod Laws
 pub mod Equality

@@ -1,5 +1,5 @@
 -- The key by which names are told from one another: equal names have equal keys, and equal keys of at most seven bytes are of equal names.
-use Rattle.std.specs.Prelude.{◌≡◌, ◌<◌, ℕ, ◌+◌, ◌*◌, List, get_or, length, min}
+use Rattle.std.specs.Prelude.{◌<◌, ℕ, ◌+◌, ◌*◌, List, get_or, length, min}
 
 -- the byte at a place, or 0 behind the last one
 abbrev pub digit : List ℕ → ℕ → ℕ

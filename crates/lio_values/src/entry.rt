@@ -2,6 +2,7 @@
 ghost use Rattle.std.specs.Prelude.{◌≡◌, IfOk};
 
 use crate::act::{Act, Reply};
+use crate::text::Text;
 use lio_clauses::{Formula, NoMemory};
 use lio_labels::Label;
 use std::alloc::Global;
@@ -28,6 +29,8 @@ pub struct Entry {
 const _: () = prove!(size_of::<Formula>() == 16);
 
 const _: () = prove!(size_of::<Label>() == 32);
+
+const _: () = prove!(size_of::<Text>() == 32);
 
 const _: () = prove!(size_of::<Entry>() <= 128);
 

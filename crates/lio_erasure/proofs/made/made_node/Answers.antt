@@ -8,5 +8,5 @@ use Rattle.lio_erasure.proofs.made.made_node.Goals as goal
 
 pub serve-requires-clause-takes_part : goal.serve-requires-clause-takes_part
 serve-requires-clause-takes_part c =
-    ap (λ (s : State). takes_part s c.args.act.now) (ap (λ (node : NodeState). node.state) c.in-Ok.ensures.ok ∙ ap (λ (node : NodeState). node.state) c.in_ok-node.ensures)
+    ap (λ (s : State). takes_part s c.args.act.now) (ap (λ (node : NodeState). node.state) c.in-Ok.ensures.ok ∙ ap (λ (node : NodeState). node.state) c.of-node.ensures)
     ∙ ap (λ (b : Bool). b || is_job Absent) (made-ready c.args.act.now c.requires)

@@ -12,7 +12,7 @@ loop-n-init c = λ script. adds-none script c.args.holders.now.items
 pub loop-n-preserved : goal.loop-n-preserved
 loop-n-preserved c = λ script.
     subst (λ (after : List Holder). Adds script c.args.holders.now.items after (replicate (c.loop-n._n + 1) blank)) (sym {A = List Holder} c.in_ok-push.ensures.items)
-    (free-next script c.args.holders.now.items c.loop-n.holders.items c.loop-n._n c.in_ok-free.field-0 (c.in_ok-free.ensures script) (c.loop-n.invariant script))
+    (free-next script c.args.holders.now.items c.loop-n.holders.items c.loop-n._n c.free.result (c.free.ensures script) (c.loop-n.invariant script))
 
 pub returns : goal.returns
 returns c = λ script.

@@ -1,9 +1,7 @@
-use Rattle.std.proofs.Common.{◌≡◌, ◌∙◌, refl, sym, ap, subst, ℕ, List}
+use Rattle.std.proofs.Common.{refl}
 use Rattle.lio_cells.specs.declared.room.Room.TheVariants.{Nothing}
 use Rattle.lio_cells.specs.State.{state_after}
-use Rattle.lio_cells.specs.Room.{bytes_of, left_with}
-use Rattle.lio_cells.specs.Node.{Begins}
-use Rattle.lio_cells.proofs.RoomLemmas.{same-node, taken-state, taken-room, served-state, taken-spare, served-spare}
+use Rattle.lio_cells.proofs.RoomLemmas.{same-node, taken-state, taken-room, served-state}
 use Rattle.lio_cells.proofs.node.Node.serve.Goals as goal
 
 pub returns : goal.returns
@@ -14,15 +12,5 @@ returns c =
     (served-state node.state inside.state c.serve.new.state c.replace-room.result c.args.act.now
     (taken-state inside.state inside.state inside.room node c.self.view_is refl)
     (taken-room inside.state inside.room c.replace-room.result node c.args.act.now c.self.view_is c.requires.reserved c.replace-room.ensures.value)
-    c.serve.ensures.state)
+    c.serve.ensures)
     c.replace-room.ensures.after
-
-pub invariant_of-self : goal.invariant_of-self
-invariant_of-self c =
-    let node = c.args.self.now in
-    let inside = c.self.inside in
-    served-spare node.state inside.state c.serve.new.state c.replace-room.result c.args.act.now inside.spare c.serve.new.spare
-    (taken-state inside.state inside.state inside.room node c.self.view_is refl)
-    (taken-room inside.state inside.room c.replace-room.result node c.args.act.now c.self.view_is c.requires.reserved c.replace-room.ensures.value)
-    c.serve.ensures.state c.serve.ensures.spare
-    (taken-spare inside.state inside.room node inside.spare c.self.view_is c.self.invariant)
