@@ -144,7 +144,7 @@ def measure(host, policy, task, argument):
             text = script.replace('TURNS', str(share // 2))
             with tempfile.TemporaryDirectory() as folder:
                 folder = pathlib.Path(folder)
-                (folder / 'policy.json').write_text(policy([task(share, [argument], name=f't{n}', cells=2 + 2) for n in range(tasks)]))
+                (folder / 'policy.json').write_text(policy([task(share, [argument], name=f't{n}', cells=4) for n in range(tasks)], longest=128))
                 (folder / 'script.lio').write_text(text)
                 taken.append(instructions([host, 'policy.json', 'script.lio'], folder))
         print(f'{name}: {(taken[1] - taken[0]) / (LONG - SHORT):,.0f} instructions a turn ({what})')
