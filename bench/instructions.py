@@ -98,7 +98,7 @@ while again
 let text = "a"
 let go = true
 while go
-let text = text ++ "a"
+let text = text + "a"
 let rest = text from 1
 let size = len rest
 let go = size < 99
