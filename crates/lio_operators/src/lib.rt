@@ -6,8 +6,12 @@ mod flags;
 mod labels;
 pub mod laws;
 mod operate;
+mod outcome;
+mod outcomes;
 mod texts;
 mod wholes;
 
 pub use faults::OpFault;
 pub use operate::{operate_plains, operate1, operate2};
+pub use outcome::Outcome;
+pub use outcomes::{outcome1, outcome2, plain_outcome};

@@ -1,71 +1,31 @@
-//! Operators on values: which of the tables is asked, by the kinds of the operands.
+//! Operators on values: a text or a label that they make takes memory.
 #![tactic(auto, unfolding(crate::specs::Operators::operate2, crate::specs::Operators::operate1))]
 
-ghost use Rattle.std.specs.Prelude.{◌≡◌, Result, Ok};
-ghost use Rattle.lio_operators.specs.Answers.{Answers};
+ghost use Rattle.std.specs.Prelude.{IsTrue, Ok, Result};
 ghost use Rattle.lio_values.specs.declared.value.Plain.{Plain};
 ghost use Rattle.lio_values.specs.declared.fault.FaultKind.{FaultKind};
+ghost use Rattle.lio_operators.specs.Answers.{Answers};
 ghost use Rattle.lio_operators.specs.Operators as spec;
-ghost use Rattle.lio_operators.specs.Operators.{bare, not_of, neg_of, len_of, num_of, str_of};
-ghost use Rattle.lio_operators.specs.Operators.{label_of, on_plain, on_sealed, flag_and, unit_and};
-ghost use Rattle.lio_operators.specs.Operators.{whole_and, text_and, label_and, on_plains};
+ghost use Rattle.lio_operators.specs.Operators.{str_of, label_of, on_plain, on_plains};
+ghost use Rattle.lio_operators.specs.Operators.{text_and, label_and};
+ghost use Rattle.lio_operators.specs.Outcomes.{is_handle, is_printed, label_makes_large};
+ghost use Rattle.lio_operators.specs.Outcomes.{makes_large1, makes_large2};
+ghost use Rattle.lio_operators.specs.Outcomes.{plain_makes_large, text_makes_large};
 
 use crate::faults::OpFault;
-use crate::flags::{on_flags, on_units};
-use crate::labels::on_labels;
-use crate::texts::{made, on_text_at, on_texts};
-use crate::wholes::{negative, on_wholes};
+use crate::labels::bound;
+use crate::outcome::Outcome;
+use crate::outcomes::{outcome1, outcome2};
+use crate::texts::{joined, made, on_text_at};
 use itoa::Buffer;
 use lio_labels::Label;
-use lio_syntax_lines::{One, Two, read_whole};
+use lio_syntax_lines::{One, Two};
 use lio_values::{FaultKind, Plain, Value};
 use std::alloc::Global;
 
-/// The other flag.
-fn not_of(plain: &Plain) -> Result<Plain, FaultKind>
-    ensures { result ≡ not_of plain.now }
-{
-    match plain {
-        Plain::Flag(flag) => Ok(Plain::Flag(!*flag)),
-        _ => Err(FaultKind::BadType),
-    }
-}
-
-/// The negative of a whole.
-fn neg_of(plain: &Plain) -> Result<Plain, FaultKind>
-    ensures { result ≡ neg_of plain.now }
-{
-    match plain {
-        Plain::Whole(number) => negative(*number),
-        _ => Err(FaultKind::BadType),
-    }
-}
-
-/// The number of bytes of a text.
-fn len_of(plain: &Plain) -> Result<Plain, FaultKind>
-    ensures { result ≡ len_of plain.now }
-{
-    match plain {
-        Plain::Bytes(text) => Ok(Plain::Whole(text.bytes().len() as i64)),
-        _ => Err(FaultKind::BadType),
-    }
-}
-
-/// The whole that a text says.
-fn num_of(plain: &Plain) -> Result<Plain, FaultKind>
-    ensures { result ≡ num_of plain.now }
-{
-    match plain {
-        Plain::Bytes(text) => match read_whole(text.bytes()) {
-            Some(number) => Ok(Plain::Whole(number)),
-            None => Err(FaultKind::BadType),
-        },
-        _ => Err(FaultKind::BadType),
-    }
-}
-
 /// The text of a whole, a flag or unit.
 fn str_of(alloc: Global, plain: &Plain, longest: u32) -> Result<Plain, OpFault>
+    requires { IsTrue (is_printed plain.now) }
     ensures { Answers (str_of longest plain.now) result }
 {
     match plain {
@@ -76,7 +36,7 @@ fn str_of(alloc: Global, plain: &Plain, longest: u32) -> Result<Plain, OpFault>
         Plain::Flag(true) => made(alloc, b"true", longest),
         Plain::Flag(false) => made(alloc, b"false", longest),
         Plain::Unit => made(alloc, b"unit", longest),
-        _ => Err(OpFault::Kind(FaultKind::BadType)),
+        _ => unreachable!(),
     }
 }
 
@@ -89,6 +49,7 @@ fn label(alloc: Global, label: &Label) -> Result<Plain, OpFault>
 
 /// The label of a handle.
 fn label_of(alloc: Global, plain: &Plain) -> Result<Plain, OpFault>
+    requires { IsTrue (is_handle plain.now) }
     ensures { Answers (label_of plain.now) result }
 {
     match plain {
@@ -96,47 +57,14 @@ fn label_of(alloc: Global, plain: &Plain) -> Result<Plain, OpFault>
         | Plain::VarOf(handle)
         | Plain::ResultOf(handle)
         | Plain::ChanOf(handle) => label(alloc, &handle.label),
-        _ => Err(OpFault::Kind(FaultKind::BadType)),
-    }
-}
-
-/// What was found, or the fault.
-fn found(given: Result<Plain, FaultKind>) -> Result<Plain, OpFault>
-    ensures { Answers given result }
-{
-    match given {
-        Ok(plain) => Ok(plain),
-        Err(kind) => Err(OpFault::Kind(kind)),
-    }
-}
-
-/// An operator on a plain value.
-fn on_plain(alloc: Global, op: One, plain: &Plain, longest: u32) -> Result<Plain, OpFault>
-    ensures { Answers (on_plain longest op plain.now) result }
-{
-    match op {
-        One::Not => found(not_of(plain)),
-        One::Neg => found(neg_of(plain)),
-        One::Len => found(len_of(plain)),
-        One::Num => found(num_of(plain)),
-        One::Str => str_of(alloc, plain, longest),
-        One::LabelOf => label_of(alloc, plain),
-    }
-}
-
-/// An operator on a sealed value with this label.
-fn on_sealed(alloc: Global, op: One, sealed: &Label) -> Result<Plain, OpFault>
-    ensures { Answers (on_sealed op sealed.now) result }
-{
-    match op {
-        One::LabelOf => label(alloc, sealed),
-        _ => Err(OpFault::Kind(FaultKind::BadType)),
+        _ => unreachable!(),
     }
 }
 
 /// A plain value as a bare one.
 fn bare(given: Result<Plain, OpFault>) -> Result<Value, OpFault>
-    ensures { (plain : Result Plain FaultKind) → Answers plain given → Answers (bare plain) result }
+    ensures { (plain : Result Plain FaultKind) → Answers plain given
+        → Answers (spec.bare plain) result }
 {
     match given {
         Ok(plain) => Ok(Value::Bare(plain)),
@@ -144,79 +72,94 @@ fn bare(given: Result<Plain, OpFault>) -> Result<Value, OpFault>
     }
 }
 
+/// The text or the label that an operator on a plain value makes.
+fn large_of_plain(alloc: Global, op: One, a: &Plain, longest: u32) -> Result<Plain, OpFault>
+    requires { IsTrue (plain_makes_large op a.now) }
+    ensures { Answers (on_plain longest op a.now) result }
+{
+    match op {
+        One::Str => str_of(alloc, a, longest),
+        _ => label_of(alloc, a),
+    }
+}
+
+/// The text or the label that an operator on one value makes.
+#[inline(never)]
+fn large1(alloc: Global, op: One, a: &Value, longest: u32) -> Result<Value, OpFault>
+    requires { IsTrue (makes_large1 op a.now) }
+    ensures { Answers (spec.operate1 longest op a.now) result }
+{
+    match a {
+        Value::Bare(plain) => bare(large_of_plain(alloc, op, plain, longest)),
+        Value::Sealed(sealed, _) => bare(label(alloc, sealed)),
+    }
+}
+
 /// What an operator on one value gives. A text that is made has at most `longest` bytes.
 pub fn operate1(alloc: Global, op: One, a: &Value, longest: u32) -> Result<Value, OpFault>
     ensures { Answers (spec.operate1 longest op a.now) result }
 {
-    match a {
-        Value::Bare(plain) => bare(on_plain(alloc, op, plain, longest)),
-        Value::Sealed(label, _) => bare(on_sealed(alloc, op, label)),
+    match outcome1(op, a) {
+        Outcome::Value(small) => Ok(Value::Bare(small.plain())),
+        Outcome::Fault(trap) => Err(OpFault::Kind(trap.kind())),
+        Outcome::Large => large1(alloc, op, a, longest),
     }
 }
 
-/// An operator on a flag and another value.
-fn flag_and(op: Two, a: bool, b: &Plain) -> Result<Plain, FaultKind>
-    ensures { result ≡ flag_and op a b.now }
-{
-    match b {
-        Plain::Flag(b) => on_flags(op, a, *b),
-        _ => Err(FaultKind::BadType),
-    }
-}
-
-/// An operator on unit and another value.
-fn unit_and(op: Two, b: &Plain) -> Result<Plain, FaultKind>
-    ensures { result ≡ unit_and op b.now }
-{
-    match b {
-        Plain::Unit => on_units(op),
-        _ => Err(FaultKind::BadType),
-    }
-}
-
-/// An operator on a whole and another value.
-fn whole_and(op: Two, a: i64, b: &Plain) -> Result<Plain, FaultKind>
-    ensures { result ≡ whole_and op a b.now }
-{
-    match b {
-        Plain::Whole(b) => on_wholes(op, a, *b),
-        _ => Err(FaultKind::BadType),
-    }
-}
-
-/// An operator on a text and another value.
-fn text_and(alloc: Global, op: Two, a: &[u8], b: &Plain, longest: u32) -> Result<Plain, OpFault>
+/// The text that an operator on a text and another value makes.
+fn large_of_text(
+    alloc: Global,
+    op: Two,
+    a: &[u8],
+    b: &Plain,
+    longest: u32,
+) -> Result<Plain, OpFault>
+    requires { IsTrue (text_makes_large op b.now) }
     ensures { Answers (text_and longest op a.now b.now) result }
 {
     match b {
-        Plain::Bytes(b) => on_texts(alloc, op, a, b.bytes(), longest),
+        Plain::Bytes(b) => joined(alloc, a, b.bytes(), longest),
         Plain::Whole(at) => on_text_at(alloc, op, a, *at, longest),
-        _ => Err(OpFault::Kind(FaultKind::BadType)),
+        _ => unreachable!(),
     }
 }
 
-/// An operator on a label and another value.
-fn label_and(alloc: Global, op: Two, a: &Label, b: &Plain) -> Result<Plain, OpFault>
+/// The label that an operator on a label and another value makes.
+fn large_of_label(alloc: Global, op: Two, a: &Label, b: &Plain) -> Result<Plain, OpFault>
+    requires { IsTrue (label_makes_large op b.now) }
     ensures { Answers (label_and op a.now b.now) result }
 {
     match b {
-        Plain::Lab(b) => on_labels(alloc, op, a, b),
-        _ => Err(OpFault::Kind(FaultKind::BadType)),
+        Plain::Lab(b) => bound(alloc, op, a, b),
+        _ => unreachable!(),
     }
 }
 
-/// An operator on two plain values.
-fn on_plains(alloc: Global, op: Two, a: &Plain, b: &Plain, longest: u32) -> Result<Plain, OpFault>
+/// The text or the label that an operator on two plain values makes.
+fn large_of_plains(
+    alloc: Global,
+    op: Two,
+    a: &Plain,
+    b: &Plain,
+    longest: u32,
+) -> Result<Plain, OpFault>
+    requires { IsTrue (makes_large2 op a.now b.now) }
     ensures { Answers (on_plains longest op a.now b.now) result }
 {
     match a {
-        Plain::Unit => found(unit_and(op, b)),
-        Plain::Flag(a) => found(flag_and(op, *a, b)),
-        Plain::Whole(a) => found(whole_and(op, *a, b)),
-        Plain::Bytes(a) => text_and(alloc, op, a.bytes(), b, longest),
-        Plain::Lab(a) => label_and(alloc, op, a, b),
-        _ => Err(OpFault::Kind(FaultKind::BadType)),
+        Plain::Bytes(a) => large_of_text(alloc, op, a.bytes(), b, longest),
+        Plain::Lab(a) => large_of_label(alloc, op, a, b),
+        _ => unreachable!(),
     }
+}
+
+/// The text or the label that an operator on two bare values makes.
+#[inline(never)]
+fn large2(alloc: Global, op: Two, a: &Plain, b: &Plain, longest: u32) -> Result<Value, OpFault>
+    requires { IsTrue (makes_large2 op a.now b.now) }
+    ensures { Answers (spec.operate2 longest op (Value.Bare a.now) (Value.Bare b.now)) result }
+{
+    bare(large_of_plains(alloc, op, a, b, longest))
 }
 
 /// What an operator on two bare values gives. A text that is made has at most `longest` bytes.
@@ -229,7 +172,11 @@ pub fn operate_plains(
 ) -> Result<Value, OpFault>
     ensures { Answers (spec.operate2 longest op (Value.Bare a.now) (Value.Bare b.now)) result }
 {
-    bare(on_plains(alloc, op, a, b, longest))
+    match outcome2(op, a, b) {
+        Outcome::Value(small) => Ok(Value::Bare(small.plain())),
+        Outcome::Fault(trap) => Err(OpFault::Kind(trap.kind())),
+        Outcome::Large => large2(alloc, op, a, b, longest),
+    }
 }
 
 /// What an operator on two values gives. A text that is made has at most `longest` bytes.

@@ -1,14 +1,17 @@
 //! Operators on two texts, and on a text and a whole.
 #![tactic(auto, using(crate::proofs::TextLemmas::first_place_found))]
 
-ghost use Rattle.std.specs.Prelude.{◌≡◌, ◌≤◌, ◌++◌, length, min, take, drop, IfSome};
+ghost use Rattle.std.specs.Prelude.{◌≡◌, ◌≤◌, ◌++◌, ℕ, ℤ, List, length, min, take, drop, IfSome, IsTrue};
 ghost use Rattle.lio_operators.specs.Answers.{Answers};
+ghost use Rattle.lio_operators.specs.Operators.{bare};
+ghost use Rattle.lio_operators.specs.Outcomes.{Tells, cuts, is_large, joins};
 ghost use Rattle.lio_operators.specs.Texts as spec;
 ghost use Rattle.lio_operators.specs.Texts.{made, first_place, place_or_less, place_at};
 
 use crate::faults::OpFault;
+use crate::outcome::Outcome;
 use lio_syntax_lines::Two;
-use lio_values::{FaultKind, Plain, Text};
+use lio_values::{FaultKind, Plain, Small, Text, Trap};
 use memchr::memmem;
 use std::alloc::Global;
 
@@ -23,7 +26,7 @@ pub(crate) fn made(alloc: Global, text: &[u8], longest: u32) -> Result<Plain, Op
 }
 
 /// The one text and then the other.
-fn joined(alloc: Global, a: &[u8], b: &[u8], longest: u32) -> Result<Plain, OpFault>
+pub(crate) fn joined(alloc: Global, a: &[u8], b: &[u8], longest: u32) -> Result<Plain, OpFault>
     ensures { Answers (made longest (a.now ++ b.now)) result }
 {
     if a.len() + b.len() > longest as usize {
@@ -50,24 +53,31 @@ fn place_of(part: &[u8], text: &[u8]) -> i64
     }
 }
 
-/// An operator on two texts.
-pub(crate) fn on_texts(
-    alloc: Global,
-    op: Two,
-    a: &[u8],
-    b: &[u8],
-    longest: u32,
-) -> Result<Plain, OpFault>
-    ensures { Answers (spec.on_texts longest op a.now b.now) result }
+/// What an operator on two texts gives without memory.
+pub(crate) fn small_of_texts(op: Two, a: &[u8], b: &[u8]) -> Outcome
+    ensures large { is_large result ≡ joins op }
+    ensures given { (longest : ℕ) → Tells result (bare (spec.on_texts longest op a.now b.now)) }
 {
     match op {
-        Two::Add => joined(alloc, a, b, longest),
-        Two::Eq => Ok(Plain::Flag(a == b)),
-        Two::Ne => Ok(Plain::Flag(a != b)),
-        Two::Lt => Ok(Plain::Flag(a.cmp(&b).is_lt())),
-        Two::Le => Ok(Plain::Flag(a.cmp(&b).is_le())),
-        Two::Find => Ok(Plain::Whole(place_of(b, a))),
-        _ => Err(OpFault::Kind(FaultKind::BadType)),
+        Two::Add => Outcome::Large,
+        Two::Eq => Outcome::Value(Small::Flag(a == b)),
+        Two::Ne => Outcome::Value(Small::Flag(a != b)),
+        Two::Lt => Outcome::Value(Small::Flag(a.cmp(&b).is_lt())),
+        Two::Le => Outcome::Value(Small::Flag(a.cmp(&b).is_le())),
+        Two::Find => Outcome::Value(Small::Whole(place_of(b, a))),
+        _ => Outcome::Fault(Trap::BadType),
+    }
+}
+
+/// What an operator on a text and a whole gives without memory.
+pub(crate) fn small_of_text_at(op: Two) -> Outcome
+    ensures large { is_large result ≡ cuts op }
+    ensures given { (longest : ℕ) (text : List ℕ) (at : ℤ)
+        → Tells result (bare (spec.on_text_at longest op text at)) }
+{
+    match op {
+        Two::From | Two::Upto => Outcome::Large,
+        _ => Outcome::Fault(Trap::BadType),
     }
 }
 
@@ -106,11 +116,12 @@ pub(crate) fn on_text_at(
     at: i64,
     longest: u32,
 ) -> Result<Plain, OpFault>
+    requires { IsTrue (cuts op) }
     ensures { Answers (spec.on_text_at longest op text.now at) result }
 {
     match op {
         Two::From => bytes_from(alloc, text, at, longest),
         Two::Upto => bytes_upto(alloc, text, at, longest),
-        _ => Err(OpFault::Kind(FaultKind::BadType)),
+        _ => unreachable!(),
     }
 }

@@ -5,3 +5,4 @@ pub mod Equality
 pub mod Quoted
 pub mod PlainText
 pub mod Names
+pub mod Small

@@ -10,6 +10,7 @@ pub mod laws;
 mod list;
 mod name;
 mod print;
+mod small;
 mod text;
 mod value;
 
@@ -20,5 +21,6 @@ pub use held::Held;
 pub use list::List;
 pub use name::Name;
 pub use print::{print_label, print_number, print_power, print_quoted};
+pub use small::{Small, Trap};
 pub use text::Text;
 pub use value::{Content, Handle, Plain, Value, Values};
