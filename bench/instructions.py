@@ -127,11 +127,6 @@ def instructions(words, folder):
     return int(found.group(1))
 
 
-def turns_of(name, turns):
-    """As many turns as a run takes in which each task that is there at first has so many."""
-    return turns * (64 if name == 'tasks64' else 1)
-
-
 def measure(host, policy, task, argument):
     """Prints a line for each script: the instructions of a turn."""
     if not shutil.which('valgrind'):

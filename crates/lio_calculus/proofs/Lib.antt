@@ -39,3 +39,4 @@ pub mod WaitingLemmas
 pub mod PowerLemmas
 pub mod HandleLemmas
 pub mod SendLemmas
+pub mod EffectLemmas

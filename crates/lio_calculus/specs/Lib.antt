@@ -17,3 +17,4 @@ pub mod Waiting
 pub mod Powers
 pub mod Handles
 pub mod Sends
+pub mod Effect

@@ -1,5 +1,6 @@
 //! The laws of the calculus. Each function does nothing: its contract is the law.
 ghost use Rattle.lio_calculus.specs.Afforded.{PlanAfforded};
+ghost use Rattle.lio_calculus.specs.Effect.{StepIsItsEntry};
 ghost use Rattle.lio_calculus.specs.Enabled.{LowTurnsWhereEnabled, SeenTaskIsEnabledBelow};
 ghost use Rattle.lio_calculus.specs.Guarded.{TurnIsGuarded};
 ghost use Rattle.lio_calculus.specs.Handles.{VisitMeetsHandle};
@@ -93,6 +94,11 @@ pub fn step_looks_at_two_cells()
 /// What a turn makes of these two cells goes by them alone.
 pub fn step_makes_the_same_cells()
     ensures { StepMakesTheSameCells }
+{}
+
+/// A turn makes of each cell what its entry makes of it.
+pub fn step_is_its_entry()
+    ensures { StepIsItsEntry }
 {}
 
 /// A refused turn changes the actor alone, and keeps its labels, its range and its node.

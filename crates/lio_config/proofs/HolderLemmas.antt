@@ -1,12 +1,12 @@
 -- The cells that holders stand for, and what a changed holder makes of them.
-use Rattle.std.proofs.Common.{◌≡◌, ◌∙◌, sym, ap, subst, refl, ℕ, zero, suc, ◌<◌, true, false, true≢false, List, [], ◌∷◌, map, length, get_or, Option, Some, None, option_and_then, is_some, arith}
+use Rattle.std.proofs.Common.{◌≡◌, ◌∙◌, sym, ap, subst, refl, ℕ, zero, suc, ◌<◌, List, [], ◌∷◌, map, length, get_or, Some, None, option_and_then, arith}
 use Rattle.std.specs.Prelude.{slice_get, slice_set, Result, Ok, Err, OnErr}
 use Rattle.std.specs.Option.{option_map}
 use Rattle.std.specs.Vec.{with_item}
 use Rattle.std.proofs.lemmas.List.{map-set, get_or-map, set-get_or}
 use Rattle.std.proofs.lemmas.Option.{slice_get_read}
 use Rattle.lio_syntax.specs.Statements.{Procedure}
-use Rattle.lio_calculus.specs.Step.{Cell, Configuration, blank, cell_at, task_after, with_cell}
+use Rattle.lio_calculus.specs.Step.{Cell, Configuration, blank, cell_at, with_cell}
 use Rattle.lio_task_turns.specs.StateOf.{program_of}
 use Rattle.lio_task.specs.declared.task.Task.{Task}
 use Rattle.lio_config.specs.declared.config.Holder.{Holder}
@@ -14,9 +14,10 @@ use Rattle.lio_config.specs.declared.config.Config.{Config}
 use Rattle.lio_task.specs.StateOf.{state_in}
 use Rattle.lio_config.specs.Configuration.{cell_of, configuration_of, task_in}
 
-pub err_on : {T E : Type 0} (P Q : Type 0) (result : Result T E) → (P → Q) → OnErr result P → OnErr result Q
-err_on P Q (Ok x) f h = h
-err_on P Q (Err e) f h = f h
+-- what holds anyway holds after a refusal
+pub on_err : {T E : Type 0} (P : Type 0) (result : Result T E) → P → OnErr result P
+on_err P (Ok x) h = tt
+on_err P (Err e) h = h
 
 -- the cell of a holder that is there
 pub cell_at-configuration_of : (script : List Procedure) (config : Config) (k : ℕ) (holder : Holder) → k < length config.holders.items → holder ≡ get_or config.holders.items k holder → cell_at (configuration_of script config) k ≡ cell_of script holder
@@ -84,11 +85,6 @@ two-cells script old new k n actor met same is =
     ∙ ap (with_cells old.longest) (map-set (cell_of script) (slice_set old.holders.items k actor) n met)
     ∙ ap (λ (cells : List Cell). with_cells old.longest (slice_set cells n (cell_of script met))) (map-set (cell_of script) old.holders.items k actor)
 
--- the task of a holder whose node served an act, where none was there, and where one was
-pub placed-none : (script : List Procedure) (was child : Option Task) → is_some was ≡ false → option_map (state_in script) child ≡ task_after (option_map (state_in script) was) (option_map (state_in script) child)
-placed-none script None child e = refl
-placed-none script (Some task) child e = absurd (true≢false e)
-
-pub placed-some : (script : List Procedure) (was child : Option Task) → is_some was ≡ true → option_map (state_in script) was ≡ task_after (option_map (state_in script) was) (option_map (state_in script) child)
-placed-some script None child e = absurd (true≢false (sym e))
-placed-some script (Some task) child e = refl
+-- a cell that was put where it stood
+pub with_cell-same : (c : Configuration) (k : ℕ) → with_cell c k (cell_at c k) ≡ c
+with_cell-same c k = ap (λ (cells : List Cell). record c { cells = cells }) (set-get_or c.cells k blank)

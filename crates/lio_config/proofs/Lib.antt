@@ -1,4 +1,3 @@
-pub mod StepAfter
 pub mod HolderLemmas
 pub mod MoveLemmas
 pub mod PairLemmas

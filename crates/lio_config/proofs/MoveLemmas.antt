@@ -8,27 +8,18 @@ use Rattle.lio_cells.specs.declared.state.State.{State}
 use Rattle.lio_cells.specs.declared.state.State.TheVariants.{Absent}
 use Rattle.lio_cells.specs.State.{ready as is_ready, answer}
 use Rattle.lio_syntax.specs.Statements.{Procedure}
-use Rattle.lio_syntax.specs.Lines.{script_lines}
 use Rattle.lio_calculus.specs.Task.{TaskState}
 use Rattle.lio_calculus.specs.Going as going
 use Rattle.lio_calculus.specs.Plan.{Over, Program, Target, Visit, plan}
 use Rattle.lio_calculus.specs.Step.{Configuration, Move, Turn, after, can, cell_at, entry_of, is_met, met, move_of, number_of, step, turn_of, visit, waits}
-use Rattle.lio_calculus.specs.Sound.{IsSound, IsTaskOf}
-use Rattle.lio_calculus.specs.Afforded.{AffordsAct, AffordsPlan}
+use Rattle.lio_calculus.specs.Sound.{IsTaskOf}
+use Rattle.lio_calculus.specs.Afforded.{AffordsAct}
 use Rattle.lio_calculus.specs.Meeting.{MeetsNode}
-use Rattle.lio_calculus.proofs.AffordedLemmas.{plan_affords}
-use Rattle.lio_calculus.proofs.MeetingLemmas.{visit_meets_node}
-use Rattle.lio_task_turns.specs.declared.turn.Onward.{Onward}
-use Rattle.lio_task_turns.specs.declared.turn.Target.{Target as Named}
-use Rattle.lio_task_plan.specs.Planned.{simple_of}
-use Rattle.lio_task_turns.specs.Turns.{onward_of, target_of}
 use Rattle.lio_config.specs.declared.config.Config.{Config}
 use Rattle.lio_config.specs.declared.config.Holder.{Holder}
 use Rattle.lio_task.specs.Births.{CanBear}
-use Rattle.lio_task.specs.StateOf.{state_in}
 use Rattle.lio_config.specs.Configuration.{cell_of, configuration_of}
-use Rattle.lio_config.specs.Takes.{PlansVisit}
-use Rattle.lio_config.proofs.HolderLemmas.{cell_at-configuration_of, cells-length, task-cell}
+use Rattle.lio_config.proofs.HolderLemmas.{cell_at-configuration_of, cells-length}
 
 -- a task that isn't there, or has no move, can't take a turn
 pub no-task-still : (c : Configuration) (k : ℕ) → (cell_at c k).task ≡ None → can c k ≡ false
@@ -70,25 +61,14 @@ pub visit-moves : (c : Configuration) (task : TaskState) (asked : Act) (target :
     → move_of (cell_at c) (plan c.program task) ≡ visit asked target onward (cell_at c (number_of target)).state
 visit-moves c task asked target onward plans there = ap (move_of (cell_at c)) plans ∙ ap (visit asked target onward) (met-there target (cell_at c (number_of target)).state there)
 
--- what a visit stands on
-pub meeting : (script : List Procedure) (config : Config) (k : ℕ) (asked : Act) (named : Named) (onward : Onward) → IsSound (configuration_of script config) → PlansVisit script config k asked named onward → MeetsNode (configuration_of script config) k asked (target_of named)
-meeting script config k asked named onward sound plans =
-    visit_meets_node (configuration_of script config) k (state_in script plans.task) asked (target_of named) (onward_of (script_lines script) (simple_of (state_in script plans.task).items) onward) sound
-    (task-cell script config k plans.task plans.is) plans.plans
-
 -- a visit of a node that isn't ready waits
-pub waits-still : (script : List Procedure) (config : Config) (k : ℕ) (asked : Act) (named : Named) (onward : Onward) → IsSound (configuration_of script config) → PlansVisit script config k asked named onward
-    → is_ready (cell_at (configuration_of script config) (number_of (target_of named))).state asked ≡ false → can (configuration_of script config) k ≡ false
-waits-still script config k asked named onward sound plans unready =
-    let c : Configuration = configuration_of script config in
-    let state : TaskState = state_in script plans.task in
-    let target : Target = target_of named in
-    let on : going.Onward = onward_of (script_lines script) (simple_of state.items) onward in
-    let meets : MeetsNode c k asked target = meeting script config k asked named onward sound plans in
-    no-move-still c k state (task-cell script config k plans.task plans.is)
-    (visit-moves c state asked target on plans.plans meets.met ∙ visit-waits asked target on (cell_at c (number_of target)).state (waiting (waits asked) meets.ready) unready)
+pub waits-still : (c : Configuration) (k : ℕ) (task : TaskState) (asked : Act) (target : Target) (onward : going.Onward) → IsTaskOf c k task → plan c.program task ≡ Visit asked target onward → MeetsNode c k asked target
+    → is_ready (cell_at c (number_of target)).state asked ≡ false → can c k ≡ false
+waits-still c k task asked target onward is plans meets unready =
+    no-move-still c k task is
+    (visit-moves c task asked target onward plans meets.met ∙ visit-waits asked target onward (cell_at c (number_of target)).state (waiting (waits asked) meets.ready) unready)
   where
-    waiting : (w : Bool) → (w ≡ false → is_ready (cell_at (configuration_of script config) (number_of (target_of named))).state asked ≡ true) → w ≡ true
+    waiting : (w : Bool) → (w ≡ false → is_ready (cell_at c (number_of target)).state asked ≡ true) → w ≡ true
     waiting true h = refl
     waiting false h = absurd (true≢false (sym (h refl) ∙ unready))
 
@@ -97,12 +77,6 @@ pub act-bears : (program : Program) (task : TaskState) (asked : Act) → task.fi
 act-bears program task (act.Fork birth) few affords = record { procedure = affords.procedure; range = omega (arith, few, affords.range); cleared = affords.cleared }
 act-bears program task (act.Spawn birth) few affords = record { procedure = affords.procedure; range = omega (arith, few, affords.range); cleared = affords.cleared }
 act-bears program task asked few affords = tt
-
-pub visit-bears : (script : List Procedure) (config : Config) (k : ℕ) (asked : Act) (named : Named) (onward : Onward) → IsSound (configuration_of script config) → (plans : PlansVisit script config k asked named onward) → CanBear script plans.task.label asked
-visit-bears script config k asked named onward sound plans =
-    let c : Configuration = configuration_of script config in
-    let state : TaskState = state_in script plans.task in
-    act-bears c.program state asked plans.task.range (subst (AffordsPlan c.program state) plans.plans (plan_affords c.program state (sound.clearance k state (task-cell script config k plans.task plans.is)))).1
 
 -- a holder where it was found, and one that wasn't found
 pub found-cell : (script : List Procedure) (config : Config) (n number : ℕ) (holders : List Holder) (holder : Holder) → holders ≡ config.holders.items → n ≡ number → true ≡ nat_lt n (length holders) → holder ≡ get_or holders n holder

@@ -1,5 +1,5 @@
 -- What is told of a configuration's next steps before they are taken.
-use Rattle.std.proofs.Common.{◌≡◌, ◌∙◌, refl, sym, ap, subst, ℕ, ◌<◌, ◌==◌, Bool, true, false, ◌&&◌, not, if◌then◌else◌, List, [], ◌∷◌, length, All, Option, Some, None, option_and_then, true≢false, arith}
+use Rattle.std.proofs.Common.{◌≡◌, ◌∙◌, refl, ap, subst, ℕ, ◌<◌, ◌==◌, Bool, true, false, ◌&&◌, not, if◌then◌else◌, List, [], ◌∷◌, length, All, Option, Some, None, option_and_then, arith}
 use Rattle.std.specs.Prelude.{◌||◌}
 use Rattle.std.specs.Option.{option_map, option_map_or}
 use Rattle.std.proofs.lemmas.Bool.{and_parts}
@@ -23,7 +23,7 @@ use Rattle.lio_calculus.specs.Operands.{seen_as, reference_of, variable_of, resu
 use Rattle.lio_calculus.specs.Task.{TaskState}
 use Rattle.lio_calculus.specs.Going as going
 use Rattle.lio_calculus.specs.Plan.{Plan, Over, Own, Visit, Target, plan}
-use Rattle.lio_calculus.specs.Step.{Configuration, Move, Turn, after, can, cell_at, entry_of, move_of, number_of, step, turn_of, waits}
+use Rattle.lio_calculus.specs.Step.{Configuration, Move, Turn, after, can, cell_at, entry_of, move_of, number_of, step, turn_of}
 use Rattle.lio_calculus.specs.Sound.{EachBound, IsSound, IsTaskOf, ItemSays, ValueNames}
 use Rattle.lio_calculus.specs.Waiting.{is_held_up, is_ready_for, is_waiting}
 use Rattle.lio_calculus.specs.Meeting.{MeetsNode}
@@ -36,7 +36,7 @@ use Rattle.lio_task.specs.declared.status.Status.TheVariants as status
 use Rattle.lio_task.specs.Next.{next_by, next_of}
 use Rattle.lio_task.specs.Status.{reading, status_by, status_of, waiting}
 use Rattle.lio_config.specs.Takes.{WouldShow}
-use Rattle.lio_config.proofs.MoveLemmas.{no-move-still, over-still, visit-moves, visit-ready, visit-waits}
+use Rattle.lio_config.proofs.MoveLemmas.{over-still, visit-moves, visit-ready, waits-still}
 
 -- whether a task that stands so can take a turn, where it has turns left or none
 abbrev pub moves_by : Configuration → Bool → Status → Bool
@@ -155,11 +155,4 @@ pub visit-stays : (c : Configuration) (k : ℕ) (task : TaskState) (asked : Act)
 visit-stays c k task asked n sound is e unready =
     let meets = visit-plan (plan c.program task) asked n e in
     let there : MeetsNode c k asked meets.target = visit_meets_node c k task asked meets.target meets.onward sound is meets.plan_is in
-    let here : is_ready (cell_at c (number_of meets.target)).state asked ≡ false = ap (λ (i : ℕ). is_ready (cell_at c i).state asked) meets.number_is ∙ unready in
-    no-move-still c k task is
-    (visit-moves c task asked meets.target meets.onward meets.plan_is there.met
-    ∙ visit-waits asked meets.target meets.onward (cell_at c (number_of meets.target)).state (waiting_of (waits asked) (is_ready (cell_at c (number_of meets.target)).state asked) there.ready here) here)
-  where
-    waiting_of : (w r : Bool) → (w ≡ false → r ≡ true) → r ≡ false → w ≡ true
-    waiting_of true r h e = refl
-    waiting_of false r h e = absurd (true≢false (sym (h refl) ∙ e))
+    waits-still c k task asked meets.target meets.onward is meets.plan_is there (ap (λ (i : ℕ). is_ready (cell_at c i).state asked) meets.number_is ∙ unready)

@@ -1,6 +1,6 @@
 -- A step keeps a configuration sound.
 use Rattle.std.proofs.Common.{ℕ}
-use Rattle.std.specs.Prelude.{Result, Ok, Err, IfOk, OnOk}
+use Rattle.std.specs.Prelude.{Result, Ok, Err, OnOk}
 use Rattle.lio_values.specs.declared.entry.Entry.{Entry}
 use Rattle.lio_calculus.specs.Sound.{IsSound}
 use Rattle.lio_calculus.specs.Step.{Configuration, Turn}
@@ -9,10 +9,10 @@ use Rattle.lio_calculus.proofs.TurnParts.{parts}
 use Rattle.lio_config.specs.declared.config.StepFault.{StepFault}
 use Rattle.lio_config.specs.Takes.{Steps}
 
-pub step-sound : (c next : Configuration) (k ticket : ℕ) (result : Result Entry StepFault) → IsSound c
-    → IfOk result (Steps c next k ticket) → OnOk result (IsSound next)
-step-sound c next k ticket (Ok entry) sound steps =
+pub take-sound : {T : Type 0} (c next : Configuration) (k ticket : ℕ) (entry : Entry) (result : Result T StepFault) → IsSound c
+    → OnOk result (Steps c next k ticket entry) → OnOk result (IsSound next)
+take-sound c next k ticket entry (Ok taken) sound steps =
     let turn : Turn = record { entry = entry; next = next } in
     let p = parts ticket c k turn steps in
     turn_keeps_soundness ticket c k p.task turn sound p.is steps
-step-sound c next k ticket (Err fault) sound steps = tt
+take-sound c next k ticket entry (Err fault) sound steps = tt

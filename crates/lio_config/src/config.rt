@@ -2,11 +2,12 @@
 ghost use Rattle.std.specs.Prelude.{◌≡◌};
 
 use crate::pair::pair_mut;
+use crate::turn::blank_entry;
 use lio_cells::Node;
 use lio_clauses::NoMemory;
 use lio_syntax::Script;
-use lio_task::{Task, Way, ended};
-use lio_task_plan::Planned;
+use lio_task::{Task, Way};
+use lio_task_plan::{Full, Plan};
 use lio_task_turns::{Onward, Target, Turn};
 use lio_values::{Act, Entry, Reply};
 use std::alloc::Global;
@@ -57,9 +58,10 @@ impl Config {
     ghost use Rattle.lio_values.specs.declared.act.Act.TheVariants.{Step as stepping};
     ghost use Rattle.lio_values.specs.declared.act.Reply.TheVariants.{Done as done};
     ghost use Rattle.lio_calculus.specs.Sound.{IsSound};
-    ghost use Rattle.lio_calculus.specs.Step.{can};
+    ghost use Rattle.lio_calculus.specs.Step.{can, number_of};
+    ghost use Rattle.lio_task_turns.specs.Turns.{target_of};
     ghost use Rattle.lio_config.specs.Configuration.{configuration_of, task_in};
-    ghost use Rattle.lio_config.specs.Takes.{PlansOwn, PlansVisit, Stays, Steps};
+    ghost use Rattle.lio_config.specs.Takes.{PlansFull, PlansOwn, PlansVisit, Stays, Steps};
 
     /// The task with a number.
     pub(crate) fn task(&self, k: u32) -> Option<&Task>
@@ -78,11 +80,12 @@ impl Config {
         act: Act,
         reply: Reply,
         way: Way,
-    ) -> Result<Entry, StepFault>
+        entry: &mut Entry,
+    ) -> Result<(), StepFault>
         requires sound { IsSound (configuration_of script.now self.old) }
-        requires plans { PlansOwn script.now self.old k act reply way }
-        ensures ok { IfOk result (Steps (configuration_of script.now self.old)
-            (configuration_of script.now self.new) k ticket) }
+        requires plans { PlansOwn script.now self.old.longest (task_in self.old k) act reply way }
+        ensures ok { OnOk result (Steps (configuration_of script.now self.old)
+            (configuration_of script.now self.new) k ticket entry.new) }
         ensures fault { IfErr result (Stays (configuration_of script.now self.old) k) }
         ensures err { OnErr result (configuration_of script.now self.new
             ≡ configuration_of script.now self.old) }
@@ -90,7 +93,10 @@ impl Config {
         let Some(actor) = self.holders.get_mut(k as usize) else {
             unreachable!()
         };
-        actor.turn_alone(alloc, script, ticket, k, act, reply, way)
+        actor.prepare_alone(alloc, script, k, act, reply, way, entry)?;
+        entry.ticket = ticket;
+        actor.record(entry);
+        Ok(())
     }
 
     /// The turn of a task that is a step of its own.
@@ -102,11 +108,13 @@ impl Config {
         ticket: u64,
         k: u32,
         way: Way,
-    ) -> Result<Entry, StepFault>
+        entry: &mut Entry,
+    ) -> Result<(), StepFault>
         requires sound { IsSound (configuration_of script.now self.old) }
-        requires plans { PlansOwn script.now self.old k stepping done way }
-        ensures ok { IfOk result (Steps (configuration_of script.now self.old)
-            (configuration_of script.now self.new) k ticket) }
+        requires plans { PlansOwn script.now self.old.longest (task_in self.old k) stepping done
+            way }
+        ensures ok { OnOk result (Steps (configuration_of script.now self.old)
+            (configuration_of script.now self.new) k ticket entry.new) }
         ensures fault { IfErr result (Stays (configuration_of script.now self.old) k) }
         ensures err { OnErr result (configuration_of script.now self.new
             ≡ configuration_of script.now self.old) }
@@ -114,7 +122,10 @@ impl Config {
         let Some(actor) = self.holders.get_mut(k as usize) else {
             unreachable!()
         };
-        actor.step_alone(alloc, script, ticket, k, way)
+        actor.prepare_step(alloc, script, k, way, entry)?;
+        entry.ticket = ticket;
+        actor.record(entry);
+        Ok(())
     }
 
     /// The turn of a task that can take one, and that meets a node.
@@ -127,12 +138,14 @@ impl Config {
         act: Act,
         target: Target,
         onward: Onward,
-    ) -> Result<Entry, StepFault>
+        entry: &mut Entry,
+    ) -> Result<(), StepFault>
         requires sound { IsSound (configuration_of script.now self.old) }
-        requires plans { PlansVisit script.now self.old k act target onward }
+        requires plans { PlansVisit script.now self.old.longest (task_in self.old k) act
+            (number_of (target_of target)) onward }
         requires can { IsTrue (can (configuration_of script.now self.old) k) }
-        ensures ok { IfOk result (Steps (configuration_of script.now self.old)
-            (configuration_of script.now self.new) k ticket) }
+        ensures ok { OnOk result (Steps (configuration_of script.now self.old)
+            (configuration_of script.now self.new) k ticket entry.new) }
         ensures fault { IfErr result (Stays (configuration_of script.now self.old) k) }
         ensures err { OnErr result (configuration_of script.now self.new
             ≡ configuration_of script.now self.old) }
@@ -140,7 +153,50 @@ impl Config {
         let n = target.number();
         drop(target);
         let (actor, met) = pair_mut(&mut self.holders, k as usize, n as usize);
-        actor.turn_meeting(alloc, script, ticket, k, met, n, act, onward)
+        let child = actor.prepare_meeting(alloc, script, k, met, n, act, onward, entry)?;
+        entry.ticket = ticket;
+        actor.record(entry);
+        met.record_met(entry, child);
+        Ok(())
+    }
+
+    /// The turn of a task that is planned in full.
+    #[inline(never)]
+    fn full(
+        &mut self,
+        alloc: Global,
+        script: &Script,
+        ticket: u64,
+        k: u32,
+        full: Full,
+        entry: &mut Entry,
+    ) -> Result<(), StepFault>
+        requires sound { IsSound (configuration_of script.now self.old) }
+        requires plans { PlansFull script.now self.old.longest (task_in self.old k) full }
+        ensures ok { OnOk result (Steps (configuration_of script.now self.old)
+            (configuration_of script.now self.new) k ticket entry.new) }
+        ensures fault { IfErr result (Stays (configuration_of script.now self.old) k) }
+        ensures err { OnErr result (configuration_of script.now self.new
+            ≡ configuration_of script.now self.old) }
+    {
+        let Some(task) = self.task(k) else {
+            unreachable!()
+        };
+        if !self.can_go_on(task, task.status(script)) {
+            return Err(StepFault::Still(k));
+        }
+        match task.planned(alloc, script, self.longest, full) {
+            Err(NoMemory) => Err(StepFault::NoMemory),
+            Ok(Turn::Step(onward)) => {
+                self.own_step(alloc, script, ticket, k, Way::On(onward), entry)
+            }
+            Ok(Turn::Own(act, reply, onward)) => {
+                self.own(alloc, script, ticket, k, act, reply, Way::On(onward), entry)
+            }
+            Ok(Turn::Visit(act, target, onward)) => {
+                self.visit(alloc, script, ticket, k, act, target, onward, entry)
+            }
+        }
     }
 
     /// Takes one small step: the turn of task `k`, whose entry has this ticket. The configuration
@@ -160,32 +216,46 @@ impl Config {
         ensures err { OnErr result (configuration_of script.now self.new
             ≡ configuration_of script.now self.old) }
     {
+        let mut entry = blank_entry(alloc)?;
+        match self.take(alloc, script, k, ticket, &mut entry) {
+            Ok(()) => Ok(entry),
+            Err(fault) => {
+                drop(entry);
+                Err(fault)
+            }
+        }
+    }
+
+    /// Takes one small step as `step` does, into an entry that it is lent.
+    pub fn take(
+        &mut self,
+        alloc: Global,
+        script: &Script,
+        k: u32,
+        ticket: u64,
+        entry: &mut Entry,
+    ) -> Result<(), StepFault>
+        requires { IsSound (configuration_of script.now self.old) }
+        ensures ok { OnOk result (Steps (configuration_of script.now self.old)
+            (configuration_of script.now self.new) k ticket entry.new) }
+        ensures sound { OnOk result (IsSound (configuration_of script.now self.new)) }
+        ensures fault { IfErr result (Stays (configuration_of script.now self.old) k) }
+        ensures err { OnErr result (configuration_of script.now self.new
+            ≡ configuration_of script.now self.old) }
+    {
         let Some(task) = self.task(k) else {
             return Err(StepFault::Still(k));
         };
-        let front = task.front(script);
-        if !self.can_go_on(task, task.status_by(&front)) {
-            return Err(StepFault::Still(k));
-        }
-        match task.plan_by(alloc, script, self.longest, front) {
-            Err(NoMemory) => Err(StepFault::NoMemory),
-            Ok(Planned::Over) => unreachable!(),
-            Ok(Planned::Control(control)) => {
-                self.own_step(alloc, script, ticket, k, Way::Step(control))
+        match task.plan(script) {
+            Plan::Over => Err(StepFault::Still(k)),
+            Plan::Short(short) => {
+                self.own_step(alloc, script, ticket, k, Way::Short(short), entry)
             }
-            Ok(Planned::Ends(content)) => {
-                let act = ended(alloc, content)?;
-                self.own(alloc, script, ticket, k, act, Reply::Done, Way::End)
+            Plan::Ends(ending) => {
+                let act = task.last_act(alloc, script, ending)?;
+                self.own(alloc, script, ticket, k, act, Reply::Done, Way::End, entry)
             }
-            Ok(Planned::Turn(Turn::Step(onward))) => {
-                self.own_step(alloc, script, ticket, k, Way::On(onward))
-            }
-            Ok(Planned::Turn(Turn::Own(act, reply, onward))) => {
-                self.own(alloc, script, ticket, k, act, reply, Way::On(onward))
-            }
-            Ok(Planned::Turn(Turn::Visit(act, target, onward))) => {
-                self.visit(alloc, script, ticket, k, act, target, onward)
-            }
+            Plan::Full(full) => self.full(alloc, script, ticket, k, full, entry),
         }
     }
 }

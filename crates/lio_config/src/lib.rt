@@ -9,3 +9,4 @@ mod preview;
 mod turn;
 
 pub use config::{Config, Holder, StepFault};
+pub use turn::blank_entry;

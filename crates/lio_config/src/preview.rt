@@ -57,7 +57,7 @@ impl Config {
     ghost use Rattle.lio_task.specs.Next.{next_of};
     ghost use Rattle.lio_task.specs.StateOf.{state_in};
     ghost use Rattle.lio_task.specs.Status.{status_of};
-    ghost use Rattle.lio_config.specs.Takes.{Stays, WouldShow};
+    ghost use Rattle.lio_config.specs.Takes.{Stays, WouldShow, awaited_at};
 
     /// Whether the node with a number gives what a task at its access wishes for.
     fn grants(&self, n: u32, wish: Wish) -> bool
@@ -93,6 +93,16 @@ impl Config {
         match self.task(k) {
             Some(task) => self.can_go_on(task, task.status(script)),
             None => false,
+        }
+    }
+
+    /// The node at whose access task `k` stands, if it stands at one. It takes no memory.
+    pub fn awaited(&self, script: &Script, k: u32) -> Option<u32>
+        ensures { result ≡ awaited_at script.now self.now k }
+    {
+        match self.task(k)?.status(script) {
+            Status::Access(n, _) | Status::Reading(n) => Some(n),
+            Status::Running | Status::Ended => None,
         }
     }
 

@@ -1,13 +1,14 @@
 -- The laws of guards. A law and its lemma have one name.
-use Rattle.std.proofs.Common.{◌≡◌, Option, Some, None, IsTrue, IsFalse, refl, sym, subst}
+use Rattle.std.proofs.Common.{◌≡◌, ◌∙◌, true, Option, Some, None, IsTrue, IsFalse, ap, refl, sym, subst}
 use Rattle.std.proofs.lemmas.Bool.{false≢true}
-use Rattle.std.specs.Option.{option_or}
+use Rattle.std.specs.Option.{is_none, option_or}
 use Rattle.lio_labels.specs.declared.label.Label.{Label}
 use Rattle.lio_labels.specs.declared.privilege.Priv.{Priv}
 use Rattle.lio_labels.specs.Flow.{flows}
 use Rattle.lio_labels.specs.Bounds.{join}
 use Rattle.lio_labels.proofs.FlowLemmas.{flow_is_reflexive}
 use Rattle.lio_labels.proofs.BoundLemmas.{left_flows_to_join, right_flows_to_join}
+use Rattle.lio_values.specs.declared.act.Op.{Op}
 use Rattle.lio_values.specs.declared.act.Op.TheVariants.{Lower}
 use Rattle.lio_values.specs.declared.fault.FaultKind.{FaultKind}
 use Rattle.lio_guards.specs.declared.class.Class.{Class}
@@ -34,6 +35,16 @@ refused-for None new kind e = absurd (cc)
 refused-for (Some found) new kind e = cc
 
 -- ---- by the class of the operation
+
+-- an operation that writes alone goes on as it is where its target may be written to
+pub write_lets : (op : Op) (current clearance target : Label) → class_of op ≡ Write → true ≡ is_none (write_fault current clearance target) → guarded op current clearance target ≡ Go current
+unfolding guarded
+write_lets op current clearance target is none =
+    ap (λ (c : Class). guarded_as c current clearance target) is ∙ ap (λ (f : Option FaultKind). go_unless f current) (there (write_fault current clearance target) none)
+  where
+    there : (f : Option FaultKind) → true ≡ is_none f → f ≡ None
+    there None e = refl
+    there (Some kind) e = absurd (false≢true (sym e))
 
 between : (current clearance target new label : Label) → go_unless (write_fault current clearance target) new ≡ Go label → IsBetween current clearance target
 between current clearance target new label e = write_fault-None current clearance target (goes-without (write_fault current clearance target) new label e)

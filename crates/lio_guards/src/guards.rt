@@ -6,6 +6,7 @@ ghost use Rattle.lio_labels.specs.Flow.{flows};
 ghost use Rattle.lio_labels.specs.Bounds.{join};
 ghost use Rattle.lio_guards.specs.Guard.{go_unless, guarded, guarded_relabel, raise_fault};
 ghost use Rattle.lio_guards.specs.Guard.{write_fault};
+ghost use Rattle.std.specs.Option.{is_none};
 
 use crate::class::Class;
 use crate::faults::{narrow_join, release_fault, write_fault};
@@ -14,6 +15,16 @@ use lio_clauses::NoMemory;
 use lio_labels::{Label, Priv};
 use lio_values::{FaultKind, Op};
 use std::alloc::Global;
+
+/// Whether a target may be made or written to: the current label flows to it, and it to the
+/// clearance. It takes no memory.
+#[inline(always)]
+#[tactic(auto, unfolding(crate::specs::Guard::write_fault))]
+pub fn may_write(current: &Label, clearance: &Label, target: &Label) -> bool
+    ensures { result ≡ is_none (write_fault current.now clearance.now target.now) }
+{
+    current.flows(target) && target.flows(clearance)
+}
 
 /// The verdict on an operation that makes the target or writes to it, and goes on at `label`.
 fn write(

@@ -6,3 +6,6 @@ pub mod SeenLemmas
 pub mod RunLemmas
 pub mod ScheduleLemmas
 pub mod InputLemmas
+pub mod WordLemmas
+pub mod ListLemmas
+pub mod SleepLemmas

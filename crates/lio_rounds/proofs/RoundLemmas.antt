@@ -1,7 +1,9 @@
 -- How a machine goes through a round.
-use Rattle.std.proofs.Common.{◌≡◌, ◌∙◌, refl, sym, ap, subst, ℕ, zero, suc, ◌+◌, ◌<◌, false, true≢false, List, [], ◌∷◌, ◌++◌, length, length-append, append_assoc, append-nil, drop, get_or, take, take-append-drop, Option, Some, None, is_some, arith}
+use Rattle.std.proofs.Common.{◌≡◌, ◌∙◌, refl, sym, ap, subst, ℕ, zero, suc, ◌+◌, ◌-◌, ◌<◌, ◌≤◌, inl, inr, Bool, true, false, true≢false, List, [], ◌∷◌, ◌++◌, length, length-append, append_assoc, append-nil, drop, get_or, take, take-append-drop, Option, Some, None, is_some, arith}
 use Rattle.std.proofs.Math.ListN.{get_or-append}
-use Rattle.std.proofs.lemmas.List.{take_more}
+use Rattle.std.specs.Int.{from_bool}
+use Rattle.std.proofs.lemmas.Bool.{cases_lt}
+use Rattle.std.proofs.lemmas.List.{take_more, take_all}
 use Rattle.std.specs.Option.{option_map}
 use Rattle.lio_values.specs.declared.entry.Entry.{Entry}
 use Rattle.lio_calculus.specs.Step.{Configuration, Turn, can, step}
@@ -14,6 +16,7 @@ use Rattle.lio_calculus_rounds.proofs.RoundLemmas.{round-append, round-moves, ro
 use Rattle.lio_calculus_rounds.proofs.EndLemmas.{Ends, rounds_go_on}
 use Rattle.lio_calculus_rounds.proofs.OrderLaws.{rounds-end_from}
 use Rattle.lio_rounds.specs.MachineState.{MachineState, HasBegun, HasTaken, HasRun, HasWalked}
+use Rattle.lio_rounds.specs.Schedule.{HasGoneOn}
 use Rattle.lio_rounds.proofs.MachineRuns.{StandsBefore, first-before, has_begun, has_run-append, has_run-nothing, has_run-one}
 
 -- a round that asks nobody
@@ -69,6 +72,76 @@ walked-stays old s walked k so_far still =
     no-step : (t : Option Turn) → is_some t ≡ false → t ≡ None
     no-step None e = refl
     no-step (Some turn) e = absurd (true≢false e)
+
+-- the place of a task in the order, one further
+take-further : (order born : List ℕ) (i k : ℕ) (listed : List ℕ) → listed ≡ order ++ born → k ≡ get_or listed i 0 → i < length order → take (i + 1) order ≡ take i order ++ k ∷ []
+take-further order born i k listed is at inside =
+    take_more order i 0 inside ∙ ap (λ (n : ℕ). take i order ++ n ∷ []) (sym (at ∙ ap (λ (ks : List ℕ). get_or ks i 0) is ∙ get_or-append order born 0 i inside))
+
+-- the round so far, with the number of those who moved
+pub record WalkedTo (old s : MachineState) (i moved : ℕ) : Type 0 where
+  pub so_far : HasWalked old s (take i old.order)
+  pub counted : moved ≡ length (round stepped (take i old.order) old.configuration).moved
+
+pub walked-to_none : (m : MachineState) → WalkedTo m m 0 0
+walked-to_none m = record { so_far = walked-nobody m; counted = ap (λ (r : Round Configuration). length r.moved) (sym (round-nobody stepped m.configuration)) }
+
+-- a place is passed over whose task can't take a turn
+walked-past : (old s : MachineState) (i moved : ℕ) → WalkedTo old s i moved → can s.configuration (get_or s.order i 0) ≡ false → WalkedTo old s (i + 1) moved
+walked-past old s i moved to still =
+    let before : List ℕ = take i old.order in
+    let born : List ℕ = (round stepped before old.configuration).born in
+    elim (cases_lt i (length old.order)) [
+      | inl inside ↦
+          let k : ℕ = get_or s.order i 0 in
+          let further = take-further old.order born i k s.order to.so_far.order refl inside in
+          let stays = walked-stays old s before k to.so_far still in
+          let both : HasWalked old s (take (i + 1) old.order) × (moved ≡ length (round stepped (take (i + 1) old.order) old.configuration).moved) =
+          subst (λ (ks : List ℕ). HasWalked old s ks × (moved ≡ length (round stepped ks old.configuration).moved)) (sym further) (stays.0, to.counted ∙ sym stays.1) in
+          record { so_far = both.0; counted = both.1 }
+      | inr outside ↦
+          let same : take (i + 1) old.order ≡ before = take_all (i + 1) old.order (omega (arith, outside)) ∙ sym (take_all i old.order (omega (arith, outside))) in
+          record {
+            so_far = subst (HasWalked old s) (sym same) to.so_far;
+            counted = to.counted ∙ ap (λ (ks : List ℕ). length (round stepped ks old.configuration).moved) (sym same);
+          }
+    ]
+
+-- and so are all places up to another one
+walked-over : (old s : MachineState) (i m moved : ℕ) → WalkedTo old s i moved → ((place : ℕ) → i ≤ place → place < i + m → can s.configuration (get_or s.order place 0) ≡ false) → WalkedTo old s (i + m) moved
+walked-over old s i zero moved to still = let same : i ≡ i + 0 = omega arith in subst (λ (n : ℕ). WalkedTo old s n moved) same to
+walked-over old s i (suc m) moved to still =
+    let same : i + 1 + m ≡ i + suc m = omega arith in
+    subst (λ (n : ℕ). WalkedTo old s n moved) same
+    (walked-over old s (i + 1) m moved (walked-past old s i moved to (still i (omega arith) (omega arith))) (λ place from before. still place (omega (arith, from)) (omega (arith, before))))
+
+pub walked-on : (old s : MachineState) (i j moved : ℕ) → WalkedTo old s i moved → i ≤ j → ((place : ℕ) → i ≤ place → place < j → can s.configuration (get_or s.order place 0) ≡ false) → WalkedTo old s j moved
+walked-on old s i j moved to later still =
+    let same : i + (j - i) ≡ j = omega (arith, later) in
+    subst (λ (n : ℕ). WalkedTo old s n moved) same (walked-over old s i (j - i) moved to (λ place from before. still place from (omega (arith, before, later))))
+
+-- the task at a place takes its turn, or takes none
+pub walked-asks : (old s new : MachineState) (i moved : ℕ) (took : Bool) → WalkedTo old s i moved → i < length old.order → HasGoneOn s new (get_or s.order i 0) took → WalkedTo old new (i + 1) (moved + from_bool took)
+walked-asks old s new i moved true to inside goes =
+    let before : List ℕ = take i old.order in
+    let k : ℕ = get_or s.order i 0 in
+    let further = take-further old.order (round stepped before old.configuration).born i k s.order to.so_far.order refl inside in
+    let went = walked-goes old s new before k goes.0 to.so_far goes.1 in
+    let both : HasWalked old new (take (i + 1) old.order) × (moved + 1 ≡ length (round stepped (take (i + 1) old.order) old.configuration).moved) =
+    subst (λ (ks : List ℕ). HasWalked old new ks × (moved + 1 ≡ length (round stepped ks old.configuration).moved)) (sym further) (went.0, ap (λ (n : ℕ). n + 1) to.counted ∙ sym went.1) in
+    record { so_far = both.0; counted = both.1 }
+walked-asks old s new i moved false to inside stays =
+    let same : moved ≡ moved + 0 = omega arith in
+    subst (λ (n : ℕ). WalkedTo old new (i + 1) n) same (subst (λ (m : MachineState). WalkedTo old m (i + 1) moved) (sym stays.0) (walked-past old s i moved to stays.1))
+
+pub one-at_most : (took : Bool) → from_bool took ≤ 1
+one-at_most true = omega arith
+one-at_most false = omega arith
+
+-- where all places are passed, the round is done
+pub walked-all : (old s : MachineState) (i moved : ℕ) → WalkedTo old s i moved → length old.order ≤ i → HasWalked old s old.order × (moved ≡ length (round stepped old.order old.configuration).moved)
+walked-all old s i moved to past =
+    subst (λ (ks : List ℕ). HasWalked old s ks × (moved ≡ length (round stepped ks old.configuration).moved)) (take_all i old.order past) (to.so_far, to.counted)
 
 -- a round over the first tasks of an order moves a first part of those whom the whole round moves
 pub walked-begins : (old s : MachineState) (order : List ℕ) (i : ℕ) → HasWalked old s (take i order) → HasBegun old s (round stepped order old.configuration).moved
@@ -150,8 +223,3 @@ rounds-complete old new lists has =
     let both : Some one ≡ Some two = sym runs.1 ∙ has.is_run in
     let same : one ≡ two = cc in
     subst IsComplete (ap (λ (r : Ran). r.last) same) end.complete
-
--- the place of a task in the order, one further
-pub take-further : (order born : List ℕ) (i k : ℕ) (listed : List ℕ) → listed ≡ order ++ born → k ≡ get_or listed i 0 → i < length order → take (i + 1) order ≡ take i order ++ k ∷ []
-take-further order born i k listed is at inside =
-    take_more order i 0 inside ∙ ap (λ (n : ℕ). take i order ++ n ∷ []) (sym (at ∙ ap (λ (ks : List ℕ). get_or ks i 0) is ∙ get_or-append order born 0 i inside))

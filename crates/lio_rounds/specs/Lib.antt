@@ -2,6 +2,9 @@ pub mod MachineState
 pub mod MachineParts
 pub mod Invariant
 pub mod Births
+pub mod Words
+pub mod Awake
+pub mod Sleep
 pub mod MachineLaws
 pub mod Runs
 pub mod Schedule

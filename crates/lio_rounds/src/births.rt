@@ -1,7 +1,7 @@
-//! The children of turns.
+//! The children and the ends of turns.
 ghost use Rattle.std.specs.Prelude.{◌≡◌};
 ghost use Rattle.lio_calculus_rounds.specs.Round.{born_in};
-ghost use Rattle.lio_rounds.specs.Births.{listed};
+ghost use Rattle.lio_rounds.specs.Births.{ended_in, listed};
 
 use lio_values::{Act, Entry};
 
@@ -12,6 +12,16 @@ pub(crate) fn born_in(entry: &Entry) -> Option<u32>
     match entry.act {
         Act::Fork(_) => entry.target,
         Act::Spawn(_) => entry.target,
+        _ => None,
+    }
+}
+
+/// The task that a turn ended, by its entry.
+pub(crate) fn ended_in(entry: &Entry) -> Option<u32>
+    ensures { result ≡ ended_in entry.now }
+{
+    match entry.act {
+        Act::Ended(_) => Some(entry.actor),
         _ => None,
     }
 }

@@ -2,11 +2,13 @@
 //! schedule, and keeps their journal.
 #![tactic(auto)]
 
+mod awake;
 mod births;
 mod by_rounds;
 mod by_schedule;
 pub mod laws;
 mod machine;
+mod places;
 
 pub use by_rounds::{Ran, run};
 pub use by_schedule::{Scheduled, run_by_schedule};

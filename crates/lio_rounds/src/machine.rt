@@ -1,28 +1,33 @@
 //! A machine that is stepped by hand or by rounds.
 ghost use Rattle.std.specs.Prelude.{◌≡◌};
 
+use crate::awake::Awake;
 use crate::births::born_in;
 use lio_clauses::NoMemory;
-use lio_config::{Config, StepFault as TurnFault};
+use lio_config::{Config, StepFault as TurnFault, blank_entry};
 use lio_events::Journal;
 use lio_syntax::Script;
 use lio_values::Entry;
 use std::alloc::Global;
 use std::marker::Model;
 
-/// A configuration with its script, and the journal of the turns taken so far.
+/// A configuration with its script, and the journal of the turns taken so far. A task that a round
+/// found unable to take a turn sleeps: a round doesn't ask it again until a turn meets the node that
+/// it waits for, or ends the task.
 #[derive(Drop)]
 pub struct Machine {
     config: Config,
     script: Script,
     entries: Vec<Entry>,
     order: Vec<u32>,
+    awake: Awake,
 }
 
 impl Model for Machine {
     ghost use Rattle.lio_config.specs.Configuration.{configuration_of};
     ghost use Rattle.lio_rounds.specs.MachineParts.{MachineParts, machine_code};
     ghost use Rattle.lio_rounds.specs.Invariant.{IsMachine};
+    ghost use Rattle.lio_rounds.specs.Sleep.{SleepersMay};
 
     ghost Value = { MachineParts };
 
@@ -35,13 +40,13 @@ impl Model for Machine {
       order = m.order.items;
     } };
 
-    ghost invariant = { λ m. IsMachine
-        (configuration_of m.script m.config) m.order.items m.entries.items };
+    ghost invariant = { λ m. let c = configuration_of m.script m.config
+        in IsMachine c m.order.items m.entries.items × SleepersMay c m.order.items m.awake };
 }
 
 impl Machine {
-    ghost use Rattle.std.specs.Prelude.{◌≡◌, ◌<◌, ◌^◌, [], length, slice_index, IfOk, IfErr, OnOk};
-    ghost use Rattle.std.specs.Prelude.{OnErr};
+    ghost use Rattle.std.specs.Prelude.{◌≡◌, ℕ, ◌<◌, ◌≤◌, ◌^◌, false, [], length, slice_index};
+    ghost use Rattle.std.specs.Prelude.{slice_index_or, IfOk, IfErr, OnOk, OnErr};
     ghost use Rattle.lio_config.specs.Configuration.{configuration_of};
     ghost use Rattle.lio_calculus.specs.Step.{can};
     ghost use Rattle.lio_calculus_rounds.specs.WellFormed.{IsWellFormed};
@@ -50,6 +55,7 @@ impl Machine {
     ghost use Rattle.lio_calculus_rounds.specs.Rounds.{IsComplete, rounds_from, stepped, tasks};
     ghost use Rattle.lio_config.specs.Takes.{Stays};
     ghost use Rattle.lio_rounds.specs.MachineState.{HasBegun, HasRun, HasTaken, HasWalked};
+    ghost use Rattle.lio_rounds.specs.Schedule.{HasGoneOn};
     ghost use Rattle.lio_rounds.specs.MachineParts.{machine_of};
     ghost use Rattle.lio_rounds.specs.MachineLaws.{HasRunSeen, IsSeenAsErased};
 
@@ -75,6 +81,7 @@ impl Machine {
             script,
             entries: Vec::new(alloc),
             order,
+            awake: Awake::new(alloc),
         })
     }
 
@@ -114,15 +121,20 @@ impl Machine {
             return Err(TurnFault::NoMemory);
         }
         let ticket = self.ticket();
-        match self.config.step(alloc, &self.script, k, ticket) {
-            Ok(entry) => {
+        let mut entry = blank_entry(alloc)?;
+        match self.config.take(alloc, &self.script, k, ticket, &mut entry) {
+            Ok(()) => {
                 if let Some(child) = born_in(&entry) {
                     self.order.push_reserved(child);
                 }
+                self.awake.wake_met(&entry);
                 self.entries.push_reserved(entry);
                 Ok(())
             }
-            Err(fault) => Err(fault),
+            Err(fault) => {
+                drop(entry);
+                Err(fault)
+            }
         }
     }
 
@@ -166,6 +178,48 @@ impl Machine {
         let _ = self.entries.try_reserve(turns);
     }
 
+    /// Lets task `k`, which stands at place `i` of the order, sleep. It can't take a turn.
+    fn rest(&mut self, alloc: Global, i: usize, k: u32)
+        requires place { i < length (machine_of self.old).order }
+        requires task { k ≡ slice_index (machine_of self.old).order i }
+        requires still { can (machine_of self.old).configuration k ≡ false }
+        ensures { machine_of self.new ≡ machine_of self.old }
+    {
+        let node = self.config.awaited(&self.script, k);
+        self.awake.rest(alloc, i as u32, node);
+    }
+
+    /// Takes the turn of task `k`, which stands at place `i` of the order, if it can take one, and
+    /// answers whether it did.
+    fn ask(&mut self, alloc: Global, i: usize, k: u32) -> Result<bool, NoMemory>
+        requires place { i < length (machine_of self.old).order }
+        requires task { k ≡ slice_index (machine_of self.old).order i }
+        ensures ok { IfOk result (HasGoneOn (machine_of self.old) (machine_of self.new) k) }
+        ensures err { OnErr result (machine_of self.new ≡ machine_of self.old) }
+    {
+        match self.advance(alloc, k) {
+            Ok(()) => Ok(true),
+            Err(TurnFault::Still(_)) => {
+                self.rest(alloc, i, k);
+                Ok(false)
+            }
+            Err(TurnFault::NoMemory) => Err(NoMemory),
+        }
+    }
+
+    /// The next place of the order from this one on that is awake. No task at those between can take
+    /// a turn.
+    fn next_awake(&self, from: usize, count: usize) -> usize
+        requires { count ≤ length (machine_of self.now).order }
+        ensures from { from ≤ result }
+        ensures still { (place : ℕ) → from ≤ place → place < result
+            → place < length (machine_of self.now).order
+            × (can (machine_of self.now).configuration
+            (slice_index_or (machine_of self.now).order place 0) ≡ false) }
+    {
+        self.awake.next(from, count)
+    }
+
     /// Lets each task of the order, as it stands, take a turn if it can, and answers how many did.
     /// After want of memory a first part of the round's turns was taken.
     pub fn round(&mut self, alloc: Global) -> Result<u32, NoMemory>
@@ -180,13 +234,11 @@ impl Machine {
     {
         let count = self.order().len();
         let mut moved = 0;
-        for i in 0..count {
+        let mut i = self.next_awake(0, count);
+        while i < count {
             let k = self.task_at(i);
-            match self.advance(alloc, k) {
-                Ok(()) => moved += 1,
-                Err(TurnFault::Still(_)) => {}
-                Err(TurnFault::NoMemory) => return Err(NoMemory),
-            }
+            moved += u32::from(self.ask(alloc, i, k)?);
+            i = self.next_awake(i + 1, count);
         }
         Ok(moved)
     }

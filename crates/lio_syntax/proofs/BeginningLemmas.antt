@@ -1,5 +1,5 @@
 -- The procedures that the lines of a script begin are those of the script.
-use Rattle.std.proofs.Common.{vec_len, ◌≡◌, ℕ, zero, suc, ◌+◌, ◌<◌, Bool, true, false, cond, if◌then◌else◌, List, [], ◌∷◌, ◌++◌, length, map, drop, get_or, Option, Some, None, bytes_eq, refl, ap, sym, subst, ◌∙◌, ◌^◌, arith, add-one, zero-add, append_assoc}
+use Rattle.std.proofs.Common.{vec_len, ◌≡◌, ℕ, zero, suc, ◌+◌, ◌<◌, Bool, true, false, cond, if◌then◌else◌, List, [], ◌∷◌, ◌++◌, length, map, drop, get_or, Option, Some, None, bytes_eq, refl, ap, sym, subst, ◌∙◌, ◌^◌, arith, zero-add, append_assoc}
 use Rattle.std.proofs.lemmas.List.{map-append, length-map, append-nil, drop_all}
 use Rattle.std.specs.Prelude.{slice_get, IfSome, ◌≤◌}
 use Rattle.std.specs.List.{position_from}
@@ -9,12 +9,14 @@ use Rattle.lio_syntax_lines.specs.declared.line.Line.TheVariants as line
 use Rattle.lio_syntax_lines.specs.Header.{Signature, header_of}
 use Rattle.lio_syntax.specs.Statements.{Statement, Statements, Do, If, IfElse, While, Try, Nothing, Then, Procedure}
 use Rattle.lio_syntax.specs.Lines.{statement_lines, block_lines, script_lines}
-use Rattle.lio_syntax.specs.Behind.{Outside, Block, behind}
+use Rattle.lio_syntax.specs.Behind.{Outside, Block, behind, script_of_lines}
+use Rattle.lio_syntax.proofs.FaultLemmas.{keeps-lines}
 use Rattle.lio_syntax.specs.ScriptCode.{behind-body}
 use Rattle.lio_syntax.specs.Beginnings.{Beginning, begun_by, beginnings, number_in, number_of, BeginsAt}
 use Rattle.lio_syntax.specs.Rules.{or_else}
 use Rattle.lio_syntax.specs.Headers.{count_in}
-use Rattle.lio_syntax.specs.Procedures.{Holds}
+use Rattle.lio_syntax.specs.Procedures.{Holds, Lists}
+use Rattle.lio_syntax.specs.Kept.{KeepsRules}
 use Rattle.lio_syntax.specs.declared.procedures.Procedures.{Procedures}
 
 snoc-by : (b : Bool) (i : ℕ) (before after new : Option ℕ) → after ≡ or_else before new → cond b (Some i) after ≡ or_else (cond b (Some i) before) new
@@ -105,13 +107,13 @@ pub record IsBegun (all : List Line) (procedure : Procedure) (others : List Proc
   pub body : behind (drop (suc beginning.at) all) ≡ Block procedure.body (Outside others)
 
 -- each procedure with its beginning, in order
-pub Begun : List Line → List Procedure → List Beginning → Type 0
+unfoldable pub Begun : List Line → List Procedure → List Beginning → Type 0
 Begun all [] [] = Unit {0}
 Begun all [] (beginning ∷ begun) = ⊥
 Begun all (procedure ∷ others) [] = ⊥
 Begun all (procedure ∷ others) (beginning ∷ begun) = IsBegun all procedure others beginning × Begun all others begun
 
-script-begun : (all : List Line) (at : ℕ) (script : List Procedure) → drop at all ≡ script_lines script → Begun all script (beginnings at (script_lines script))
+pub script-begun : (all : List Line) (at : ℕ) (script : List Procedure) → drop at all ≡ script_lines script → Begun all script (beginnings at (script_lines script))
 unfolding beginnings script_lines Begun
 script-begun all at [] e = tt {0}
 script-begun all at (procedure ∷ others) e =
@@ -218,3 +220,9 @@ going-more table new lines at l within is going more =
           ∙ ap (λ (b : List Beginning). going.0 ++ b) (sym (beginnings-drop at lines l within is))
           ∙ going.2,
     )
+
+-- the lines of a script begin few procedures
+pub few_procedures : (lines : List Line) (script : List Procedure) (table : Procedures) → KeepsRules lines → script_of_lines lines ≡ script → Lists table lines → length script < 2 ^ 32
+few_procedures lines script table keeps is lists =
+    let places = lists.places ∙ ap (λ (ls : List Line). map (λ (b : Beginning). b.at) (beginnings 0 ls)) (sym (keeps-lines lines keeps)) in
+    omega (arith, length-places (script_of_lines lines) table.places.items places, ap length is, lists.few)

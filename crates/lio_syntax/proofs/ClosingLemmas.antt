@@ -1,5 +1,5 @@
 -- Where blocks end.
-use Rattle.std.proofs.Common.{◌≡◌, ℕ, zero, suc, ◌+◌, ◌<◌, ◌≤◌, true, not, List, [], ◌∷◌, length, drop, get_or, add-one, refl, ap, sym, arith, ◌∙◌, true≢false}
+use Rattle.std.proofs.Common.{◌≡◌, ℕ, zero, suc, ◌+◌, ◌<◌, ◌≤◌, true, not, List, [], ◌∷◌, length, drop, get_or, add-one, refl, ap, sym, arith, ◌∙◌, true≢false, length-drop}
 use Rattle.std.proofs.Math.ListN.{set}
 use Rattle.std.proofs.Math.Seq.{drop-cons}
 use Rattle.std.proofs.lemmas.Grind.{common_steps}
@@ -162,6 +162,27 @@ end_is_behind_block lines at placed within inside =
     chain_first lines (behind (drop at lines)) (block_ends at (drop at lines)) inside
     (chain lines (open_after [] at lines) at (drop at lines) refl (accepts-drop [] at lines within placed))
 
+-- inside of a block there is a place at which it ends
+pub record SomeEnds (ends : List ℕ) : Type 0 where
+  pub first : ℕ
+  pub more : List ℕ
+  pub is : ends ≡ first ∷ more
+
+chain_some : (lines : List Line) (k : Behind) (ends : List ℕ) → IsInside k → Chain lines k ends → SomeEnds ends
+unfolding Chain
+chain_some lines (Outside procedures) ends inside c = absurd inside
+chain_some lines (Block block k) [] inside c = absurd c
+chain_some lines (Block block k) (at ∷ ends) inside c = record { first = at; more = ends; is = refl }
+chain_some lines (First block other k) [] inside c = absurd c
+chain_some lines (First block other k) (at ∷ ends) inside c = record { first = at; more = ends; is = refl }
+chain_some lines (Tried block x y handler k) [] inside c = absurd c
+chain_some lines (Tried block x y handler k) (at ∷ ends) inside c = record { first = at; more = ends; is = refl }
+
+pub some_ends : (lines : List Line) (at : ℕ) → accepts [] lines ≡ true → at ≤ length lines → IsInside (behind (drop at lines)) → SomeEnds (block_ends at (drop at lines))
+some_ends lines at placed within inside =
+    chain_some lines (behind (drop at lines)) (block_ends at (drop at lines)) inside
+    (chain lines (open_after [] at lines) at (drop at lines) refl (accepts-drop [] at lines within placed))
+
 -- the place for each line
 pub ends_behind-get : (at : ℕ) (lines : List Line) (i : ℕ) → i < length lines → get_or (ends_behind at lines) i 0 ≡ first_of (block_ends (at + suc i) (drop (suc i) lines))
 unfolding ends_behind
@@ -217,3 +238,39 @@ pub end_in_table : (lines : List Line) (table : List ℕ) (at : ℕ) → table �
 end_in_table lines table at is within =
     let same : 0 + suc at ≡ at + 1 = omega arith in
     ap (λ t. get_or t at 0) is ∙ ends_behind-get 0 lines at within ∙ ap (λ n. first_of (block_ends n (drop (suc at) lines))) same ∙ ap (λ n. first_of (block_ends (at + 1) (drop n lines))) (sym (add-one at))
+
+-- each of the places at which blocks end is one of the lines
+AllBelow : ℕ → List ℕ → Type 0
+AllBelow n [] = Unit {0}
+AllBelow n (place ∷ places) = (place < n) × AllBelow n places
+
+below_rest : (n : ℕ) (places : List ℕ) → AllBelow n places → AllBelow n (drop 1 places)
+unfolding AllBelow
+below_rest n [] below = tt {0}
+below_rest n (place ∷ places) below = below.1
+
+below_before : (n at : ℕ) (l : Line) (places : List ℕ) → at < n → AllBelow n places → AllBelow n (ends_before at l places)
+unfolding AllBelow
+below_before n at (line.Proc name parameters) places within below = below_rest n places below
+below_before n at (line.If a) places within below = below_rest n places below
+below_before n at line.Else places within below = (within, below_rest n places below)
+below_before n at (line.While a) places within below = below_rest n places below
+below_before n at line.Try places within below = below_rest n places below
+below_before n at (line.Catch x y) places within below = (within, below_rest n places below)
+below_before n at line.End places within below = (within, below)
+below_before n at (line.Do simple) places within below = below
+
+below_ends : (n at : ℕ) (lines : List Line) → at + length lines ≤ n → AllBelow n (block_ends at lines)
+unfolding AllBelow block_ends
+below_ends n at [] within = tt {0}
+below_ends n at (l ∷ lines) within = below_before n at l (block_ends (suc at) lines) (omega arith) (below_ends n (suc at) lines (omega arith))
+
+below_first : (n : ℕ) (places : List ℕ) → 0 < n → AllBelow n places → first_of places < n
+unfolding AllBelow
+below_first n [] some below = some
+below_first n (place ∷ places) some below = below.0
+
+pub end_within : (lines : List Line) (at : ℕ) → at < length lines → end_of lines (at + 1) < length lines
+end_within lines at within =
+    let rest : (at + 1) + length (drop (at + 1) lines) ≤ length lines = omega (arith, length-drop (at + 1) lines) in
+    below_first (length lines) (block_ends (at + 1) (drop (at + 1) lines)) (omega arith) (below_ends (length lines) (at + 1) (drop (at + 1) lines) rest)

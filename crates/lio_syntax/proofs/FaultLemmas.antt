@@ -72,7 +72,7 @@ pub fault_or-none : (rule : Option ℕ) (line : ℕ) (more : Option Place) → f
 fault_or-none None line more e = (refl, e)
 fault_or-none (Some rule) line more e = let some : Some (at_place line rule) ≡ None = e in absurd (cc)
 
-or_else-parts : {X : Type 0} (o p : Option X) → or_else o p ≡ None → (o ≡ None) × (p ≡ None)
+pub or_else-parts : {X : Type 0} (o p : Option X) → or_else o p ≡ None → (o ≡ None) × (p ≡ None)
 or_else-parts None p e = (refl, e)
 or_else-parts (Some x) p e = (e, absurd (let some : Some x ≡ None = e in cc))
 
@@ -209,3 +209,19 @@ unfolding open_from
 keeps-lines lines keeps =
     let none : lines_fault (map Says lines) ≡ None = is_none-none (lines_fault (map Says lines)) keeps in
     script_lines-accepted lines (rw (said_says lines) at (none-accepts (map Says lines) [] (map Says lines) none))
+
+again_none : (b : Bool) (other : Option ℕ) → (if b then Some 5 else other) ≡ None → b ≡ false
+again_none true other e = let some : Some 5 ≡ None = e in absurd (cc)
+again_none false other e = refl
+
+-- a line that breaks no rule begins no procedure of an earlier name, and those behind it break none
+pub none-again : (all before : List ParsedLine) (line : Line) (rest : List ParsedLine) → first_fault all before (Says line ∷ rest) ≡ None
+    → (is_again before (header_of line) ≡ false) × (first_fault all (before ++ Says line ∷ []) rest ≡ None)
+unfolding first_fault
+none-again all before line rest e =
+    let parts = fault_or-none (broken_by all before line) (length before + 1) (first_fault all (before ++ Says line ∷ []) rest) e in
+    let here : is_misplaced (open_behind before) line ≡ false = placed all before line parts.0 in
+    let more : or_else (broken_call all (line_call line)) (or_else (broken_header before line) (broken_limit before line)) ≡ None = rw here at parts.0 in
+    let calls = or_else-parts (broken_call all (line_call line)) (or_else (broken_header before line) (broken_limit before line)) more in
+    let headers = or_else-parts (broken_header before line) (broken_limit before line) calls.1 in
+    (again_none (is_again before (header_of line)) _ headers.0, parts.1)

@@ -8,5 +8,7 @@ pub mod PrintedScripts
 pub mod LawLemmas
 pub mod ClosingLemmas
 pub mod BeginningLemmas
+pub mod NameLemmas
 pub mod PlaceLemmas
+pub mod PlaceTable
 pub mod AllLaws

@@ -1,5 +1,5 @@
 -- What stands behind the line at a place, and which line ends a block.
-use Rattle.std.specs.Prelude.{slice_get, Option, Some, None}
+use Rattle.std.specs.Prelude.{slice_get, Some, None}
 use Rattle.std.proofs.Common.{◌≡◌, ℕ, zero, suc, ◌+◌, ◌≤◌, true, not, List, [], ◌∷◌, length, drop, refl, ap, sym, subst, ◌∙◌, add-one, arith, true≢false}
 use Rattle.std.proofs.lemmas.Bool.{and_parts}
 use Rattle.lio_syntax_lines.specs.declared.line.Line.{Line}
@@ -88,13 +88,13 @@ ends_proc lines name parameters (First block other k) ends fits = absurd (true�
 ends_proc lines name parameters (Tried block x y handler k) ends fits = absurd (true≢false (sym fits.0))
 
 -- what a place in lines says of what stands from there on
-drop_next : (lines rest : List Line) (at : ℕ) (l : Line) → drop at lines ≡ l ∷ rest → drop (suc at) lines ≡ rest
+pub drop_next : (lines rest : List Line) (at : ℕ) (l : Line) → drop at lines ≡ l ∷ rest → drop (suc at) lines ≡ rest
 drop_next [] rest zero l e = let wrong : [] ≡ l ∷ rest = e in absurd (cc)
 drop_next [] rest (suc at) l e = let wrong : [] ≡ l ∷ rest = e in absurd (cc)
 drop_next (first ∷ lines) rest zero l e = let same : first ∷ lines ≡ l ∷ rest = e in cc
 drop_next (first ∷ lines) rest (suc at) l e = drop_next lines rest at l e
 
-get_drop : (lines rest : List Line) (at : ℕ) (l : Line) → drop at lines ≡ l ∷ rest → slice_get lines at ≡ Some l
+pub get_drop : (lines rest : List Line) (at : ℕ) (l : Line) → drop at lines ≡ l ∷ rest → slice_get lines at ≡ Some l
 get_drop [] rest zero l e = let wrong : [] ≡ l ∷ rest = e in absurd (cc)
 get_drop [] rest (suc at) l e = let wrong : [] ≡ l ∷ rest = e in absurd (cc)
 get_drop (first ∷ lines) rest zero l e = let same : first ∷ lines ≡ l ∷ rest = e in cc

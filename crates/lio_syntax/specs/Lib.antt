@@ -12,5 +12,6 @@ pub mod Kept
 pub mod ScriptText
 pub mod Laws
 pub mod Closing
+pub mod Places
 pub mod Beginnings
 pub mod Procedures

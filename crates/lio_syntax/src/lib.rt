@@ -7,6 +7,7 @@ mod headers;
 mod hints;
 pub mod laws;
 mod open_block;
+mod places;
 mod print;
 mod procedures;
 mod progress;
@@ -18,6 +19,7 @@ mod text;
 
 pub use fault::ScriptFault;
 pub use hints::{Hint, OpenAt, TakesAt, hint_at, line_at, parameter_count};
+pub use places::Place;
 pub use print::print_script;
 pub use read::read_script;
 pub use script::Script;

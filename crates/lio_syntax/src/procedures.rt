@@ -1,6 +1,6 @@
 //! The procedures of a script, by name and by number.
 ghost use Rattle.std.specs.Prelude.{◌≡◌, ◌<◌, ◌++◌, ◌∷◌, [], List, ℕ, IfOk, OnOk, length};
-ghost use Rattle.std.specs.Prelude.{slice_index};
+ghost use Rattle.std.specs.Prelude.{slice_get, slice_index};
 ghost use Rattle.lio_syntax_lines.specs.Header.{header_of};
 ghost use Rattle.lio_syntax.specs.Beginnings.{Beginning, begun_by};
 
@@ -86,5 +86,12 @@ impl Procedures {
         ensures { result ≡ slice_index self.now.places.items number }
     {
         self.places[number]
+    }
+
+    /// The place of the line that begins the procedure with this number, if there is one.
+    pub(crate) fn find_line(&self, number: usize) -> Option<usize>
+        ensures { result ≡ slice_get self.now.places.items number }
+    {
+        self.places.get(number).copied()
     }
 }

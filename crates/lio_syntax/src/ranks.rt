@@ -1,7 +1,9 @@
 //! The ranks of names: the place of each among the names that its procedure binds, in their order.
-//! Once all of these are bound, that is the place of its binding.
+//! Once all of these are bound, that is the place of its binding. The rank of a procedure's name in
+//! a statement is the procedure's number.
 ghost use Rattle.std.specs.Prelude.{◌≡◌, OnOk};
 
+use crate::procedures::Procedures;
 use lio_clauses::NoMemory;
 use lio_syntax_lines::{Line, Operand, Simple};
 use lio_values::Name;
@@ -45,6 +47,13 @@ fn bound_name(simple: &Simple) -> Option<&Name> {
 /// Whether a line begins a procedure.
 fn begins_procedure(line: &Line) -> bool {
     matches!(line, Line::Proc(..))
+}
+
+/// Sets a name's rank. Those that don't fit are all the same.
+fn set_rank(name: &mut Name, rank: usize)
+    ensures { name.new ≡ name.old }
+{
+    name.set_rank(rank.min(u32::MAX as usize) as u32);
 }
 
 impl Ranks {
@@ -104,7 +113,7 @@ impl Ranks {
             .names
             .binary_search_by(|other| other.as_slice().cmp(name.bytes()))
         {
-            name.set_rank(rank.min(u32::MAX as usize) as u32);
+            set_rank(name, rank);
         }
     }
 
@@ -213,4 +222,36 @@ pub(crate) fn rank_names(alloc: Global, lines: &mut [Line]) -> Result<(), NoMemo
         ranks.rank_line(&mut lines[place]);
     }
     Ok(())
+}
+
+/// Sets the rank of a procedure's name to the procedure's number, if it has one.
+fn rank_procedure(procedures: &Procedures, name: &mut Name)
+    ensures { name.new ≡ name.old }
+{
+    if let Some(number) = procedures.number(name.bytes()) {
+        set_rank(name, number);
+    }
+}
+
+/// Sets the rank of the name of the procedure that a statement calls, forks or spawns.
+fn rank_called(procedures: &Procedures, simple: &mut Simple)
+    ensures { simple.new ≡ simple.old }
+{
+    match simple {
+        Simple::Call(_, procedure, _) => rank_procedure(procedures, procedure),
+        Simple::Fork(_, _, _, _, procedure, _) => rank_procedure(procedures, procedure),
+        Simple::Spawn(_, _, procedure, _) => rank_procedure(procedures, procedure),
+        _ => {}
+    }
+}
+
+/// Sets the ranks of the names of procedures in the statements of lines.
+pub(crate) fn rank_procedures(procedures: &Procedures, lines: &mut [Line])
+    ensures { lines.new ≡ lines.old }
+{
+    for place in 0..lines.len() {
+        if let Line::Do(simple) = &mut lines[place] {
+            rank_called(procedures, simple);
+        }
+    }
 }

@@ -7,7 +7,7 @@ use Rattle.lio_syntax.specs.Statements.{Statements, Procedure}
 use Rattle.lio_syntax.specs.Lines.{script_lines}
 use Rattle.lio_task_control.specs.Environment.{Environment, bind_all}
 use Rattle.lio_task_control.specs.Items.{enter}
-use Rattle.lio_task_control.specs.Continuation.{block_at}
+use Rattle.lio_task_control.specs.Continuation.{body_at}
 use Rattle.lio_task_control.specs.Throwing.{Place}
 use Rattle.lio_calculus.specs.Task.{TaskState}
 use Rattle.lio_calculus.specs.Step.{child_of, parameters_of, body_of}
@@ -37,20 +37,20 @@ named parameters values block procedure p b =
     ap (λ (ps : List (List ℕ)). record { environment = bind_all [] ps values; items = enter block [] }) p
     ∙ ap (λ (body : Statements). record { environment = bind_all [] procedure.parameters values; items = enter body [] }) b
 
-pub child_is : (script : List Procedure) (longest : ℕ) (label : Label) (birth : Birth) (parameters : List (List ℕ)) (body : ℕ) (place : Place) → IsNumbered script birth.proc_at parameters body
-    → place ≡ record { environment = bind_all [] parameters birth.args; items = enter (block_at (script_lines script) body) [] }
+pub child_is : (script : List Procedure) (longest : ℕ) (label : Label) (birth : Birth) (parameters : List (List ℕ)) (at : ℕ) (place : Place) → IsNumbered script birth.proc_at parameters at
+    → place ≡ record { environment = bind_all [] parameters birth.args; items = enter (body_at (script_lines script) at) [] }
     → placed place label birth ≡ child_of (program_of script longest) label birth
 unfolding child_of before
-child_is script longest label birth parameters body place is e =
+child_is script longest label birth parameters at place is e =
     ap (λ (p : Place). placed p label birth)
-    (e ∙ named parameters birth.args (block_at (script_lines script) body) is.procedure is.parameters_are is.body_is ∙ ap (before birth.args) (sym is.is))
+    (e ∙ named parameters birth.args (body_at (script_lines script) at) is.procedure is.parameters_are is.body_is ∙ ap (before birth.args) (sym is.is))
 
-pub child_with : (script : List Procedure) (longest : ℕ) (label here clearance : Label) (birth : Birth) (number : ℕ) (parameters : List (List ℕ)) (body : ℕ) (environment : Environment) (place : Place)
-    → number ≡ birth.proc_at → IsNumbered script number parameters body → environment ≡ bind_all [] parameters birth.args
-    → place ≡ record { environment = environment; items = enter (block_at (script_lines script) body) [] } → here ≡ label → clearance ≡ birth.clearance
+pub child_with : (script : List Procedure) (longest : ℕ) (label here clearance : Label) (birth : Birth) (number : ℕ) (parameters : List (List ℕ)) (at : ℕ) (environment : Environment) (place : Place)
+    → number ≡ birth.proc_at → IsNumbered script number parameters at → environment ≡ bind_all [] parameters birth.args
+    → place ≡ record { environment = environment; items = enter (body_at (script_lines script) at) [] } → here ≡ label → clearance ≡ birth.clearance
     → record (placed place here birth) { clearance = clearance } ≡ child_of (program_of script longest) label birth
-child_with script longest label here clearance birth number parameters body environment place is numbered bound at is_label is_clearance =
+child_with script longest label here clearance birth number parameters at environment place is numbered bound stands is_label is_clearance =
     ap (λ (c : Label). record (placed place here birth) { clearance = c }) is_clearance
     ∙ ap (λ (l : Label). placed place l birth) is_label
-    ∙ child_is script longest label birth parameters body place (subst (λ (n : ℕ). IsNumbered script n parameters body) is numbered)
-    (at ∙ ap (λ (e : Environment). record { environment = e; items = enter (block_at (script_lines script) body) [] }) bound)
+    ∙ child_is script longest label birth parameters at place (subst (λ (n : ℕ). IsNumbered script n parameters at) is numbered)
+    (stands ∙ ap (λ (e : Environment). record { environment = e; items = enter (body_at (script_lines script) at) [] }) bound)

@@ -4,24 +4,31 @@ use Rattle.lio_labels.specs.Flow.{flows}
 use Rattle.lio_values.specs.declared.act.Act.{Act}
 use Rattle.lio_values.specs.declared.act.Reply.{Reply}
 use Rattle.lio_syntax_lines.specs.declared.line.Line.{Line}
+use Rattle.lio_syntax_lines.specs.declared.line.Simple.{Simple}
 use Rattle.lio_calculus.specs.Task.{TaskState}
 use Rattle.lio_calculus.specs.Going.{gone_on}
 use Rattle.lio_calculus.specs.Plan.{Program, plan}
 use Rattle.lio_calculus.specs.Afforded.{Affords, AffordsPlan}
 use Rattle.lio_calculus.proofs.AffordedLemmas.{plan_affords}
-use Rattle.lio_task_plan.specs.declared.planned.Planned.{Planned}
-use Rattle.lio_task_plan.specs.declared.planned.Planned.TheVariants as planned
+use Rattle.lio_task_plan.specs.declared.plan.Plan.{Plan}
+use Rattle.lio_task_plan.specs.Planned.{IsPlanned, plan_by, simple_of}
 use Rattle.lio_task_turns.specs.declared.turn.Turn.{Turn}
 use Rattle.lio_task_turns.specs.declared.turn.Turn.TheVariants as turn
-use Rattle.lio_task_plan.specs.Planned.{plan_of, simple_of}
 use Rattle.lio_task_turns.specs.Turns.{onward_in, onward_of, turn_of}
-use Rattle.lio_task.specs.Next.{next_by, next_of, resumed_by, resumed}
+use Rattle.lio_task.specs.Next.{next_by, next_in, next_of, resumed_by, resumed}
 
-pub next_is : (program : Program) (lines : List Line) (task : TaskState) (p : Planned) → plan_of lines task.items p ≡ plan program task → next_by (plan_of lines task.items p) ≡ next_of program task
-next_is program lines task p e = ap next_by e
+-- what a plan does is what the task's next turn does
+pub next_is : (program : Program) (task : TaskState) (p : Plan) → IsPlanned program task p → next_by (plan_by program task task.items p) ≡ next_of program task
+next_is program task p e = ap next_by e
+
+-- and what a turn does is what its plan does
+pub turn_does : (lines : List Line) (simple : Simple) (t : Turn) → next_in t ≡ next_by (turn_of lines simple t)
+turn_does lines simple (turn.Step onward) = refl
+turn_does lines simple (turn.Own act reply onward) = refl
+turn_does lines simple (turn.Visit act target onward) = refl
 
 -- a task affords how it goes on after a turn
-pub turn_afforded : (program : Program) (lines : List Line) (task : TaskState) (t : Turn) → IsTrue (flows task.label task.clearance) → plan_of lines task.items (planned.Turn t) ≡ plan program task
+pub turn_afforded : (program : Program) (lines : List Line) (task : TaskState) (t : Turn) → IsTrue (flows task.label task.clearance) → turn_of lines (simple_of task.items) t ≡ plan program task
     → Affords task (onward_of lines (simple_of task.items) (onward_in t))
 turn_afforded program lines task (turn.Step onward) cleared e = subst (AffordsPlan program task) (sym e) (plan_affords program task cleared)
 turn_afforded program lines task (turn.Own asked reply onward) cleared e = subst (AffordsPlan program task) (sym e) (plan_affords program task cleared)
@@ -33,6 +40,7 @@ turn_resumes lines task asked reply (turn.Step onward) = refl
 turn_resumes lines task asked reply (turn.Own act answer onward) = refl
 turn_resumes lines task asked reply (turn.Visit act target onward) = refl
 
-pub planned_resumes : (program : Program) (lines : List Line) (task new : TaskState) (asked : Act) (reply : Reply) (p : Planned) → plan_of lines task.items p ≡ plan program task
-    → new ≡ resumed_by task asked reply (plan_of lines task.items p) → new ≡ resumed program task asked reply
-planned_resumes program lines task new asked reply p e f = f ∙ ap (resumed_by task asked reply) e
+-- a task after the turn of its plan
+pub planned_resumes : (program : Program) (task new : TaskState) (asked : Act) (reply : Reply) (p : Plan) → IsPlanned program task p
+    → new ≡ resumed_by task asked reply (plan_by program task task.items p) → new ≡ resumed program task asked reply
+planned_resumes program task new asked reply p e f = f ∙ ap (resumed_by task asked reply) e

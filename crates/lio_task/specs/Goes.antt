@@ -11,11 +11,12 @@ use Rattle.lio_calculus.specs.Task.{TaskState}
 use Rattle.lio_calculus.specs.Going as going
 use Rattle.lio_calculus.specs.Going.{gone_on}
 use Rattle.lio_calculus.specs.Afforded.{Affords}
-use Rattle.lio_task_plan.specs.declared.planned.Control.{Control}
+use Rattle.lio_task_plan.specs.declared.plan.Control.{Control}
+use Rattle.lio_task_plan.specs.declared.plan.Short.{Short}
 use Rattle.lio_task_turns.specs.declared.turn.Onward.{Onward}
-use Rattle.lio_task_plan.specs.Planned.{control_of, simple_of}
+use Rattle.lio_task_plan.specs.Leads.{LeadsShort}
+use Rattle.lio_task_plan.specs.Planned.{control_of, short_of, simple_of}
 use Rattle.lio_task_turns.specs.Turns.{onward_of}
-use Rattle.lio_task_plan.specs.Leads.{Leads}
 use Rattle.lio_task.specs.declared.go.Way.{Way}
 use Rattle.lio_task.specs.declared.go.Way.TheVariants as way
 use Rattle.lio_task.specs.declared.task.Task.{Task}
@@ -27,7 +28,7 @@ spent task = record task { items = rest_of task.items; turns = task.turns - 1 }
 
 -- how a task with these items goes on
 abbrev pub way_of : List Line → List Item → Way → going.Onward
-way_of lines items (way.Step control) = control_of lines items control
+way_of lines items (way.Short step) = short_of items step
 way_of lines items way.End = going.End
 way_of lines items (way.On onward) = onward_of lines (simple_of items) onward
 
@@ -39,7 +40,7 @@ CanGoOn script task onward =
 
 -- a task can go on in this way
 abbrev pub CanGo : List Procedure → Task → Way → Type 0
-CanGo script task (way.Step control) = Leads (script_lines script) (state_in script task).items control
+CanGo script task (way.Short step) = LeadsShort (state_in script task).items step
 CanGo script task way.End = Unit {0}
 CanGo script task (way.On onward) = CanGoOn script task onward
 
@@ -51,7 +52,12 @@ GoesOn script old new onward asked reply =
 -- a task has gone on by a step of control, whatever the act and the reply
 abbrev pub Steps : List Procedure → Task → Task → Control → Type 0
 Steps script old new control =
-    (asked : Act) (reply : Reply) → state_in script new ≡ gone_on (state_in script old) (control_of (script_lines script) (state_in script old).items control) asked reply
+    (asked : Act) (reply : Reply) → state_in script new ≡ gone_on (state_in script old) (control_of (state_in script old).items control) asked reply
+
+-- a task has gone on by a short step, whatever the act and the reply
+abbrev pub StepsShort : List Procedure → Task → Task → Short → Type 0
+StepsShort script old new step =
+    (asked : Act) (reply : Reply) → state_in script new ≡ gone_on (state_in script old) (short_of (state_in script old).items step) asked reply
 
 -- a task has gone on in a way
 abbrev pub Goes : List Procedure → Task → Task → Way → Act → Reply → Type 0

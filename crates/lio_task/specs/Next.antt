@@ -1,10 +1,13 @@
 -- What a task's next turn does, and the task after it.
-use Rattle.lio_values.specs.declared.act.Act.{Act}
-use Rattle.lio_values.specs.declared.act.Reply.{Reply}
+use Rattle.lio_values.specs.declared.act.Act.TheVariants as act
+use Rattle.lio_values.specs.declared.act.Reply.TheVariants.{Done}
 use Rattle.lio_calculus.specs.Task.{TaskState}
-use Rattle.lio_calculus.specs.Going.{gone_on}
 use Rattle.lio_calculus.specs.Plan.{Program, Plan, Over, Own, Visit, plan}
 use Rattle.lio_calculus.specs.Step.{number_of}
+pub use Rattle.lio_calculus.specs.Effect.{resumed, resumed_by}
+use Rattle.lio_task_turns.specs.declared.turn.Turn.{Turn}
+use Rattle.lio_task_turns.specs.declared.turn.Turn.TheVariants as turn
+use Rattle.lio_task_turns.specs.Turns.{target_of}
 use Rattle.lio_task.specs.declared.next.Next.{Next}
 use Rattle.lio_task.specs.declared.next.Next.TheVariants as next
 
@@ -14,16 +17,12 @@ next_by Over = next.Over
 next_by (Own asked reply onward) = next.Own asked reply
 next_by (Visit asked target onward) = next.Visit asked (number_of target)
 
--- a task after the turn of a plan, with the turn's act and reply
-abbrev pub resumed_by : TaskState → Act → Reply → Plan → TaskState
-resumed_by task asked reply Over = task
-resumed_by task asked reply (Own act answer onward) = gone_on task onward asked reply
-resumed_by task asked reply (Visit act target onward) = gone_on task onward asked reply
+-- what a turn does
+abbrev pub next_in : Turn → Next
+next_in (turn.Step onward) = next.Own act.Step Done
+next_in (turn.Own asked reply onward) = next.Own asked reply
+next_in (turn.Visit asked target onward) = next.Visit asked (number_of (target_of target))
 
 -- what a task's next turn does
 abbrev pub next_of : Program → TaskState → Next
 next_of program task = next_by (plan program task)
-
--- a task after its next turn, with the turn's act and reply
-abbrev pub resumed : Program → TaskState → Act → Reply → TaskState
-resumed program task asked reply = resumed_by task asked reply (plan program task)

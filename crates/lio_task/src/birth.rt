@@ -29,9 +29,9 @@ impl Task {
     {
         let procedure = Procedure::numbered(script, birth.proc_at);
         let environment = procedure.environment(alloc, &birth.args)?;
-        let continuation = Continuation::of_body(alloc, procedure.body, environment)?;
         let label = at.copy(alloc)?;
         let clearance = birth.clearance.copy(alloc)?;
+        let continuation = Continuation::of_body(alloc, script, procedure.line, environment);
         Ok(Task {
             continuation,
             label,

@@ -4,7 +4,7 @@
 use crate::task::Task;
 use lio_clauses::NoMemory;
 use lio_syntax::Script;
-use lio_task_plan::Control;
+use lio_task_plan::Short;
 use lio_task_turns::Onward;
 use lio_values::{Act, Reply};
 use std::alloc::Global;
@@ -12,8 +12,8 @@ use std::alloc::Global;
 /// How a task goes on after its turn.
 #[derive(Drop)]
 pub enum Way<'s> {
-    /// By a step of control.
-    Step(Control),
+    /// By a short step.
+    Short(Short<'s>),
     /// Not at all.
     End,
     /// After the turn of a statement or of its access.
@@ -40,7 +40,7 @@ impl Task {
         ensures err { OnErr result (state_in script.now self.new ≡ state_in script.now self.old) }
     {
         match way {
-            Way::Step(control) => self.go_step(alloc, script, control),
+            Way::Short(short) => self.go_short(alloc, script, short),
             Way::End => {
                 self.go_to_end(script);
                 Ok(())

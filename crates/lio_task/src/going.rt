@@ -10,7 +10,7 @@ use lio_clauses::NoMemory;
 use lio_labels::Label;
 use lio_syntax::Script;
 use lio_task_control::Environment;
-use lio_values::{Act, Content, Fault, Handle, Held, Name, Plain, Reply, Value};
+use lio_values::{Act, Content, Fault, Handle, Held, Name, Plain, Reply, Small, Value};
 use std::alloc::Global;
 
 /// Done, or out of memory, after which all is as before.
@@ -26,12 +26,14 @@ impl Task {
     ghost use Rattle.lio_syntax.specs.Statements as statement;
     ghost use Rattle.lio_syntax_lines.specs.declared.line.Simple.{Simple as Simply};
     ghost use Rattle.lio_task_control.specs.Items.{Access, Back, enter};
-    ghost use Rattle.lio_task_control.specs.Continuation.{block_at, mark_at};
-    ghost use Rattle.lio_task_control.specs.Front.{AtStatement, Begins, IsBack, IsOwn};
+    ghost use Rattle.lio_task_control.specs.Continuation.{body_at};
+    ghost use Rattle.lio_task_control.specs.Front.{AtStatement, Begins, IsBack, IsOwn, entered};
+    ghost use Rattle.lio_task_control.specs.Front.{entered_other};
     ghost use Rattle.lio_task_control.specs.Throwing.{returned};
     ghost use Rattle.lio_values.specs.declared.value.Value.TheVariants as value;
     ghost use Rattle.lio_values.specs.declared.value.Plain.TheVariants.{Unit as unit};
     ghost use Rattle.lio_values.specs.declared.value.Content.TheVariants as content;
+    ghost use Rattle.lio_values.specs.Small.{plain_of};
     ghost use Rattle.lio_calculus.specs.Going as going;
     ghost use Rattle.lio_task.specs.Goes.{spent};
 
@@ -53,6 +55,19 @@ impl Task {
         ensures err { OnErr result (state_in script.now self.new ≡ state_in script.now self.old) }
     {
         self.continuation.bind(alloc, script, name, value)?;
+        self.turns = self.turns.saturating_sub(1);
+        Ok(())
+    }
+
+    /// A name is bound to a small value.
+    #[inline(always)]
+    fn go_set(&mut self, alloc: Global, script: &Script, name: &Name, small: Small) -> Done
+        requires { AtStatement (state_in script.now self.old).items }
+        ensures ok { OnOk result (state_in script.now self.new ≡ going.binding
+            (spent (state_in script.now self.old)) name.now (value.Bare (plain_of small))) }
+        ensures err { OnErr result (state_in script.now self.new ≡ state_in script.now self.old) }
+    {
+        self.continuation.set(alloc, script, name, small)?;
         self.turns = self.turns.saturating_sub(1);
         Ok(())
     }
@@ -108,19 +123,19 @@ impl Task {
         script: &Script,
         name: &Name,
         environment: Environment,
-        body: usize,
+        line: usize,
     ) -> Done
         requires { AtStatement (state_in script.now self.old).items }
         ensures ok { OnOk result (let was = spent (state_in script.now self.old) in
             state_in script.now self.new ≡ record was {
               environment = environment;
-              items = enter (block_at (script_lines script.now) body)
+              items = enter (body_at (script_lines script.now) line)
                   (Back was.environment name.now ∷ was.items);
             }) }
         ensures err { OnErr result (state_in script.now self.new ≡ state_in script.now self.old) }
     {
         self.continuation
-            .call(alloc, script, name, environment, body)?;
+            .call(alloc, script, name, environment, line)?;
         self.turns = self.turns.saturating_sub(1);
         Ok(())
     }
@@ -150,19 +165,17 @@ impl Task {
     }
 
     /// The current label is raised, and the access of the statement in front comes in its place.
-    fn go_raise_to(&mut self, script: &Script, label: Label) -> Done
+    fn go_raise_to(&mut self, script: &Script, label: Label)
         requires at { AtStatement (state_in script.now self.old).items }
         requires cleared { IsTrue (flows label self.old.clearance) }
-        ensures ok { OnOk result ((simple : Simply) → Begins (state_in script.now self.old).items
+        ensures { (simple : Simply) → Begins (state_in script.now self.old).items
             (statement.Do simple) → let was = spent (state_in script.now self.old) in
             state_in script.now self.new
-            ≡ record was { label = label; items = Access simple ∷ was.items }) }
-        ensures err { OnErr result (state_in script.now self.new ≡ state_in script.now self.old) }
+            ≡ record was { label = label; items = Access simple ∷ was.items } }
     {
-        self.continuation.access(script)?;
+        self.continuation.access(script);
         self.label = label;
         self.turns = self.turns.saturating_sub(1);
-        Ok(())
     }
 
     /// The clearance is lowered. It takes no memory.
@@ -200,46 +213,24 @@ impl Task {
         self.cells -= 1 + count;
     }
 
-    /// A block begins.
-    fn go_enter(&mut self, script: &Script, block: usize) -> Done
+    /// The block of the statement that comes first begins. It takes no memory.
+    fn go_enter(&mut self, script: &Script)
         requires { AtStatement (state_in script.now self.old).items }
-        ensures ok { OnOk result (let was = spent (state_in script.now self.old) in
-            state_in script.now self.new ≡ record was {
-              items = enter (block_at (script_lines script.now) block) was.items;
-            }) }
-        ensures err { OnErr result (state_in script.now self.new ≡ state_in script.now self.old) }
+        ensures { let was = state_in script.now self.old in
+            state_in script.now self.new ≡ record (spent was) { items = entered was.items } }
     {
-        self.continuation.enter(script, block)?;
+        self.continuation.enter(script);
         self.turns = self.turns.saturating_sub(1);
-        Ok(())
     }
 
-    /// The block of a loop begins, in front of the loop.
-    fn go_repeat(&mut self, script: &Script, block: usize) -> Done
-        ensures ok { OnOk result (let was = state_in script.now self.old in
-            state_in script.now self.new ≡ record (spent was) {
-              items = enter (block_at (script_lines script.now) block) was.items;
-            }) }
-        ensures err { OnErr result (state_in script.now self.new ≡ state_in script.now self.old) }
-    {
-        self.continuation.repeat(script, block)?;
-        self.turns = self.turns.saturating_sub(1);
-        Ok(())
-    }
-
-    /// A block begins whose faults a handler catches.
-    fn go_guard(&mut self, script: &Script, block: usize, catch: usize) -> Done
+    /// The block of an `else` begins, or what comes behind the `if`. It takes no memory.
+    fn go_enter_other(&mut self, script: &Script)
         requires { AtStatement (state_in script.now self.old).items }
-        ensures ok { OnOk result (let was = spent (state_in script.now self.old) in
-            state_in script.now self.new ≡ record was {
-              items = enter (block_at (script_lines script.now) block)
-                  (mark_at (script_lines script.now) catch was.items);
-            }) }
-        ensures err { OnErr result (state_in script.now self.new ≡ state_in script.now self.old) }
+        ensures { let was = state_in script.now self.old in
+            state_in script.now self.new ≡ record (spent was) { items = entered_other was.items } }
     {
-        self.continuation.guard(script, block, catch)?;
+        self.continuation.enter_other(script);
         self.turns = self.turns.saturating_sub(1);
-        Ok(())
     }
 
     /// The caller goes on.

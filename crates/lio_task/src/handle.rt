@@ -60,9 +60,9 @@ impl Task {
             Front::Back => None,
             Front::Mark => None,
             Front::Fail(_) => None,
-            Front::Choice { .. } => None,
-            Front::Loop { .. } => None,
-            Front::Guarded { .. } => None,
+            Front::Choice(_) => None,
+            Front::Loop(_) => None,
+            Front::Guarded => None,
         }
     }
 }

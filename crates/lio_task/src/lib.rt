@@ -12,6 +12,6 @@ mod status;
 mod task;
 
 pub use go::Way;
-pub use next::{Next, ended};
+pub use next::Next;
 pub use status::Status;
 pub use task::Task;

@@ -1,15 +1,15 @@
 //! What a task's next turn does, and the task after it.
 ghost use Rattle.std.specs.Prelude.{◌≡◌, IfOk};
 ghost use Rattle.lio_values.specs.declared.act.Act.TheVariants as act;
+ghost use Rattle.lio_task.specs.Next.{next_in};
 
 use crate::go::Way;
 use crate::task::Task;
 use lio_clauses::NoMemory;
 use lio_syntax::Script;
-use lio_task_control::Front;
-use lio_task_plan::{Planned, plan_next};
-use lio_task_turns::Turn;
-use lio_values::{Act, Content, Held, Reply};
+use lio_task_plan::{Ending, Full, Plan, content_of, plan_full, plan_next};
+use lio_task_turns::{Attempt, Turn};
+use lio_values::{Act, Held, Reply};
 use std::alloc::Global;
 
 /// What a task's next turn does.
@@ -24,48 +24,50 @@ pub enum Next {
 }
 
 impl Task {
-    ghost use Rattle.std.specs.Prelude.{◌≡◌, IfOk, OnOk, OnErr};
+    ghost use Rattle.std.specs.Prelude.{◌≡◌, ℕ, IfOk, OnOk, OnErr};
+    ghost use Rattle.lio_values.specs.declared.act.Act.TheVariants as act;
     ghost use Rattle.lio_syntax.specs.Lines.{script_lines};
-    ghost use Rattle.lio_task_control.specs.Front.{IsFront};
     ghost use Rattle.lio_calculus.specs.Plan as plan;
     ghost use Rattle.lio_task_turns.specs.StateOf.{program_of};
-    ghost use Rattle.lio_task_plan.specs.Planned.{plan_of};
-    ghost use Rattle.lio_task_plan.specs.Leads.{LeadsOn};
+    ghost use Rattle.lio_task_turns.specs.Turns.{turn_of};
+    ghost use Rattle.lio_task_plan.specs.Planned.{IsPlanned, content_by, full_by, simple_of};
+    ghost use Rattle.lio_task_plan.specs.Leads.{LeadsFull, LeadsOn};
     ghost use Rattle.lio_task.specs.Next.{next_of, resumed};
     ghost use Rattle.lio_task.specs.StateOf.{state_in};
 
-    /// The plan of its next turn.
-    pub fn plan<'s>(
-        &self,
-        alloc: Global,
-        script: &'s Script,
-        longest: u32,
-    ) -> Result<Planned<'s>, NoMemory>
-        ensures plan { IfOk result (λ planned. let state = state_in script.now self.now in
-            plan_of (script_lines script.now) state.items planned
-            ≡ plan.plan (program_of script.now longest) state) }
-        ensures leads { IfOk result
-            (LeadsOn (script_lines script.now) (state_in script.now self.now).items) }
+    /// The plan of its next turn. It takes no memory.
+    #[inline(always)]
+    pub fn plan<'s>(&self, script: &'s Script) -> Plan<'s>
+        ensures plan { (longest : ℕ) → IsPlanned (program_of script.now longest)
+            (state_in script.now self.now) result }
+        ensures leads { LeadsOn (state_in script.now self.now).items result }
     {
-        self.plan_by(alloc, script, longest, self.front(script))
+        plan_next(&self.standing(), self.front(script))
     }
 
-    /// The plan of its next turn, by what comes first in it.
-    pub fn plan_by<'s>(
+    /// The turn that is planned in full.
+    pub fn planned<'s>(
         &self,
         alloc: Global,
         script: &Script,
         longest: u32,
-        front: Front<'_, 's>,
-    ) -> Result<Planned<'s>, NoMemory>
-        requires { IsFront (script_lines script.now) (state_in script.now self.now).items front }
-        ensures plan { IfOk result (λ planned. let state = state_in script.now self.now in
-            plan_of (script_lines script.now) state.items planned
-            ≡ plan.plan (program_of script.now longest) state) }
-        ensures leads { IfOk result
-            (LeadsOn (script_lines script.now) (state_in script.now self.now).items) }
+        full: Full<'s>,
+    ) -> Attempt<'s>
+        requires { LeadsFull (state_in script.now self.now).items full }
+        ensures { IfOk result (λ turn. let state = state_in script.now self.now in
+            turn_of (script_lines script.now) (simple_of state.items) turn
+            ≡ full_by (program_of script.now longest) state full.entry) }
     {
-        plan_next(alloc, &self.standing(), script, longest, front)
+        plan_full(alloc, &self.standing(), script, longest, full)
+    }
+
+    /// The act in which it ends.
+    pub fn last_act(&self, alloc: Global, script: &Script, ending: Ending) -> Result<Act, NoMemory>
+        ensures { IfOk result (λ asked. let state = state_in script.now self.now in
+            asked ≡ act.Ended (content_by state state.items ending)) }
+    {
+        let content = content_of(alloc, &self.standing(), script, ending)?;
+        Ok(Act::Ended(Held::new(alloc, content)?))
     }
 
     /// What its next turn does. Over comes exactly where it has ended.
@@ -73,22 +75,13 @@ impl Task {
         ensures { IfOk result (λ next. next
             ≡ next_of (program_of script.now longest) (state_in script.now self.now)) }
     {
-        match self.plan(alloc, script, longest)? {
-            Planned::Over => Ok(Next::Over),
-            Planned::Control(_) => Ok(Next::Own(Act::Step, Reply::Done)),
-            Planned::Ends(content) => Ok(Next::Own(ended(alloc, content)?, Reply::Done)),
-            Planned::Turn(Turn::Step(onward)) => {
-                drop(onward);
-                Ok(Next::Own(Act::Step, Reply::Done))
+        match self.plan(script) {
+            Plan::Over => Ok(Next::Over),
+            Plan::Short(_) => Ok(Next::Own(Act::Step, Reply::Done)),
+            Plan::Ends(ending) => {
+                Ok(Next::Own(self.last_act(alloc, script, ending)?, Reply::Done))
             }
-            Planned::Turn(Turn::Own(act, reply, onward)) => {
-                drop(onward);
-                Ok(Next::Own(act, reply))
-            }
-            Planned::Turn(Turn::Visit(act, target, onward)) => {
-                drop(onward);
-                Ok(Next::Visit(act, target.number()))
-            }
+            Plan::Full(full) => Ok(next_in(self.planned(alloc, script, longest, full)?)),
         }
     }
 
@@ -106,21 +99,37 @@ impl Task {
             longest) (state_in script.now self.old) act.now reply.now) }
         ensures err { OnErr result (state_in script.now self.new ≡ state_in script.now self.old) }
     {
-        match self.plan(alloc, script, longest)? {
-            Planned::Over => Ok(()),
-            Planned::Control(control) => self.go(alloc, script, Way::Step(control), act, reply),
-            Planned::Ends(content) => {
-                drop(content);
-                self.go(alloc, script, Way::End, act, reply)
+        match self.plan(script) {
+            Plan::Over => Ok(()),
+            Plan::Short(short) => self.go_short(alloc, script, short),
+            Plan::Ends(_) => {
+                self.go_to_end(script);
+                Ok(())
             }
-            Planned::Turn(turn) => self.go(alloc, script, Way::On(turn.onward()), act, reply),
+            Plan::Full(full) => {
+                let turn = self.planned(alloc, script, longest, full)?;
+                self.go(alloc, script, Way::On(turn.onward()), act, reply)
+            }
         }
     }
 }
 
-/// The act in which a task ends with a content.
-pub fn ended(alloc: Global, content: Content) -> Result<Act, NoMemory>
-    ensures { IfOk result (λ asked. asked ≡ act.Ended content) }
+/// What a turn does.
+fn next_in(turn: Turn) -> Next
+    ensures { result ≡ next_in turn.entry }
 {
-    Ok(Act::Ended(Held::new(alloc, content)?))
+    match turn {
+        Turn::Step(onward) => {
+            drop(onward);
+            Next::Own(Act::Step, Reply::Done)
+        }
+        Turn::Own(act, reply, onward) => {
+            drop(onward);
+            Next::Own(act, reply)
+        }
+        Turn::Visit(act, target, onward) => {
+            drop(onward);
+            Next::Visit(act, target.number())
+        }
+    }
 }

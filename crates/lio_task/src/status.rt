@@ -35,7 +35,7 @@ impl Task {
 
     /// What comes first in what it still has to do.
     pub fn front<'t, 's>(&'t self, script: &'s Script) -> Front<'t, 's>
-        ensures { IsFront (script_lines script.now) (state_in script.now self.now).items result }
+        ensures { IsFront (state_in script.now self.now).items result }
     {
         self.continuation.front(script)
     }
@@ -43,7 +43,7 @@ impl Task {
     /// Where it stands, by what comes first in it. It takes no memory.
     pub fn status_by(&self, front: &Front<'_, '_>) -> Status
         ensures { (script : List Procedure)
-            → IsFront (script_lines script) (state_in script self.now).items front.now
+            → IsFront (state_in script self.now).items front.now
             → result ≡ status_of (state_in script self.now) }
     {
         if self.ended {

@@ -8,23 +8,21 @@ use Rattle.lio_syntax_lines.specs.declared.line.Line.TheVariants as line
 use Rattle.lio_syntax.specs.Statements.{Statement, Statements, Do, If, IfElse, While, Try, Nothing, Then}
 use Rattle.lio_syntax.specs.Behind.{Behind, Outside, Block, First, Tried, in_front, before_if, before_while, before_try, before_else, before_catch, before_proc, behind}
 use Rattle.lio_syntax.specs.OpenBlocks.{accepts}
-use Rattle.lio_syntax.specs.Closing.{ends_before, block_ends, first_of, end_of, outside, IsInside}
+use Rattle.lio_syntax.specs.Closing.{end_of, outside, IsInside}
 use Rattle.lio_syntax.proofs.ClosingLemmas.{end_is_behind_block}
 use Rattle.lio_syntax.proofs.PlaceLemmas.{EndLine, end_line, Shape, here, get_within}
 use Rattle.lio_task_control.specs.Continuation.{block_of, block_at}
-use Rattle.lio_task_control.specs.Items.{Item, enter}
-use Rattle.lio_task_control.specs.Front.{choice_at, Begins, IsGuarded}
-use Rattle.lio_task_control.specs.Places.{if_else, else_at, behind_else, block_of_else}
+use Rattle.lio_syntax.specs.Places.{if_else, else_at, behind_else, block_of_else}
 
 -- a statement in front
-front_block : (statement : Statement) (k : Behind) → IsInside k → block_of (in_front statement k) ≡ Then statement (block_of k)
+pub front_block : (statement : Statement) (k : Behind) → IsInside k → block_of (in_front statement k) ≡ Then statement (block_of k)
 front_block statement (Outside procedures) inside = absurd inside
 front_block statement (Block block k) inside = refl
 front_block statement (First block other k) inside = refl
 front_block statement (Tried block x y handler k) inside = refl
 
 -- behind the end of the innermost block
-behind_end : (lines : List Line) (at : ℕ) → accepts [] lines ≡ true → at ≤ length lines → IsInside (behind (drop at lines))
+pub behind_end : (lines : List Line) (at : ℕ) → accepts [] lines ≡ true → at ≤ length lines → IsInside (behind (drop at lines))
     → behind (drop (end_of lines at + 1) lines) ≡ outside (behind (drop at lines))
 behind_end lines at placed within inside =
     ap (λ (n : ℕ). behind (drop n lines)) (add-one (end_of lines at)) ∙ end_is_behind_block lines at placed within inside
@@ -38,7 +36,7 @@ block_at-do lines at simple placed is =
     ap (λ (ls : List Line). block_of (behind ls)) h.same ∙ front_block (Do simple) (behind (drop (at + 1) lines)) h.shape
 
 -- a loop
-while_inside : (a : Operand) (k : Behind) → Shape (line.While a) k → IsInside k
+pub while_inside : (a : Operand) (k : Behind) → Shape (line.While a) k → IsInside k
 unfolding Shape
 while_inside a (Outside procedures) shape = absurd shape
 while_inside a (Block block k) shape = tt {0}
@@ -61,8 +59,13 @@ block_at-while lines at a placed is =
     ap (λ (ls : List Line). block_of (behind ls)) h.same ∙ while_case a k h.shape
     ∙ ap (λ (b : Behind). Then (While a (block_of k)) (block_of b)) (sym (behind_end lines (at + 1) placed h.within (while_inside a k h.shape)))
 
+-- the `if` of an operand, with a block and, where there is one, the block of its `else`
+abbrev pub choice_at : List Line → Operand → ℕ → Option ℕ → Statement
+choice_at lines condition block None = If condition (block_at lines block)
+choice_at lines condition block (Some other) = IfElse condition (block_at lines block) (block_at lines other)
+
 -- a choice
-if_inside : (a : Operand) (k : Behind) → Shape (line.If a) k → IsInside k
+pub if_inside : (a : Operand) (k : Behind) → Shape (line.If a) k → IsInside k
 unfolding Shape
 if_inside a (Outside procedures) shape = absurd shape
 if_inside a (Block block k) shape = tt {0}
@@ -106,7 +109,7 @@ pub record TryAt (lines : List Line) (at catch : ℕ) (statements : Statements) 
   pub says : slice_get lines catch ≡ Some (line.Catch code payload)
   pub same : statements ≡ Then (Try (block_at lines (at + 1)) code payload (block_at lines (catch + 1))) (block_at lines (end_of lines (catch + 1) + 1))
 
-try_inside : (k : Behind) → Shape line.Try k → IsInside k
+pub try_inside : (k : Behind) → Shape line.Try k → IsInside k
 unfolding Shape
 try_inside (Outside procedures) shape = absurd shape
 try_inside (Block block k) shape = absurd shape
@@ -199,42 +202,6 @@ pub block_at-none : (lines : List Line) (at : ℕ) → slice_get lines at ≡ No
 unfolding block_at behind
 block_at-none lines at is = ap (λ (ls : List Line). block_of (behind ls)) (drop_none lines at is)
 
--- each of the places at which blocks end is one of the lines
-AllBelow : ℕ → List ℕ → Type 0
-AllBelow n [] = Unit {0}
-AllBelow n (place ∷ places) = (place < n) × AllBelow n places
-
-below_rest : (n : ℕ) (places : List ℕ) → AllBelow n places → AllBelow n (drop 1 places)
-unfolding AllBelow
-below_rest n [] below = tt {0}
-below_rest n (place ∷ places) below = below.1
-
-below_before : (n at : ℕ) (l : Line) (places : List ℕ) → at < n → AllBelow n places → AllBelow n (ends_before at l places)
-unfolding AllBelow
-below_before n at (line.Proc name parameters) places within below = below_rest n places below
-below_before n at (line.If a) places within below = below_rest n places below
-below_before n at line.Else places within below = (within, below_rest n places below)
-below_before n at (line.While a) places within below = below_rest n places below
-below_before n at line.Try places within below = below_rest n places below
-below_before n at (line.Catch x y) places within below = (within, below_rest n places below)
-below_before n at line.End places within below = (within, below)
-below_before n at (line.Do simple) places within below = below
-
-below_ends : (n at : ℕ) (lines : List Line) → at + length lines ≤ n → AllBelow n (block_ends at lines)
-unfolding AllBelow block_ends
-below_ends n at [] within = tt {0}
-below_ends n at (l ∷ lines) within = below_before n at l (block_ends (suc at) lines) (omega arith) (below_ends n (suc at) lines (omega arith))
-
-below_first : (n : ℕ) (places : List ℕ) → 0 < n → AllBelow n places → first_of places < n
-unfolding AllBelow
-below_first n [] some below = some
-below_first n (place ∷ places) some below = below.0
-
-pub end_within : (lines : List Line) (at : ℕ) → at < length lines → end_of lines (at + 1) < length lines
-end_within lines at within =
-    let rest : (at + 1) + length (drop (at + 1) lines) ≤ length lines = omega (arith, length-drop (at + 1) lines) in
-    below_first (length lines) (block_ends (at + 1) (drop (at + 1) lines)) (omega arith) (below_ends (length lines) (at + 1) (drop (at + 1) lines) rest)
-
 -- what a line that was found says
 pub says : (lines : List Line) (at : ℕ) (l m : Line) → Some l ≡ slice_get lines at → l ≡ m → slice_get lines at ≡ Some m
 says lines at l m found is = sym found ∙ ap (λ (x : Line). Some x) is
@@ -251,20 +218,3 @@ block_at-other lines at line.Try placed is not_do not_if not_while not_try = abs
 block_at-other lines at (line.Catch x y) placed is not_do not_if not_while not_try = block_at-catch lines at x y placed (sym is)
 block_at-other lines at line.End placed is not_do not_if not_while not_try = block_at-end lines at placed (sym is)
 block_at-other lines at (line.Do simple) placed is not_do not_if not_while not_try = absurd (not_do simple refl)
-
--- a block that begins with a statement, before other items
-pub begins-enter : (block rest : Statements) (statement : Statement) (items : List Item) → block ≡ Then statement rest → Begins (enter block items) statement
-unfolding enter
-begins-enter block rest statement items is = let P : Statements → Type 0 = λ b. Begins (enter b items) statement in subst P (sym is) refl
-
--- a block that begins with a `try`
-pub guarded-enter : (lines : List Line) (at catch place : ℕ) (block : Statements) (items : List Item) → catch ≡ place → TryAt lines at catch block
-    → IsGuarded lines (enter block items) (at + 1) place
-guarded-enter lines at catch place block items is t =
-    let P : ℕ → Type 0 = λ n. IsGuarded lines (enter block items) (at + 1) n in
-    subst P is (record {
-      code = t.code;
-      payload = t.payload;
-      line = t.says;
-      begins = begins-enter block (block_at lines (end_of lines (catch + 1) + 1)) (Try (block_at lines (at + 1)) t.code t.payload (block_at lines (catch + 1))) items t.same;
-    })

@@ -1,5 +1,9 @@
 pub mod BlockLemmas
-pub mod PartLemmas
+pub mod OwnLemmas
+pub mod ItemLemmas
+pub mod ExitLemmas
+pub mod FrontLemmas
+pub mod FrameLemmas
 pub mod EnvironmentLemmas
 pub mod ContinuationLemmas
 pub mod HidingLemmas

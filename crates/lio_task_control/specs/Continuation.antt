@@ -1,15 +1,16 @@
 -- What the code's frames stand for: the items of a task. Places are numbers of lines in the script, from 0.
-use Rattle.std.specs.Prelude.{ℕ, ◌+◌, List, [], ◌∷◌, drop, Option, Some, slice_get}
+use Rattle.std.specs.Prelude.{ℕ, zero, suc, ◌+◌, List, [], ◌∷◌, ◌++◌, drop, Option, Some, None, slice_get}
 use Rattle.lio_syntax_lines.specs.declared.line.Line.{Line}
 use Rattle.lio_syntax_lines.specs.declared.line.Line.TheVariants as line
-use Rattle.lio_syntax.specs.Statements.{Statements, Nothing}
+use Rattle.lio_syntax.specs.Statements.{Statements, Nothing, Try}
+use Rattle.lio_syntax.specs.Statements as statement
 use Rattle.lio_syntax.specs.Behind.{Behind, Outside, Block, First, Tried, behind}
-use Rattle.lio_task_control.specs.declared.part.Part.{Part}
-use Rattle.lio_task_control.specs.declared.part.Part.TheVariants as part
+use Rattle.lio_task_control.specs.declared.frame.Stage.{Stage}
+use Rattle.lio_task_control.specs.declared.frame.Stage.TheVariants as stage
 use Rattle.lio_task_control.specs.declared.frame.Frame.{Frame}
 use Rattle.lio_task_control.specs.declared.frame.Call.{Call}
 use Rattle.lio_task_control.specs.declared.continuation.Continuation.{Continuation}
-use Rattle.lio_task_control.specs.Items.{Item, Access, Mark, Back, Fail, enter}
+use Rattle.lio_task_control.specs.Items.{Item, Do, Access, Mark, Back, Fail, enter, rest_of}
 use Rattle.lio_task_control.specs.Throwing.{Place}
 
 -- the statements of the innermost block that stand behind a place; outside of procedures there are none
@@ -23,39 +24,60 @@ block_of (Tried block x y handler k) = block
 unfoldable pub block_at : List Line → ℕ → Statements
 block_at lines at = block_of (behind (drop at lines))
 
--- the access of the statement that a line says, if it says one
-abbrev pub access_of : Option Line → List Item → List Item
-access_of (Some (line.Do simple)) items = Access simple ∷ items
-access_of line items = items
+-- the first of these
+abbrev pub innermost : List (List Item) → List Item
+innermost [] = []
+innermost (items ∷ outer) = items
 
--- the access of the statement at a place
-unfoldable pub access_at : List Line → ℕ → List Item → List Item
-access_at lines at items = access_of (slice_get lines at) items
+-- what comes from a place on, where these items come behind the blocks that are open there, the innermost first
+abbrev pub from : List Line → ℕ → List (List Item) → List Item
+from lines at outer = enter (block_at lines at) (innermost outer)
 
--- a mark with the names of a line, if it says `catch`
-abbrev pub mark_of : Option Line → Statements → List Item → List Item
-mark_of (Some (line.Catch code payload)) handler items = Mark code payload handler ∷ items
-mark_of line handler items = items
+-- the mark of the `try` in front
+abbrev pub marked : List Item → List Item
+marked (Do (Try block code payload handler) ∷ items) = Mark code payload handler ∷ items
+marked items = items
 
--- the mark of the `catch` at a place: the handler stands behind that line
-unfoldable pub mark_at : List Line → ℕ → List Item → List Item
-mark_at lines at items = mark_of (slice_get lines at) (block_at lines (at + 1)) items
+-- what comes behind the blocks that are open behind a line, where `items` come from the line on: behind the block of a loop the loop again, behind
+-- one of an `if` what comes behind the `if`, behind the one of a `try` its mark, and behind its handler what comes behind the mark
+abbrev pub passed : Option Line → List Item → List (List Item) → List (List Item)
+passed None items outer = []
+passed (Some (line.Proc name parameters)) items outer = [] ∷ outer
+passed (Some (line.If a)) items outer = rest_of items ∷ outer
+passed (Some line.Else) items outer = outer
+passed (Some (line.While a)) items outer = items ∷ outer
+passed (Some line.Try) items outer = marked items ∷ outer
+passed (Some (line.Catch x y)) items outer = rest_of items ∷ drop 1 outer
+passed (Some line.End) items outer = drop 1 outer
+passed (Some (line.Do simple)) items outer = outer
 
--- a part before other items: a rest of a block, an access, a mark, or a fault that nothing catches
-abbrev pub part_over : List Line → Part → List Item → List Item
-part_over lines (part.Rest at) items = enter (block_at lines at) items
-part_over lines (part.Access at) items = access_at lines at items
-part_over lines (part.Mark at) items = mark_at lines at items
-part_over lines (part.Fail fault) items = Fail fault ∷ items
+-- what comes behind each of the blocks that are open before the line at a place
+unfoldable pub outer_at : List Line → ℕ → List (List Item)
+outer_at lines zero = []
+outer_at lines (suc at) = passed (slice_get lines at) (from lines at (outer_at lines at)) (outer_at lines at)
 
--- parts before other items, the top part last
-unfoldable pub parts_over : List Line → List Part → List Item → List Item
-parts_over lines [] items = items
-parts_over lines (part ∷ parts) items = parts_over lines parts (part_over lines part items)
+-- what a procedure still has to do at a place
+unfoldable pub items_at : List Line → ℕ → List Item
+items_at lines at = from lines at (outer_at lines at)
 
--- the parts of a frame before other items
+-- the access of the statement that comes first comes in its place
+abbrev pub accessed : List Item → List Item
+accessed (Do (statement.Do simple) ∷ items) = Access simple ∷ items
+accessed items = items
+
+-- what a frame at a place stands for
+abbrev pub stage_items : List Line → ℕ → Stage → List Item
+stage_items lines at stage.Rest = items_at lines at
+stage_items lines at stage.Access = accessed (items_at lines at)
+stage_items lines at stage.Nothing = []
+stage_items lines at (stage.Fail fault) = Fail fault ∷ []
+
+abbrev pub frame_items : List Line → Frame → List Item
+frame_items lines frame = stage_items lines frame.at frame.stage
+
+-- a frame before other items
 abbrev pub frame_over : List Line → Frame → List Item → List Item
-frame_over lines frame items = parts_over lines frame.parts.items items
+frame_over lines frame items = frame_items lines frame ++ items
 
 -- a call before other items: the way back to its caller, and what the caller still has to do
 abbrev pub call_over : List Line → Call → List Item → List Item
@@ -72,3 +94,12 @@ place_of lines continuation = record {
   environment = continuation.frame.environment;
   items = frame_over lines continuation.frame (calls_over lines continuation.calls.items []);
 }
+
+-- the statements of the procedure that a line begins, if it begins one
+abbrev pub body_by : Option Line → Statements → Statements
+body_by (Some (line.Proc name parameters)) block = block
+body_by line block = Nothing
+
+-- the statements of the procedure that the line at a place begins
+unfoldable pub body_at : List Line → ℕ → Statements
+body_at lines at = body_by (slice_get lines at) (block_at lines (at + 1))

@@ -1,14 +1,11 @@
 -- What comes first in a continuation.
-use Rattle.std.specs.Prelude.{◌≡◌, ℕ, ◌+◌, List, [], ◌∷◌, Option, Some, None, slice_get}
+use Rattle.std.specs.Prelude.{◌≡◌, List, [], ◌∷◌}
 use Rattle.lio_syntax_lines.specs.declared.line.Operand.{Operand}
-use Rattle.lio_syntax_lines.specs.declared.line.Line.{Line}
-use Rattle.lio_syntax_lines.specs.declared.line.Line.TheVariants as line
-use Rattle.lio_syntax.specs.Statements.{Statement, Statements, If, IfElse, While, Try}
+use Rattle.lio_syntax.specs.Statements.{Statement, If, IfElse, While, Try}
 use Rattle.lio_syntax.specs.Statements as statement
 use Rattle.lio_task_control.specs.declared.front.Front.{Front}
 use Rattle.lio_task_control.specs.declared.front.Front.TheVariants as front
-use Rattle.lio_task_control.specs.Items.{Item, Do, Access, Mark, Back, Fail, rest_of}
-use Rattle.lio_task_control.specs.Continuation.{block_at}
+use Rattle.lio_task_control.specs.Items.{Item, Do, Access, Mark, Back, Fail, enter, rest_of}
 
 -- the way back to a caller comes first
 abbrev pub IsBack : List Item → Type 0
@@ -50,26 +47,43 @@ IsOwn (Fail fault ∷ items) = Unit {0}
 abbrev pub Begins : List Item → Statement → Type 0
 Begins items statement = items ≡ Do statement ∷ rest_of items
 
--- the `if` of an operand, with a block and, where there is one, the block of its `else`
-abbrev pub choice_at : List Line → Operand → ℕ → Option ℕ → Statement
-choice_at lines condition block None = If condition (block_at lines block)
-choice_at lines condition block (Some other) = IfElse condition (block_at lines block) (block_at lines other)
+-- an `if` with this condition comes first
+abbrev pub IsChoice : List Item → Operand → Type 0
+IsChoice (Do (If a block) ∷ items) condition = a ≡ condition
+IsChoice (Do (IfElse a block other) ∷ items) condition = a ≡ condition
+IsChoice items condition = ⊥
 
--- a `try` with its block, whose `catch` stands at a place
-pub record IsGuarded (lines : List Line) (items : List Item) (block catch : ℕ) : Type 0 where
-  pub code : List ℕ
-  pub payload : List ℕ
-  pub line : slice_get lines catch ≡ Some (line.Catch code payload)
-  pub begins : Begins items (Try (block_at lines block) code payload (block_at lines (catch + 1)))
+-- a `while` with this condition comes first
+abbrev pub IsLoop : List Item → Operand → Type 0
+IsLoop (Do (While a block) ∷ items) condition = a ≡ condition
+IsLoop items condition = ⊥
+
+-- a `try` comes first
+abbrev pub IsGuarded : List Item → Type 0
+IsGuarded (Do (Try block code payload handler) ∷ items) = Unit {0}
+IsGuarded items = ⊥
 
 -- items begin as it is said
-abbrev pub IsFront : List Line → List Item → Front → Type 0
-IsFront lines items front.Nothing = items ≡ []
-IsFront lines items front.Back = IsBack items
-IsFront lines items front.Mark = IsMark items
-IsFront lines items (front.Fail fault) = items ≡ Fail fault.now ∷ rest_of items
-IsFront lines items (front.Access simple) = items ≡ Access simple.now ∷ rest_of items
-IsFront lines items (front.Simple simple) = Begins items (statement.Do simple.now)
-IsFront lines items (front.Choice condition block other) = Begins items (choice_at lines condition.now block other)
-IsFront lines items (front.Loop condition block) = Begins items (While condition.now (block_at lines block))
-IsFront lines items (front.Guarded block catch) = IsGuarded lines items block catch
+abbrev pub IsFront : List Item → Front → Type 0
+IsFront items front.Nothing = items ≡ []
+IsFront items front.Back = IsBack items
+IsFront items front.Mark = IsMark items
+IsFront items (front.Fail fault) = items ≡ Fail fault.now ∷ rest_of items
+IsFront items (front.Access simple) = items ≡ Access simple.now ∷ rest_of items
+IsFront items (front.Simple simple) = Begins items (statement.Do simple.now)
+IsFront items (front.Choice condition) = IsChoice items condition.now
+IsFront items (front.Loop condition) = IsLoop items condition.now
+IsFront items front.Guarded = IsGuarded items
+
+-- the block of the statement that comes first, before what comes behind it: the loop again, or the mark of a `try`
+abbrev pub entered : List Item → List Item
+entered (Do (If condition block) ∷ items) = enter block items
+entered (Do (IfElse condition block other) ∷ items) = enter block items
+entered (Do (While condition block) ∷ items) = enter block (Do (While condition block) ∷ items)
+entered (Do (Try block code payload handler) ∷ items) = enter block (Mark code payload handler ∷ items)
+entered items = rest_of items
+
+-- the block of the `else` of the `if` that comes first, where it has one, before what comes behind the `if`
+abbrev pub entered_other : List Item → List Item
+entered_other (Do (IfElse condition block other) ∷ items) = enter other items
+entered_other items = rest_of items

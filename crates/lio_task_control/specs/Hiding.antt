@@ -28,7 +28,8 @@ hide_item observer (Fail fault) = Fail fault
 unfoldable pub hide_place : Label → Place → Place
 hide_place observer place = record { environment = hide_environment observer place.environment; items = map (hide_item observer) place.items }
 
--- a frame that stands for another one, with its values hidden; its parts hold none
+-- a frame that stands for another one, with its values hidden; its place and its stage hold none
 pub record HidesFrame (observer : Label) (old new : Frame) : Type 0 where
   pub environment : new.environment ≡ hide_environment observer old.environment
-  pub parts : new.parts.items ≡ old.parts.items
+  pub at : new.at ≡ old.at
+  pub stage : new.stage ≡ old.stage

@@ -4,6 +4,5 @@ pub mod Items
 pub mod Throwing
 pub mod Continuation
 pub mod Front
-pub mod Places
 pub mod Parts
 pub mod Hiding

@@ -3,7 +3,7 @@ ghost use Rattle.std.specs.Prelude.{◌≡◌, List, [], IfOk};
 ghost use Rattle.lio_syntax_lines.specs.declared.line.Line.{Line};
 ghost use Rattle.lio_syntax.specs.Lines.{script_lines};
 ghost use Rattle.lio_task_control.specs.Items.{enter, open_calls};
-ghost use Rattle.lio_task_control.specs.Continuation.{block_at, place_of};
+ghost use Rattle.lio_task_control.specs.Continuation.{body_at, place_of};
 ghost use Rattle.lio_task_control.specs.Front.{IsFront};
 ghost use Rattle.lio_task_control.specs.Hiding.{hide_place};
 
@@ -24,20 +24,22 @@ pub struct Continuation {
 }
 
 impl Continuation {
-    /// Before the block that begins at a place.
+    /// Before the body of the procedure that the line at a place begins.
     pub fn of_body(
         alloc: Global,
-        at: usize,
+        script: &Script,
+        line: usize,
         environment: Environment,
-    ) -> Result<Continuation, NoMemory>
-        ensures { IfOk result (λ continuation. (lines : List Line) → place_of lines continuation
-            ≡ record { environment = environment; items = enter (block_at lines at) [] }) }
+    ) -> Continuation
+        ensures { place_of (script_lines script.now) result ≡ record {
+          environment = environment;
+          items = enter (body_at (script_lines script.now) line) [];
+        } }
     {
-        let frame = Frame::of_body(alloc, at, environment)?;
-        Ok(Continuation {
+        Continuation {
             calls: Vec::new(alloc),
-            frame,
-        })
+            frame: Frame::of_body(script, line, environment),
+        }
     }
 
     /// Nothing is bound, and nothing is left.
@@ -67,8 +69,7 @@ impl Continuation {
 
     /// What comes first.
     pub fn front<'t, 's>(&'t self, script: &'s Script) -> Front<'t, 's>
-        ensures { IsFront (script_lines script.now)
-            (place_of (script_lines script.now) self.now).items result }
+        ensures { IsFront (place_of (script_lines script.now) self.now).items result }
     {
         if let Some(front) = self.frame.front(script) {
             return front;

@@ -7,23 +7,24 @@ ghost use Rattle.lio_syntax_lines.specs.declared.line.Line.{Line};
 ghost use Rattle.lio_syntax_lines.specs.declared.line.Simple.{Simple as Simply};
 ghost use Rattle.lio_values.specs.declared.value.Value.TheVariants.{Bare};
 ghost use Rattle.lio_values.specs.declared.value.Plain.TheVariants.{Unit as unit};
+ghost use Rattle.lio_values.specs.Small.{plain_of};
 ghost use Rattle.lio_syntax.specs.Lines.{script_lines};
 ghost use Rattle.lio_syntax.specs.Statements.{Do as Simple};
 ghost use Rattle.lio_task_control.specs.Environment as spec;
 ghost use Rattle.lio_task_control.specs.declared.frame.Call.{Call as Caller};
 ghost use Rattle.lio_task_control.specs.Items.{Back, Access, Fail, enter, rest_of};
 ghost use Rattle.lio_task_control.specs.Throwing.{returned, thrown};
-ghost use Rattle.lio_task_control.specs.Continuation.{block_at, mark_at, place_of};
-ghost use Rattle.lio_task_control.specs.Front.{AtStatement, IsBack, IsOwn, Begins};
+ghost use Rattle.lio_task_control.specs.Continuation.{body_at, place_of};
+ghost use Rattle.lio_task_control.specs.Front.{AtStatement, Begins, IsBack, IsOwn, entered};
+ghost use Rattle.lio_task_control.specs.Front.{entered_other};
 ghost use Rattle.lio_task_control.specs.Parts.{SameCalls, outermost};
 
 use crate::continuation::Continuation;
 use crate::environment::Environment;
 use crate::frame::{Call, Frame};
-use crate::part::Part;
 use lio_clauses::NoMemory;
 use lio_syntax::Script;
-use lio_values::{Fault, Held, Name, Plain, Value};
+use lio_values::{Fault, Held, Name, Plain, Small, Value};
 use std::alloc::Global;
 use std::mem;
 
@@ -42,7 +43,7 @@ impl Continuation {
         ensures { let was = place_of (script_lines script.now) self.old in
             place_of (script_lines script.now) self.new ≡ record was { items = rest_of was.items } }
     {
-        let _ = self.frame.advance(script);
+        self.frame.advance(script);
     }
 
     /// Binds a name, and goes on behind the statement that comes first.
@@ -63,83 +64,78 @@ impl Continuation {
             ≡ place_of (script_lines script.now) self.old) }
     {
         self.frame.environment.bind(alloc, name, value)?;
-        let _ = self.frame.advance(script);
+        self.frame.advance(script);
         Ok(())
     }
 
-    /// Enters a block in place of the statement that comes first.
-    pub fn enter(&mut self, script: &Script, block: usize) -> Result<(), NoMemory>
+    /// Binds a name to a small value, and goes on behind the statement that comes first.
+    #[inline(always)]
+    pub fn set(
+        &mut self,
+        alloc: Global,
+        script: &Script,
+        name: &Name,
+        value: Small,
+    ) -> Result<(), NoMemory>
         requires { AtStatement (place_of (script_lines script.now) self.old).items }
         ensures ok { OnOk result (let was = place_of (script_lines script.now) self.old in
-            place_of (script_lines script.now) self.new ≡ record was {
-              items = enter (block_at (script_lines script.now) block) (rest_of was.items);
+            place_of (script_lines script.now) self.new ≡ record {
+              environment = spec.bind was.environment name.now (Bare (plain_of value));
+              items = rest_of was.items;
             }) }
         ensures err { OnErr result (place_of (script_lines script.now) self.new
             ≡ place_of (script_lines script.now) self.old) }
     {
-        self.frame.reserve(1)?;
-        let _ = self.frame.advance(script);
-        self.frame.put(Part::Rest(block));
+        self.frame.environment.set(alloc, name, value)?;
+        self.frame.advance(script);
         Ok(())
     }
 
-    /// Enters a block in front of all else: a loop's statement comes again behind it.
-    pub fn repeat(&mut self, script: &Script, block: usize) -> Result<(), NoMemory>
-        ensures ok { OnOk result (let was = place_of (script_lines script.now) self.old in
-            place_of (script_lines script.now) self.new ≡ record was {
-              items = enter (block_at (script_lines script.now) block) was.items;
-            }) }
-        ensures err { OnErr result (place_of (script_lines script.now) self.new
-            ≡ place_of (script_lines script.now) self.old) }
-    {
-        self.frame.settle(script);
-        self.frame.push(Part::Rest(block))?;
-        Ok(())
-    }
-
-    /// Enters a block in place of the statement that comes first, in front of the mark of the
-    /// `catch` at a place.
-    pub fn guard(&mut self, script: &Script, block: usize, catch: usize) -> Result<(), NoMemory>
+    /// Enters the block of the statement that comes first: an `if`, a `while` or a `try`. It takes
+    /// no memory.
+    pub fn enter(&mut self, script: &Script)
         requires { AtStatement (place_of (script_lines script.now) self.old).items }
-        ensures ok { OnOk result (let was = place_of (script_lines script.now) self.old in
-            place_of (script_lines script.now) self.new ≡ record was {
-              items = enter (block_at (script_lines script.now) block)
-                  (mark_at (script_lines script.now) catch (rest_of was.items));
-            }) }
-        ensures err { OnErr result (place_of (script_lines script.now) self.new
-            ≡ place_of (script_lines script.now) self.old) }
+        ensures { let was = place_of (script_lines script.now) self.old in
+            place_of (script_lines script.now) self.new ≡ record was { items = entered was.items } }
     {
-        self.frame.reserve(2)?;
-        let _ = self.frame.advance(script);
-        self.frame.put(Part::Mark(catch));
-        self.frame.put(Part::Rest(block));
-        Ok(())
+        self.frame.enter(script);
     }
 
-    /// Calls a procedure, whose body begins at a place, in an environment of its own. The name is
-    /// bound to what it returns.
+    /// Enters the block of the `else` of the `if` that comes first; where it has none, goes on
+    /// behind it. It takes no memory.
+    pub fn enter_other(&mut self, script: &Script)
+        requires { AtStatement (place_of (script_lines script.now) self.old).items }
+        ensures { let was = place_of (script_lines script.now) self.old in
+            place_of (script_lines script.now) self.new
+            ≡ record was { items = entered_other was.items } }
+    {
+        self.frame.enter_other(script);
+    }
+
+    /// Calls the procedure that the line at a place begins, in an environment of its own. The name
+    /// is bound to what it returns.
     pub fn call(
         &mut self,
         alloc: Global,
         script: &Script,
         name: &Name,
         environment: Environment,
-        body: usize,
+        line: usize,
     ) -> Result<(), NoMemory>
         requires { AtStatement (place_of (script_lines script.now) self.old).items }
         ensures ok { OnOk result (let was = place_of (script_lines script.now) self.old in
             place_of (script_lines script.now) self.new ≡ record {
               environment = environment;
-              items = enter (block_at (script_lines script.now) body)
+              items = enter (body_at (script_lines script.now) line)
                   (Back was.environment name.now ∷ rest_of was.items);
             }) }
         ensures err { OnErr result (place_of (script_lines script.now) self.new
             ≡ place_of (script_lines script.now) self.old) }
     {
         let name = name.copy(alloc)?;
-        let frame = Frame::of_body(alloc, body, environment)?;
         self.calls.reserve(1)?;
-        let _ = self.frame.advance(script);
+        self.frame.advance(script);
+        let frame = Frame::of_body(script, line, environment);
         let caller = mem::replace(&mut self.frame, frame);
         put_call(&mut self.calls, Call { caller, name });
         Ok(())
@@ -202,7 +198,7 @@ impl Continuation {
         let count = self.calls.len();
         if count == 0 {
             drop(value);
-            self.frame.parts.clear();
+            self.frame.finish();
             return Ok(());
         }
         let call = &mut self.calls[count - 1];
@@ -222,11 +218,9 @@ impl Continuation {
             }) }
     {
         let fault = Held::new(alloc, fault)?;
-        let mut parts = Vec::new(alloc);
-        parts.push(Part::Fail(fault))?;
         self.calls.truncate(1);
         self.resume_caller();
-        self.frame.parts = parts;
+        self.frame.fail(fault);
         Ok(())
     }
 
@@ -282,21 +276,16 @@ impl Continuation {
         }
     }
 
-    /// The access of the statement that comes first comes in its place.
-    pub fn access(&mut self, script: &Script) -> Result<(), NoMemory>
+    /// The access of the statement that comes first comes in its place. It takes no memory.
+    pub fn access(&mut self, script: &Script)
         requires { AtStatement (place_of (script_lines script.now) self.old).items }
-        ensures ok { OnOk result ((simple : Simply)
+        ensures { (simple : Simply)
             → Begins (place_of (script_lines script.now) self.old).items (Simple simple)
             → let was = place_of (script_lines script.now) self.old in
             place_of (script_lines script.now) self.new
-            ≡ record was { items = Access simple ∷ rest_of was.items }) }
-        ensures err { OnErr result (place_of (script_lines script.now) self.new
-            ≡ place_of (script_lines script.now) self.old) }
+            ≡ record was { items = Access simple ∷ rest_of was.items } }
     {
-        self.frame.reserve(1)?;
-        let at = self.frame.advance(script);
-        self.frame.put(Part::Access(at));
-        Ok(())
+        self.frame.access();
     }
 
     /// Forgets all. It takes no memory.

@@ -1,6 +1,8 @@
 //! What names are bound to.
 ghost use Rattle.std.specs.Prelude.{◌≡◌, [], length, IfOk, IsOk, OnOk, OnErr, MatchOption, None};
 ghost use Rattle.std.specs.Option.{option_copied};
+ghost use Rattle.lio_values.specs.declared.value.Value.TheVariants.{Bare};
+ghost use Rattle.lio_values.specs.Small.{plain_of};
 ghost use Rattle.lio_task_control.specs.Environment.{bind, bind_all, value_of};
 ghost use Rattle.lio_task_control.specs.Bound.{IsBoundAt, IsBoundBefore};
 ghost use Rattle.lio_task_control.specs.Hiding.{hide_environment};
@@ -8,7 +10,7 @@ ghost use Rattle.lio_task_control.specs.Hiding.{hide_environment};
 use crate::binding::Binding;
 use lio_clauses::{NoMemory, assign, beside};
 use lio_labels::Label;
-use lio_values::{Name, Value};
+use lio_values::{Name, Plain, Small, Value};
 use std::alloc::Global;
 use std::cmp::Ordering;
 use std::marker::Model;
@@ -29,6 +31,38 @@ impl Model for Environment {
     ghost view = { λ environment. environment.bindings.items };
 
     ghost invariant = { λ environment. AreInOrder environment.bindings.items };
+}
+
+/// Puts a small value into the place of a value. A number or a truth value over one of its kind is
+/// one store.
+#[inline(always)]
+fn put(place: &mut Value, value: Small)
+    ensures { place.new ≡ Bare (plain_of value) }
+{
+    match value {
+        Small::Whole(number) => {
+            if let Value::Bare(Plain::Whole(old)) = place {
+                *old = number;
+                return;
+            }
+        }
+        Small::Flag(flag) => {
+            if let Value::Bare(Plain::Flag(old)) = place {
+                *old = flag;
+                return;
+            }
+        }
+        Small::Unit => {}
+    }
+    replace(place, value);
+}
+
+/// Puts a small value into the place of a value, and lets go what was there.
+#[inline(never)]
+fn replace(place: &mut Value, value: Small)
+    ensures { place.new ≡ Bare (plain_of value) }
+{
+    assign(place, Value::Bare(value.plain()));
 }
 
 impl Environment {
@@ -77,6 +111,24 @@ impl Environment {
                 Ok(())
             }
             None => self.add(alloc, name, value),
+        }
+    }
+
+    /// Binds a name to a small value, as `bind` does. A number or a truth value over one of its kind
+    /// is one store.
+    #[inline(always)]
+    pub fn set(&mut self, alloc: Global, name: &Name, value: Small) -> Result<(), NoMemory>
+        ensures ok { OnOk result (self.new ≡ bind self.old name.now (Bare (plain_of value))) }
+        ensures err { OnErr result (self.new ≡ self.old) }
+        ensures in_place { length (bind self.old name.now (Bare (plain_of value))) ≡ length self.old
+            → IsOk result }
+    {
+        match self.place_of(name) {
+            Some(place) => {
+                put(&mut self.bindings[place].value, value);
+                Ok(())
+            }
+            None => self.add(alloc, name, Value::Bare(value.plain())),
         }
     }
 

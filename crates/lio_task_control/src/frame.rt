@@ -1,33 +1,51 @@
-//! Frames: what a procedure's names are bound to, and what it still has to do.
-ghost use Rattle.std.specs.Prelude.{◌≡◌, ◌+◌, ◌<◌, ◌≤◌, ◌++◌, List, [], ◌∷◌, map, true, false};
-ghost use Rattle.std.specs.Prelude.{MatchOption, MatchBool, IfOk, IfErr, OnOk, OnErr, vec_len};
-ghost use Rattle.std.specs.Prelude.{vec_capacity};
+//! Frames: what a procedure's names are bound to, and the place at which it goes on.
+ghost use Rattle.std.specs.Prelude.{◌≡◌, ◌++◌, List, [], ◌∷◌, map, true, false};
+ghost use Rattle.std.specs.Prelude.{MatchOption, MatchBool, IfOk, OnErr};
 ghost use Rattle.lio_syntax_lines.specs.declared.line.Line.{Line};
 ghost use Rattle.lio_syntax.specs.Lines.{script_lines};
 ghost use Rattle.lio_task_control.specs.Environment.{Environment as Bindings};
-ghost use Rattle.lio_task_control.specs.Items.{Item, rest_of};
+ghost use Rattle.lio_task_control.specs.Items.{Item, Fail, enter, rest_of};
 ghost use Rattle.lio_task_control.specs.Throwing.{thrown};
-ghost use Rattle.lio_task_control.specs.Continuation.{call_over, frame_over};
-ghost use Rattle.lio_task_control.specs.Front.{IsFront, IsOwn};
+ghost use Rattle.lio_task_control.specs.Continuation.{body_at, call_over, frame_items};
+ghost use Rattle.lio_task_control.specs.Continuation.{frame_over, items_at};
+ghost use Rattle.lio_task_control.specs.Front.{IsFront, entered, entered_other};
 ghost use Rattle.lio_task_control.specs.Hiding.{HidesFrame, hide_item};
-ghost use Rattle.lio_task_control.specs.Parts.{IsOutside, IsRest, SaysFirst, SameFrame};
+ghost use Rattle.lio_task_control.specs.Parts.{CatchesNothing, IsAccessed, IsCaught, SameFrame};
+ghost use Rattle.lio_task_control.specs.Parts.{gone_to};
 
 use crate::environment::Environment;
 use crate::faults::{code_of, payload_of};
 use crate::front::Front;
-use crate::part::{Left, Part};
+use crate::places::{
+    Handler, accessed_at, begins_procedure, block_place, front_at, handler_at, next_place,
+    other_place,
+};
 use lio_clauses::NoMemory;
 use lio_labels::Label;
 use lio_syntax::Script;
-use lio_values::{Fault, Name, Plain, Value};
+use lio_values::{Fault, Held, Name, Plain, Value};
 use std::alloc::Global;
 
-/// What a procedure's names are bound to, and the parts of what it still has to do, the top part
-/// last.
+/// What is left of a procedure at its place.
+#[derive(Drop)]
+pub(crate) enum Stage {
+    /// What comes from there on.
+    Rest,
+    /// The access of the statement there, whose raise is done, and what comes behind it.
+    Access,
+    /// Nothing.
+    Nothing,
+    /// A fault that nothing catches.
+    Fail(Held<Fault>),
+}
+
+/// What a procedure's names are bound to, and the place at which it goes on: the number of a line,
+/// from 0.
 #[derive(Drop)]
 pub(crate) struct Frame {
     pub(crate) environment: Environment,
-    pub(crate) parts: Vec<Part>,
+    pub(crate) at: usize,
+    pub(crate) stage: Stage,
 }
 
 /// A call: the frame that it goes back to, and the name that what it returns is bound to.
@@ -37,123 +55,132 @@ pub(crate) struct Call {
     pub(crate) name: Name,
 }
 
-impl Frame {
-    /// Before the block that begins at a place.
-    pub(crate) fn of_body(
-        alloc: Global,
-        at: usize,
-        environment: Environment,
-    ) -> Result<Frame, NoMemory>
-        ensures { IfOk result (λ frame. (frame.environment ≡ environment)
-            × (frame.parts.items ≡ Part.Rest at ∷ [])) }
+impl Stage {
+    /// An equal stage.
+    fn copy(&self, alloc: Global) -> Result<Stage, NoMemory>
+        ensures { IfOk result (λ stage. stage ≡ self.now) }
     {
-        let mut parts = Vec::new(alloc);
-        parts.push(Part::Rest(at))?;
-        Ok(Frame { environment, parts })
+        match self {
+            Stage::Rest => Ok(Stage::Rest),
+            Stage::Access => Ok(Stage::Access),
+            Stage::Nothing => Ok(Stage::Nothing),
+            Stage::Fail(fault) => Ok(Stage::Fail(fault.copy(alloc)?)),
+        }
+    }
+}
+
+impl Frame {
+    /// Before the body of the procedure that the line at a place begins.
+    pub(crate) fn of_body(script: &Script, line: usize, environment: Environment) -> Frame
+        ensures environment { result.environment ≡ environment }
+        ensures items { frame_items (script_lines script.now) result
+            ≡ enter (body_at (script_lines script.now) line) [] }
+    {
+        if begins_procedure(script, line) {
+            Frame {
+                environment,
+                at: line + 1,
+                stage: Stage::Rest,
+            }
+        } else {
+            Frame {
+                environment,
+                at: line,
+                stage: Stage::Nothing,
+            }
+        }
     }
 
     /// Nothing is bound, and nothing is left.
     pub(crate) fn ended(alloc: Global) -> Frame
-        ensures { (result.environment ≡ []) × (result.parts.items ≡ []) }
+        ensures environment { result.environment ≡ [] }
+        ensures items { (lines : List Line) → frame_items lines result ≡ [] }
     {
         Frame {
             environment: Environment::new(alloc),
-            parts: Vec::new(alloc),
+            at: 0,
+            stage: Stage::Nothing,
         }
     }
 
     /// What comes first in it.
     pub(crate) fn front<'t, 's>(&'t self, script: &'s Script) -> Option<Front<'t, 's>>
+        ensures { MatchOption result (frame_items (script_lines script.now) self.now ≡ [])
+            (λ front. (items : List Item)
+            → IsFront (frame_over (script_lines script.now) self.now items) front) }
+    {
+        match &self.stage {
+            Stage::Rest => front_at(script, self.at),
+            Stage::Access => accessed_at(script, self.at),
+            Stage::Nothing => None,
+            Stage::Fail(fault) => Some(Front::Fail(fault.get())),
+        }
+    }
+
+    /// Goes on at a place, unless nothing is left.
+    fn go_to(&mut self, at: usize)
+        ensures environment { self.new.environment ≡ self.old.environment }
+        ensures items { (lines : List Line)
+            → frame_items lines self.new ≡ gone_to self.old.stage (items_at lines at) }
+    {
+        match &self.stage {
+            Stage::Rest => self.at = at,
+            Stage::Access => {
+                self.at = at;
+                self.stage = Stage::Rest;
+            }
+            _ => self.stage = Stage::Nothing,
+        }
+    }
+
+    /// Goes on behind what comes first.
+    pub(crate) fn advance(&mut self, script: &Script)
+        ensures environment { self.new.environment ≡ self.old.environment }
+        ensures items { frame_items (script_lines script.now) self.new
+            ≡ rest_of (frame_items (script_lines script.now) self.old) }
+    {
+        self.go_to(next_place(script, self.at));
+    }
+
+    /// Enters the block of the statement that comes first.
+    pub(crate) fn enter(&mut self, script: &Script)
+        ensures environment { self.new.environment ≡ self.old.environment }
+        ensures items { frame_items (script_lines script.now) self.new
+            ≡ entered (frame_items (script_lines script.now) self.old) }
+    {
+        self.go_to(block_place(script, self.at));
+    }
+
+    /// Enters the block of the `else` of the `if` that comes first, or goes on behind the `if`.
+    pub(crate) fn enter_other(&mut self, script: &Script)
+        ensures environment { self.new.environment ≡ self.old.environment }
+        ensures items { frame_items (script_lines script.now) self.new
+            ≡ entered_other (frame_items (script_lines script.now) self.old) }
+    {
+        self.go_to(other_place(script, self.at));
+    }
+
+    /// The access of the statement that comes first comes in its place.
+    pub(crate) fn access(&mut self)
+        ensures environment { self.new.environment ≡ self.old.environment }
+        ensures items { (lines : List Line)
+            → IsAccessed (frame_items lines self.old) (frame_items lines self.new) }
+    {
+        self.stage = Stage::Access;
+    }
+
+    /// The handler of faults in it, if there is one.
+    fn handler<'s>(&self, script: &'s Script) -> Option<Handler<'s>>
         ensures { MatchOption result
-            ((items : List Item) → frame_over (script_lines script.now) self.now items ≡ items)
-            (λ front. (items : List Item) → IsFront (script_lines script.now)
-            (frame_over (script_lines script.now) self.now items) front) }
+            (CatchesNothing (frame_items (script_lines script.now) self.now))
+            (IsCaught (script_lines script.now) (frame_items (script_lines script.now) self.now)) }
     {
-        let mut count = self.parts.len();
-        'parts: while count > 0 {
-            count -= 1;
-            if let Some(front) = self.parts[count].front(script) {
-                return Some(front);
-            }
+        match &self.stage {
+            Stage::Rest => handler_at(script, self.at),
+            Stage::Access => handler_at(script, self.at),
+            Stage::Nothing => None,
+            Stage::Fail(_) => None,
         }
-        None
-    }
-
-    /// Drops what comes first, and answers the place of a statement that did.
-    pub(crate) fn advance(&mut self, script: &Script) -> usize
-        ensures environment { self.new.environment ≡ self.old.environment }
-        ensures items { (items : List Item) → IsOutside items
-            → IsOwn (frame_over (script_lines script.now) self.old items)
-            → IsRest (frame_over (script_lines script.now) self.old items)
-            (frame_over (script_lines script.now) self.new items) }
-        ensures place { (items : List Item) → IsOutside items → SaysFirst (script_lines script.now)
-            (frame_over (script_lines script.now) self.old items) result }
-        ensures len { vec_len self.new.parts ≤ vec_len self.old.parts }
-        ensures capacity { vec_capacity self.new.parts ≡ vec_capacity self.old.parts }
-    {
-        let mut count = self.parts.len();
-        'parts: while count > 0 {
-            count -= 1;
-            match self.parts[count].left(script) {
-                Left::Nothing => {}
-                Left::Done => {
-                    self.parts.truncate(count);
-                    return 0;
-                }
-                Left::Next(at, next) => {
-                    self.parts[count] = Part::Rest(next);
-                    self.parts.truncate(count + 1);
-                    return at;
-                }
-            }
-        }
-        0
-    }
-
-    /// Drops the parts above that stand for nothing.
-    pub(crate) fn settle(&mut self, script: &Script)
-        ensures environment { self.new.environment ≡ self.old.environment }
-        ensures items { (items : List Item) → frame_over (script_lines script.now) self.new items
-            ≡ frame_over (script_lines script.now) self.old items }
-    {
-        let mut count = self.parts.len();
-        'parts: while count > 0 {
-            match self.parts[count - 1].left(script) {
-                Left::Nothing => count -= 1,
-                _ => break,
-            }
-        }
-        self.parts.truncate(count);
-    }
-
-    /// Puts a part on top.
-    pub(crate) fn push(&mut self, part: Part) -> Result<(), NoMemory>
-        ensures environment { self.new.environment ≡ self.old.environment }
-        ensures ok { OnOk result (self.new.parts.items ≡ self.old.parts.items ++ part ∷ []) }
-        ensures err { OnErr result (self.new.parts.items ≡ self.old.parts.items) }
-    {
-        self.parts.push(part)?;
-        Ok(())
-    }
-
-    /// Makes room for so many parts.
-    pub(crate) fn reserve(&mut self, count: usize) -> Result<(), NoMemory>
-        ensures same { SameFrame self.old self.new }
-        ensures room { OnOk result (vec_len self.new.parts + count ≤ vec_capacity self.new.parts) }
-    {
-        self.parts.reserve(count)?;
-        Ok(())
-    }
-
-    /// Puts a part on top, for which there is room.
-    pub(crate) fn put(&mut self, part: Part)
-        requires { vec_len self.old.parts < vec_capacity self.old.parts }
-        ensures environment { self.new.environment ≡ self.old.environment }
-        ensures items { self.new.parts.items ≡ self.old.parts.items ++ part ∷ [] }
-        ensures len { vec_len self.new.parts ≡ vec_len self.old.parts + 1 }
-        ensures capacity { vec_capacity self.old.parts ≤ vec_capacity self.new.parts }
-    {
-        let _ = self.parts.push(part);
     }
 
     /// Begins the nearest handler of a fault in it, if there is one.
@@ -174,40 +201,54 @@ impl Frame {
             ≡ thrown fault.now environment items))) }
         ensures err { OnErr result (self.new ≡ self.old) }
     {
-        let mut count = self.parts.len();
-        'parts: while count > 0 {
-            count -= 1;
-            if let Some(handler) = self.parts[count].handler(script) {
-                let payload = Value::Bare(payload_of(alloc, &fault.kind)?);
-                let code = Value::Bare(Plain::Whole(code_of(&fault.kind)));
-                self.environment
-                    .bind_two(alloc, handler.code, code, handler.payload, payload)?;
-                self.parts[count] = Part::Rest(handler.at);
-                self.parts.truncate(count + 1);
-                return Ok(true);
-            }
-        }
-        Ok(false)
+        let Some(handler) = self.handler(script) else {
+            return Ok(false);
+        };
+        let payload = Value::Bare(payload_of(alloc, &fault.kind)?);
+        let code = Value::Bare(Plain::Whole(code_of(&fault.kind)));
+        self.environment
+            .bind_two(alloc, handler.code, code, handler.payload, payload)?;
+        self.at = handler.at;
+        self.stage = Stage::Rest;
+        Ok(true)
+    }
+
+    /// Leaves nothing.
+    pub(crate) fn finish(&mut self)
+        ensures environment { self.new.environment ≡ self.old.environment }
+        ensures items { (lines : List Line) → frame_items lines self.new ≡ [] }
+    {
+        self.stage = Stage::Nothing;
+    }
+
+    /// Leaves a fault that nothing catches.
+    pub(crate) fn fail(&mut self, fault: Held<Fault>)
+        ensures environment { self.new.environment ≡ self.old.environment }
+        ensures items { (lines : List Line) → frame_items lines self.new ≡ Fail fault ∷ [] }
+    {
+        self.stage = Stage::Fail(fault);
     }
 
     /// Forgets all.
     pub(crate) fn clear(&mut self)
-        ensures { (self.new.environment ≡ []) × (self.new.parts.items ≡ []) }
+        ensures environment { self.new.environment ≡ [] }
+        ensures items { (lines : List Line) → frame_items lines self.new ≡ [] }
     {
         self.environment.clear();
-        self.parts.clear();
+        self.stage = Stage::Nothing;
     }
 
-    /// A frame with equal parts, in another environment.
+    /// A frame at the same place, in another environment.
     fn within(&self, alloc: Global, environment: Environment) -> Result<Frame, NoMemory>
         ensures { IfOk result (λ frame. (frame.environment ≡ environment)
-            × (frame.parts.items ≡ self.now.parts.items)) }
+            × (frame.at ≡ self.now.at) × (frame.stage ≡ self.now.stage)) }
     {
-        let mut parts = Vec::new(alloc);
-        for part in &self.parts {
-            parts.push(part.copy(alloc)?)?;
-        }
-        Ok(Frame { environment, parts })
+        let stage = self.stage.copy(alloc)?;
+        Ok(Frame {
+            environment,
+            at: self.at,
+            stage,
+        })
     }
 
     /// An equal frame.

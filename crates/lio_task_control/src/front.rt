@@ -2,7 +2,7 @@
 use lio_syntax_lines::{Operand, Simple};
 use lio_values::Fault;
 
-/// What comes first. A block is named by the place of its first line.
+/// What comes first.
 #[derive(Drop)]
 pub enum Front<'t, 's> {
     /// Nothing is left.
@@ -17,20 +17,10 @@ pub enum Front<'t, 's> {
     Access(&'s Simple),
     /// A statement that opens no block.
     Simple(&'s Simple),
-    /// An `if`, with the place of the block of its `else` where it has one.
-    Choice {
-        condition: &'s Operand,
-        block: usize,
-        other: Option<usize>,
-    },
-    /// A `while`.
-    Loop {
-        condition: &'s Operand,
-        block: usize,
-    },
-    /// A `try`, with the place of its `catch`.
-    Guarded {
-        block: usize,
-        catch: usize,
-    },
+    /// An `if` with this condition.
+    Choice(&'s Operand),
+    /// A `while` with this condition.
+    Loop(&'s Operand),
+    /// A `try`.
+    Guarded,
 }

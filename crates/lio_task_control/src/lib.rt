@@ -9,7 +9,6 @@ mod environment;
 mod faults;
 mod frame;
 mod front;
-mod part;
 mod places;
 
 pub use binding::Binding;

@@ -1,3 +1,4 @@
 pub mod FrontLemmas
 pub mod LeadsLemmas
+pub mod ShortLemmas
 pub mod TwoLemmas

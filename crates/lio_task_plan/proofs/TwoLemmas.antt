@@ -25,11 +25,11 @@ use Rattle.lio_task_turns.specs.Turns.{PlansBy, refusal, turn_of}
 use Rattle.lio_task_turns.specs.StateOf.{state_of}
 
 -- the plan of an operator on what its operands stand for
-abbrev two : ℕ → TaskState → List ℕ → Two → Option Value → Option Value → Plan
+abbrev pub two : ℕ → TaskState → List ℕ → Two → Option Value → Option Value → Plan
 two longest task name op left right = with_seen task left (λ a. with_seen task right (λ b. computed task name (operate2 longest op a b)))
 
 -- what an operand stands for, where that is bare
-abbrev bare_in : Option Value → Option Plain
+abbrev pub bare_in : Option Value → Option Plain
 bare_in seen = option_and_then (λ value. option_and_then Some (bare_of value)) seen
 
 left-not_bare : (longest : ℕ) (task : TaskState) (name : List ℕ) (op : Two) (left right : Option Value) → None ≡ bare_in left → bad_type task ≡ two longest task name op left right
@@ -47,12 +47,12 @@ right-not_bare longest task name op (Some a) (Some (Bare b)) e = absurd (let non
 right-not_bare longest task name op (Some (Bare a)) (Some (Sealed label content)) e = refl
 right-not_bare longest task name op (Some (Sealed label content)) (Some (Sealed label_b content_b)) e = refl
 
-bare-is : (seen : Option Value) (a : Plain) → Some a ≡ bare_in seen → seen ≡ Some (Bare a)
+pub bare-is : (seen : Option Value) (a : Plain) → Some a ≡ bare_in seen → seen ≡ Some (Bare a)
 bare-is None a e = absurd (let none : Some a ≡ None = e in cc)
 bare-is (Some (Sealed label content)) a e = absurd (let none : Some a ≡ None = e in cc)
 bare-is (Some (Bare b)) a e = let same : b ≡ a = (let one : Some a ≡ Some b = e in cc) in ap (λ (p : Plain). Some (Bare p)) same
 
-both-bare : (longest : ℕ) (task : TaskState) (name : List ℕ) (op : Two) (left right : Option Value) (a b : Plain) → Some a ≡ bare_in left → Some b ≡ bare_in right
+pub both-bare : (longest : ℕ) (task : TaskState) (name : List ℕ) (op : Two) (left right : Option Value) (a b : Plain) → Some a ≡ bare_in left → Some b ≡ bare_in right
     → computed task name (operate2 longest op (Bare a) (Bare b)) ≡ two longest task name op left right
 both-bare longest task name op left right a b e f =
     sym (ap (λ (seen : Option Value). two longest task name op seen right) (bare-is left a e) ∙ ap (λ (seen : Option Value). two longest task name op (Some (Bare a)) seen) (bare-is right b f))

@@ -1,2 +1,2 @@
-pub mod Planned
 pub mod Leads
+pub mod Planned

@@ -1,36 +1,44 @@
--- What the code's plan of a turn says: the plan of the definitions. Where there a block stands for itself, the code has the place at which it begins.
-use Rattle.std.specs.Prelude.{◌≡◌, ℕ, ◌+◌, List, [], ◌∷◌, Option, Some, Result, slice_get}
+-- What the code's plan of a turn says: the plan of the definitions.
+use Rattle.std.specs.Prelude.{◌≡◌, ℕ, List, ◌∷◌, Option, Result}
+use Rattle.lio_values.specs.declared.act.Act.TheVariants as act
 use Rattle.lio_values.specs.declared.fault.FaultKind.{FaultKind}
+use Rattle.lio_values.specs.declared.fault.FaultKind.TheVariants.{NoTurns}
+use Rattle.lio_values.specs.declared.value.Content.{Content}
+use Rattle.lio_values.specs.declared.value.Content.TheVariants.{Kept, Faulted}
+use Rattle.lio_values.specs.declared.value.Plain.TheVariants.{Unit as unit}
 use Rattle.lio_values.specs.declared.value.Value.{Value}
+use Rattle.lio_values.specs.declared.value.Value.TheVariants.{Bare}
 use Rattle.lio_syntax_lines.specs.declared.operators.One.{One}
 use Rattle.lio_operators.specs.Operators.{operate1}
+use Rattle.lio_operators.specs.Outcomes.{Tells}
+use Rattle.lio_operators.specs.declared.outcome.Outcome.{Outcome}
 use Rattle.lio_syntax_lines.specs.declared.line.Line.{Line}
-use Rattle.lio_syntax_lines.specs.declared.line.Line.TheVariants as says
-use Rattle.lio_syntax_lines.specs.declared.line.Operand.{Operand}
-use Rattle.lio_syntax_lines.specs.declared.line.Operand.TheVariants.{Name}
 use Rattle.lio_syntax_lines.specs.declared.line.Simple.{Simple}
 use Rattle.lio_syntax_lines.specs.declared.line.Simple.TheVariants as line
-use Rattle.lio_syntax.specs.Statements.{Statements, Nothing}
+use Rattle.lio_syntax.specs.Statements.{Nothing}
 use Rattle.lio_syntax.specs.Lines.{script_lines}
 use Rattle.lio_syntax.specs.Statements as statement
-use Rattle.lio_task_control.specs.Items.{Item, Do, Access, Back}
-use Rattle.lio_task_control.specs.Continuation.{block_at}
+use Rattle.lio_task_control.specs.Items.{Item, Do, Access, Back, Fail}
 use Rattle.lio_calculus.specs.Going as going
 use Rattle.lio_calculus.specs.Plan as plan
 use Rattle.lio_calculus.specs.Plan.{Program}
-use Rattle.lio_task_plan.specs.declared.planned.Planned.{Planned}
-use Rattle.lio_task_plan.specs.declared.planned.Planned.TheVariants as planned
-use Rattle.lio_task_plan.specs.declared.planned.Control.{Control}
-use Rattle.lio_task_plan.specs.declared.planned.Control.TheVariants as control
+use Rattle.lio_calculus.specs.Task.{TaskState}
+use Rattle.lio_values.specs.Small.{plain_of, kind_of}
+use Rattle.lio_task_plan.specs.declared.plan.Plan.{Plan}
+use Rattle.lio_task_plan.specs.declared.plan.Plan.TheVariants as planned
+use Rattle.lio_task_plan.specs.declared.plan.Short.{Short}
+use Rattle.lio_task_plan.specs.declared.plan.Short.TheVariants as short
+use Rattle.lio_task_plan.specs.declared.plan.Ending.{Ending}
+use Rattle.lio_task_plan.specs.declared.plan.Ending.TheVariants as ending
+use Rattle.lio_task_plan.specs.declared.plan.Full.{Full}
+use Rattle.lio_task_plan.specs.declared.plan.Full.TheVariants as full
+use Rattle.lio_task_plan.specs.declared.plan.Control.{Control}
+use Rattle.lio_task_plan.specs.declared.plan.Control.TheVariants as control
+use Rattle.lio_task_plan.specs.Leads.{LeadsFull}
 use Rattle.lio_task_turns.specs.declared.turn.Turn.{Turn}
 use Rattle.lio_task_turns.specs.declared.standing.Standing.{Standing}
 use Rattle.lio_task_turns.specs.StateOf.{state_of}
 use Rattle.lio_task_turns.specs.Turns.{turn_of, Is, refusal}
-
--- the operand of the loop in front
-abbrev pub condition_of : List Item → Operand
-condition_of (Do (statement.While condition block) ∷ items) = condition
-condition_of items = Name []
 
 -- the statement in front that opens no block, or whose access is in front
 abbrev pub simple_of : List Item → Simple
@@ -43,37 +51,81 @@ abbrev pub leave_of : List Item → going.Onward
 leave_of (Back caller name ∷ items) = going.Leave caller name
 leave_of items = going.Advance
 
--- a block, with the handler of the `catch` that a line says, behind which the handler stands
-abbrev pub try_of : Statements → Statements → Option Line → going.Onward
-try_of block handler (Some (says.Catch code payload)) = going.Try block code payload handler
-try_of block handler line = going.Advance
+-- the block of the statement in front
+abbrev pub entering : List Item → going.Onward
+entering (Do (statement.If condition block) ∷ items) = going.Enter block
+entering (Do (statement.IfElse condition block other) ∷ items) = going.Enter block
+entering (Do (statement.While condition block) ∷ items) = going.Repeat condition block
+entering (Do (statement.Try block code payload handler) ∷ items) = going.Try block code payload handler
+entering items = going.Advance
+
+-- the block of the `else` of the `if` in front; where it has none, no statement
+abbrev pub entering_other : List Item → going.Onward
+entering_other (Do (statement.If condition block) ∷ items) = going.Enter Nothing
+entering_other (Do (statement.IfElse condition block other) ∷ items) = going.Enter other
+entering_other items = going.Advance
 
 -- how a task goes on by a step of control, with these items
-abbrev pub control_of : List Line → List Item → Control → going.Onward
-control_of lines items control.Pass = going.Advance
-control_of lines items control.Skip = going.Enter Nothing
-control_of lines items (control.Enter block) = going.Enter (block_at lines block)
-control_of lines items (control.Repeat block) = going.Repeat (condition_of items) (block_at lines block)
-control_of lines items (control.Guard block catch) = try_of (block_at lines block) (block_at lines (catch + 1)) (slice_get lines catch)
-control_of lines items control.Leave = leave_of items
+abbrev pub control_of : List Item → Control → going.Onward
+control_of items control.Pass = going.Advance
+control_of items control.Enter = entering items
+control_of items control.EnterOther = entering_other items
+control_of items control.Leave = leave_of items
 
--- the plan of a task with these items
-abbrev pub plan_of : List Line → List Item → Planned → plan.Plan
-plan_of lines items planned.Over = plan.Over
-plan_of lines items (planned.Control control) = plan.stepping (control_of lines items control)
-plan_of lines items (planned.Ends content) = plan.ending content
-plan_of lines items (planned.Turn turn) = turn_of lines (simple_of items) turn
+-- how a task goes on by a short step, with these items
+abbrev pub short_of : List Item → Short → going.Onward
+short_of items (short.Control control) = control_of items control
+short_of items (short.Set name value) = going.Bind name.now (Bare (plain_of value))
+
+-- the content with which a task ends that has these items left
+abbrev pub left_of : List Item → Content
+left_of (Fail fault ∷ items) = Faulted fault
+left_of items = Kept unit
+
+-- the content with which a task ends
+abbrev pub content_by : TaskState → List Item → Ending → Content
+content_by state items ending.Exhausted = Faulted (plan.fault_at state NoTurns)
+content_by state items ending.Done = left_of items
+
+-- the plan of a turn that is planned in full
+abbrev pub full_by : Program → TaskState → Full → plan.Plan
+full_by program state (full.Refused trap) = plan.refused state act.Step (kind_of trap)
+full_by program state (full.Statement simple) = plan.plan_simple program state simple.now
+full_by program state (full.Access simple) = plan.plan_access state simple.now
+
+-- the plan of the definitions that the code's plan is, of a task with these items
+abbrev pub plan_by : Program → TaskState → List Item → Plan → plan.Plan
+plan_by program state items planned.Over = plan.Over
+plan_by program state items (planned.Short step) = plan.stepping (short_of items step)
+plan_by program state items (planned.Ends ending) = plan.ending (content_by state items ending)
+plan_by program state items (planned.Full turn) = full_by program state turn
+
+-- a task as a program's script has it
+abbrev pub state_at : Program → Standing → TaskState
+state_at program task = state_of (script_lines program.procedures) task
 
 -- a task's turn is planned by a program as the definitions plan it
-abbrev pub IsPlanned : Program → Standing → Planned → Type 0
-IsPlanned program task planned =
-    let lines : List Line = script_lines program.procedures
-    in plan_of lines (state_of lines task).items planned ≡ plan.plan program (state_of lines task)
+abbrev pub IsPlanned : Program → TaskState → Plan → Type 0
+IsPlanned program state planned = plan_by program state state.items planned ≡ plan.plan program state
 
--- what comes first is planned as the definitions plan it
-abbrev pub PlansFront : Program → Standing → List Item → Planned → Type 0
-PlansFront program task items planned =
-    plan_of (script_lines program.procedures) items planned ≡ plan.plan_items program (state_of (script_lines program.procedures) task) items
+-- what comes first is planned as the definitions plan it, of a task with turns left
+abbrev pub PlansFront : Program → Standing → List Item → Plan → Type 0
+PlansFront program task items planned = plan_by program (state_at program task) items planned ≡ plan.plan_items program (state_at program task) items
+
+-- a statement that opens no block is planned as the definitions plan it
+abbrev pub PlansSimple : Standing → Simple → Plan → Type 0
+PlansSimple task simple planned = (program : Program) (items : List Item) → plan_by program (state_at program task) items planned ≡ plan.plan_simple program (state_at program task) simple
+
+-- a turn that is planned in full is the plan of the definitions, of a task with these items
+abbrev pub PlansFull : Program → Standing → Full → Turn → Type 0
+PlansFull program task planned turn =
+    (items : List Item) → LeadsFull items planned → turn_of (script_lines program.procedures) (simple_of items) turn ≡ full_by program (state_at program task) planned
+
+-- what an operator gives of a statement is bound, or refused, or left to be made
+abbrev pub PlansOutcome : Simple → List ℕ → Outcome → Plan → Type 0
+PlansOutcome simple name outcome planned =
+    (program : Program) (state : TaskState) (items : List Item) (given : Result Value FaultKind) → Tells outcome given → plan.computed state name given ≡ plan.plan_simple program state simple
+    → plan_by program state items planned ≡ plan.plan_simple program state simple
 
 -- what an operator made is bound, or is the refusal
 abbrev pub Computes : Standing → List ℕ → Result Value FaultKind → Turn → Type 0

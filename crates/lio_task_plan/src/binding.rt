@@ -165,7 +165,7 @@ fn calling<'s>(
     values: &Values,
     procedure: Procedure,
 ) -> Attempt<'s>
-    requires { IsNumbered script.now procedure.number procedure.parameters.now procedure.body }
+    requires { IsNumbered script.now procedure.number procedure.parameters.now procedure.line }
     ensures { IfOk result (λ planned. (simple : Simple) → IsIn script.now task.now simple planned
         (λ (state : TaskState). plan.calling state name.now values.now
         (slice_get script.now procedure.entry.number))) }
@@ -174,7 +174,7 @@ fn calling<'s>(
         task.refused(alloc, Act::Step, FaultKind::Depth)
     } else {
         match procedure.environment(alloc, values) {
-            Ok(environment) => Ok(stepping(Onward::Call(name, environment, procedure.body))),
+            Ok(environment) => Ok(stepping(Onward::Call(name, environment, procedure.line))),
             Err(error) => Err(error),
         }
     }

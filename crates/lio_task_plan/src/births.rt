@@ -45,7 +45,7 @@ pub fn plan_fork<'s>(
     let Some(cells) = operands::count(environment, cells) else {
         return task.bad_type(alloc);
     };
-    let Some(number) = script.procedure_number(procedure.bytes()) else {
+    let Some(number) = script.procedure_named(procedure) else {
         return task.bad_type(alloc);
     };
     match operands::values(alloc, environment, arguments) {
@@ -140,7 +140,7 @@ pub fn plan_spawn<'s>(
     let Some(cells) = operands::count(environment, cells) else {
         return task.bad_type(alloc);
     };
-    let Some(number) = script.procedure_number(procedure.bytes()) else {
+    let Some(number) = script.procedure_named(procedure) else {
         return task.bad_type(alloc);
     };
     match operands::values(alloc, environment, arguments) {

@@ -1,174 +1,85 @@
 //! The plan of what comes first.
-#![tactic(auto, using(crate::proofs::LeadsLemmas::at_own))]
+#![tactic(auto, using(crate::proofs::LeadsLemmas::leads))]
 
-ghost use Rattle.std.specs.Prelude.{◌≡◌, IfOk, ◌∷◌, List};
-ghost use Rattle.lio_values.specs.declared.value.Content.TheVariants as content;
-ghost use Rattle.lio_task_plan.specs.declared.planned.Planned.TheVariants as planned;
-ghost use Rattle.lio_values.specs.declared.fault.FaultKind.TheVariants as kind;
+ghost use Rattle.std.specs.Prelude.{◌≡◌, List};
 ghost use Rattle.lio_syntax_lines.specs.declared.line.Line.{Line};
-ghost use Rattle.lio_syntax.specs.Lines.{script_lines};
-ghost use Rattle.lio_syntax.specs.Statements.{While};
-ghost use Rattle.lio_task_control.specs.Items.{Item, Do};
-ghost use Rattle.lio_task_control.specs.Continuation.{block_at};
-ghost use Rattle.lio_task_control.specs.Front.{AtStatement, Begins, IsFront, choice_at};
-ghost use Rattle.lio_calculus.specs.Plan as plan;
+ghost use Rattle.lio_task_control.specs.Items.{Item};
+ghost use Rattle.lio_task_control.specs.Front.{AtStatement, IsChoice, IsFront, IsLoop};
 ghost use Rattle.lio_calculus.specs.Plan.{Program};
 ghost use Rattle.lio_task_plan.specs.Leads.{LeadsOn};
-ghost use Rattle.lio_task_plan.specs.Planned.{IsPlanned, PlansFront, plan_of};
-ghost use Rattle.lio_task_turns.specs.Turns.{fault_of};
-ghost use Rattle.lio_task_turns.specs.StateOf.{program_of, state_of};
+ghost use Rattle.lio_task_plan.specs.Planned.{IsPlanned, PlansFront, state_at};
+ghost use Rattle.lio_task_turns.specs.StateOf.{state_of};
 
-use crate::planned::{Control, Planned};
-use crate::simple::plan_simple;
-use lio_clauses::NoMemory;
-use lio_syntax::Script;
+use crate::plan::{Control, Ending, Full, Plan, Short};
+use crate::short::short_simple;
 use lio_syntax_lines::Operand;
 use lio_task_control::Front;
 use lio_task_turns::{Standing, operands};
-use lio_values::{Content, Fault, FaultKind, Held, Plain};
-use std::alloc::Global;
+use lio_values::Trap;
 
 /// What the next turn does, by what comes first.
+#[inline(always)]
 #[tactic(auto, unfolding(lio_calculus::specs::Plan::plan))]
-pub fn plan_next<'s>(
-    alloc: Global,
-    task: &Standing<'_>,
-    script: &Script,
-    longest: u32,
-    front: Front<'_, 's>,
-) -> Result<Planned<'s>, NoMemory>
-    requires { IsFront (script_lines script.now)
-        (state_of (script_lines script.now) task.now).items front }
-    ensures plan { IfOk result (IsPlanned (program_of script.now longest) task.now) }
-    ensures leads { IfOk result
-        (LeadsOn (script_lines script.now) (state_of (script_lines script.now) task.now).items) }
+pub fn plan_next<'s>(task: &Standing<'_>, front: Front<'_, 's>) -> Plan<'s>
+    ensures plan { (program : Program) → IsFront (state_at program task.now).items front.entry
+        → IsPlanned program (state_at program task.now) result }
+    ensures leads { (lines : List Line) → IsFront (state_of lines task.now).items front.entry
+        → LeadsOn (state_of lines task.now).items result }
 {
     if task.ended {
-        return Ok(Planned::Over);
+        return Plan::Over;
     }
     if task.turns == 0 {
-        return without_turns(alloc, task);
+        return Plan::Ends(Ending::Exhausted);
     }
-    plan_front(alloc, task, script, longest, front)
-}
-
-/// The end of a task that has no turn left.
-fn without_turns<'s>(alloc: Global, task: &Standing<'_>) -> Result<Planned<'s>, NoMemory>
-    ensures { IfOk result (λ result_plan. result_plan
-        ≡ planned.Ends (content.Faulted (fault_of task.now kind.NoTurns))) }
-{
-    match task.fault(alloc, FaultKind::NoTurns) {
-        Ok(fault) => Ok(Planned::Ends(Content::Faulted(fault))),
-        Err(error) => Err(error),
-    }
+    plan_front(task, front)
 }
 
 /// What the next turn does, of a task with turns left.
+#[inline(always)]
 #[tactic(auto, using(crate::proofs::FrontLemmas::firsts))]
-fn plan_front<'s>(
-    alloc: Global,
-    task: &Standing<'_>,
-    script: &Script,
-    longest: u32,
-    front: Front<'_, 's>,
-) -> Result<Planned<'s>, NoMemory>
-    ensures plan { IfOk result
-        (λ planned. (items : List Item) → IsFront (script_lines script.now) items front.entry
-        → PlansFront (program_of script.now longest) task.now items planned) }
-    ensures leads { IfOk result
-        (λ planned. (items : List Item) → IsFront (script_lines script.now) items front.entry
-        → LeadsOn (script_lines script.now) items planned) }
+fn plan_front<'s>(task: &Standing<'_>, front: Front<'_, 's>) -> Plan<'s>
+    ensures plan { (program : Program) (items : List Item) → IsFront items front.entry
+        → PlansFront program task.now items result }
+    ensures leads { (items : List Item) → IsFront items front.entry → LeadsOn items result }
 {
     match front {
-        Front::Nothing => Ok(Planned::Ends(Content::Kept(Plain::Unit))),
-        Front::Back => Ok(Planned::Control(Control::Leave)),
-        Front::Mark => Ok(Planned::Control(Control::Pass)),
-        Front::Fail(fault) => failing(alloc, fault),
-        Front::Access(simple) => match task.plan_access(alloc, simple) {
-            Ok(turn) => Ok(Planned::Turn(turn)),
-            Err(error) => Err(error),
-        },
-        Front::Simple(simple) => match plan_simple(alloc, task, script, longest, simple) {
-            Ok(turn) => Ok(Planned::Turn(turn)),
-            Err(error) => Err(error),
-        },
-        Front::Choice {
-            condition,
-            block,
-            other,
-        } => plan_choice(alloc, task, condition, block, other),
-        Front::Loop { condition, block } => plan_loop(alloc, task, condition, block),
-        Front::Guarded { block, catch } => Ok(Planned::Control(Control::Guard(block, catch))),
+        Front::Nothing => Plan::Ends(Ending::Done),
+        Front::Back => Plan::Short(Short::Control(Control::Leave)),
+        Front::Mark => Plan::Short(Short::Control(Control::Pass)),
+        Front::Fail(_) => Plan::Ends(Ending::Done),
+        Front::Access(simple) => Plan::Full(Full::Access(simple)),
+        Front::Simple(simple) => short_simple(task, simple),
+        Front::Choice(condition) => plan_choice(task, condition),
+        Front::Loop(condition) => plan_loop(task, condition),
+        Front::Guarded => Plan::Short(Short::Control(Control::Enter)),
     }
 }
 
 /// `if A`
-fn plan_choice<'s>(
-    alloc: Global,
-    task: &Standing<'_>,
-    condition: &Operand,
-    block: usize,
-    other: Option<usize>,
-) -> Result<Planned<'s>, NoMemory>
-    ensures plan { IfOk result (λ planned. (program : Program) (lines : List Line)
-        (items : List Item) → plan_of lines items planned ≡ plan.plan_statement program
-        (state_of lines task.now) (choice_at lines condition.now block other)) }
-    ensures leads { IfOk result (λ planned. (lines : List Line) (items : List Item)
-        → AtStatement items → LeadsOn lines items planned) }
+#[inline(always)]
+fn plan_choice<'s>(task: &Standing<'_>, condition: &Operand) -> Plan<'s>
+    ensures plan { (program : Program) (items : List Item)
+        → IsChoice items condition.now → PlansFront program task.now items result }
+    ensures leads { (items : List Item) → AtStatement items → LeadsOn items result }
 {
-    let Some(holds) = operands::flag(task.environment(), condition) else {
-        return refused_control(alloc, task);
-    };
-    if holds {
-        return Ok(Planned::Control(Control::Enter(block)));
-    }
-    match other {
-        Some(other) => Ok(Planned::Control(Control::Enter(other))),
-        None => Ok(Planned::Control(Control::Skip)),
+    match operands::flag(task.environment(), condition) {
+        Some(true) => Plan::Short(Short::Control(Control::Enter)),
+        Some(false) => Plan::Short(Short::Control(Control::EnterOther)),
+        None => Plan::Full(Full::Refused(Trap::BadType)),
     }
 }
 
 /// `while A`
-#[tactic(auto, using(crate::proofs::LeadsLemmas::loops))]
-fn plan_loop<'s>(
-    alloc: Global,
-    task: &Standing<'_>,
-    condition: &Operand,
-    block: usize,
-) -> Result<Planned<'s>, NoMemory>
-    ensures plan { IfOk result (λ planned. (program : Program) (lines : List Line)
-        (items : List Item) → let loop = While condition.now (block_at lines block) in plan_of lines
-        (Do loop ∷ items) planned ≡ plan.plan_statement program (state_of lines task.now) loop) }
-    ensures leads { IfOk result (λ planned. (lines : List Line) (items : List Item)
-        → Begins items (While condition.now (block_at lines block)) → LeadsOn lines items planned) }
+#[inline(always)]
+fn plan_loop<'s>(task: &Standing<'_>, condition: &Operand) -> Plan<'s>
+    ensures plan { (program : Program) (items : List Item)
+        → IsLoop items condition.now → PlansFront program task.now items result }
+    ensures leads { (items : List Item) → AtStatement items → LeadsOn items result }
 {
-    let Some(holds) = operands::flag(task.environment(), condition) else {
-        return refused_control(alloc, task);
-    };
-    if holds {
-        Ok(Planned::Control(Control::Repeat(block)))
-    } else {
-        Ok(Planned::Control(Control::Pass))
+    match operands::flag(task.environment(), condition) {
+        Some(true) => Plan::Short(Short::Control(Control::Enter)),
+        Some(false) => Plan::Short(Short::Control(Control::Pass)),
+        None => Plan::Full(Full::Refused(Trap::BadType)),
     }
-}
-
-/// The refusal where a condition isn't a flag.
-fn refused_control<'s>(alloc: Global, task: &Standing<'_>) -> Result<Planned<'s>, NoMemory>
-    ensures plan { IfOk result (λ planned. (lines : List Line) (items : List Item)
-        → plan_of lines items planned ≡ plan.bad_type (state_of lines task.now)) }
-    ensures leads { IfOk result (λ planned. (lines : List Line) (items : List Item)
-        → AtStatement items → LeadsOn lines items planned) }
-{
-    match task.bad_type(alloc) {
-        Ok(turn) => Ok(Planned::Turn(turn)),
-        Err(error) => Err(error),
-    }
-}
-
-/// The end of a task with a fault that nothing caught.
-fn failing<'s>(alloc: Global, fault: &Fault) -> Result<Planned<'s>, NoMemory>
-    ensures { IfOk result (λ result_plan. result_plan ≡ planned.Ends (content.Faulted fault.now)) }
-{
-    let fault = Held::new(alloc, fault.copy(alloc)?)?;
-    Ok(Planned::Ends(Content::Faulted(fault)))
 }

@@ -17,7 +17,7 @@ use Rattle.lio_syntax_lines.specs.declared.line.Simple.{Simple}
 use Rattle.lio_syntax.specs.Statements.{Procedure}
 use Rattle.lio_syntax.specs.Lines.{script_lines}
 use Rattle.lio_cells.specs.State as kind
-use Rattle.lio_task_control.specs.Continuation.{block_at}
+use Rattle.lio_task_control.specs.Continuation.{body_at}
 use Rattle.lio_calculus.specs.Task.{TaskState}
 use Rattle.lio_calculus.specs.Going as going
 use Rattle.lio_calculus.specs.Plan as plan
@@ -44,7 +44,7 @@ abbrev pub onward_of : List Line → Simple → Onward → going.Onward
 onward_of lines simple onward.Advance = going.Advance
 onward_of lines simple (onward.Bind name value) = going.Bind name.now value
 onward_of lines simple (onward.Seal name label plain) = going.Seal name.now label plain
-onward_of lines simple (onward.Call name environment body) = going.Call name.now environment (block_at lines body)
+onward_of lines simple (onward.Call name environment at) = going.Call name.now environment (body_at lines at)
 onward_of lines simple (onward.Return value) = going.Return value
 onward_of lines simple (onward.Raise label) = going.Raise label
 onward_of lines simple (onward.RaiseTo label) = going.RaiseTo label simple

@@ -8,7 +8,7 @@ ghost use Rattle.lio_task_turns.specs.declared.turn.Onward.TheVariants as onward
 use crate::standing::Standing;
 use crate::turn::{Attempt, Onward, Turn};
 use lio_clauses::{NoMemory, beside};
-use lio_guards::{Verdict, guard};
+use lio_guards::{Verdict, guard, may_write};
 use lio_labels::Label;
 use lio_values::{Act, Fault, FaultKind, Held, Op, Reply};
 use std::alloc::Global;
@@ -17,7 +17,9 @@ impl Standing<'_> {
     ghost use Rattle.std.specs.Prelude.{◌≡◌, IfOk};
     ghost use Rattle.lio_values.specs.declared.act.Act.TheVariants as act;
     ghost use Rattle.lio_values.specs.declared.fault.FaultKind.TheVariants as kind;
+    ghost use Rattle.lio_guards.specs.Class.{class_of};
     ghost use Rattle.lio_guards.specs.Guard.{guarded};
+    ghost use Rattle.lio_guards.specs.declared.class.Class.TheVariants.{Write};
     ghost use Rattle.lio_task_turns.specs.Turns.{Guards, refusal};
 
     /// The fault of a kind, at the task's label.
@@ -51,8 +53,21 @@ impl Standing<'_> {
         guard(alloc, op, self.label, self.clearance, target)
     }
 
-    /// A turn, where a guard lets its act go.
+    /// A turn, where the guard of an operation that writes alone lets its act go.
     pub fn guarded<'s>(&self, alloc: Global, op: Op, label: &Label, turn: Turn<'s>) -> Attempt<'s>
+        requires { class_of op ≡ Write }
+        ensures { IfOk result (Guards self.now op label.now turn.entry) }
+    {
+        if may_write(self.label, self.clearance, label) {
+            Ok(turn)
+        } else {
+            self.judged(alloc, op, label, turn)
+        }
+    }
+
+    /// A turn, where the verdict of a guard lets its act go.
+    #[inline(never)]
+    fn judged<'s>(&self, alloc: Global, op: Op, label: &Label, turn: Turn<'s>) -> Attempt<'s>
         ensures { IfOk result (Guards self.now op label.now turn.entry) }
     {
         let (turn, verdict) = beside(turn, self.verdict(alloc, op, label))?;

@@ -11,21 +11,24 @@ use lio_task_control::Environment;
 use lio_values::{Name, Values};
 use std::alloc::Global;
 
-/// A procedure of a script: its number, its parameters, and the place at which its body begins.
+/// A procedure of a script: its number, its parameters, and the place of the line that begins it.
 #[derive(Drop)]
 pub struct Procedure<'s> {
+    /// Its number, from 0.
     pub number: u32,
+    /// The names of its parameters.
     pub parameters: &'s Parameters,
-    pub body: usize,
+    /// The place of the line that begins it.
+    pub line: usize,
 }
 
 impl<'s> Procedure<'s> {
     /// The first with this name.
     pub fn find(script: &'s Script, name: &Name) -> Option<Procedure<'s>>
         ensures { MatchOption result (number_of script.now name.now ≡ None) (λ procedure. IsNamed
-            script.now name.now procedure.number procedure.parameters.now procedure.body) }
+            script.now name.now procedure.number procedure.parameters.now procedure.line) }
     {
-        match script.procedure_number(name.bytes()) {
+        match script.procedure_named(name) {
             Some(number) => Some(Procedure::numbered(script, number as u32)),
             None => None,
         }
@@ -35,14 +38,14 @@ impl<'s> Procedure<'s> {
     pub fn numbered(script: &'s Script, number: u32) -> Procedure<'s>
         requires { number < length script.now }
         ensures number { result.number ≡ number }
-        ensures procedure { IsNumbered script.now result.number result.parameters.now result.body }
+        ensures procedure { IsNumbered script.now result.number result.parameters.now result.line }
     {
         let line = script.procedure_line(number as usize);
         match script.lines().get(line) {
             Some(Line::Proc(_, parameters)) => Procedure {
                 number,
                 parameters,
-                body: line + 1,
+                line,
             },
             _ => unreachable!(),
         }

@@ -21,10 +21,15 @@ pub type Attempt<'s> = Result<Turn<'s>, NoMemory>;
 /// The node that a turn meets: that of a handle, or the one that is to be made at a number.
 #[derive(Drop)]
 pub enum Target {
+    /// A reference.
     Reference(Handle),
+    /// A variable.
     Variable(Handle),
+    /// A channel.
     Channel(Handle),
+    /// The result of a task.
     Result(Handle),
+    /// The node that is made at this number.
     New(u32),
 }
 
@@ -37,8 +42,8 @@ pub enum Onward<'s> {
     Bind(&'s Name, Value),
     /// The name is bound to the plain value, sealed under the label.
     Seal(&'s Name, Label, Held<Plain>),
-    /// With the body of a procedure, which begins at a place, in this environment; the name is
-    /// bound to what it returns.
+    /// With the body of the procedure that the line at a place begins, in this environment; the
+    /// name is bound to what it returns.
     Call(&'s Name, Environment, usize),
     /// With the caller, to which the value is returned.
     Return(Value),

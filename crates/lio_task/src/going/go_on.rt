@@ -44,15 +44,18 @@ impl Task {
             Onward::Seal(name, label, plain) => {
                 self.go_seal(alloc, script, name, label, plain.into_inner())
             }
-            Onward::Call(name, environment, body) => {
-                self.go_call(alloc, script, name, environment, body)
+            Onward::Call(name, environment, line) => {
+                self.go_call(alloc, script, name, environment, line)
             }
             Onward::Return(value) => self.go_return(alloc, script, value),
             Onward::Raise(label) => {
                 self.go_raise(script, label);
                 Ok(())
             }
-            Onward::RaiseTo(label) => self.go_raise_to(script, label),
+            Onward::RaiseTo(label) => {
+                self.go_raise_to(script, label);
+                Ok(())
+            }
             Onward::Unlabel(name, label, source, content) => {
                 drop(source);
                 self.go_unlabel(alloc, script, name, label, content.into_inner())

@@ -1,32 +1,39 @@
 use Rattle.std.proofs.Common.{◌≡◌}
-use Rattle.std.proofs.lemmas.Result.{IfOk-weaker}
 use Rattle.lio_values.specs.declared.act.Act.TheVariants.{Step}
 use Rattle.lio_values.specs.declared.act.Reply.TheVariants.{Done}
-use Rattle.lio_config.specs.Configuration.{cell_of, configuration_of}
-use Rattle.lio_config.specs.Takes.{Steps}
-use Rattle.lio_config.specs.Turns.{TurnedAlone}
-use Rattle.lio_config.proofs.HolderLemmas.{err_on, same-configuration, with_holder}
-use Rattle.lio_config.proofs.TurnLemmas.{alone-can, alone-steps, short-stays}
+use Rattle.lio_config.specs.Configuration.{configuration_of}
+use Rattle.lio_config.proofs.HolderLemmas.{on_err, same-configuration, with_holder}
+use Rattle.lio_config.proofs.TurnLemmas.{actor-job, alone-steps, own-can, owns-at}
 use Rattle.lio_config.proofs.config.Config.own_step.Goals as goal
 
-pub step_alone-requires : goal.step_alone-requires
-step_alone-requires c =
-    (alone-can c.args.script.now c.args.self.now c.args.k c.in-Some.actor.now Step Done c.args.way
-    (record { within = c.in-Some.ensures.item.3.0; is = c.in-Some.ensures.value }) c.requires.sound c.requires.plans).turns
+pub prepare_step-requires : goal.prepare_step-requires
+prepare_step-requires c =
+    let script = c.args.script.now in let config = c.args.self.now in let holder = c.in-Some.actor.now in
+    own-can script config.longest holder Step Done c.args.way
+    (owns-at script config c.args.k holder Step Done c.args.way (record { within = c.in-Some.ensures.item.3.0; is = c.in-Some.ensures.value }) c.requires.plans)
+
+pub returns-in_err-prepare_step-clause-err : goal.returns-in_err-prepare_step-clause-err
+returns-in_err-prepare_step-clause-err c =
+    let script = c.args.script.now in let config = c.args.self.now in let new = c.prepare_step.new.self in
+    on_err (configuration_of script (with_holder config c.args.k new) ≡ configuration_of script config) c.from_residual.result
+    (same-configuration script config c.args.k c.in-Some.actor.now new c.in-Some.ensures.item.3.0 c.in-Some.ensures.value c.in_err-prepare_step.ensures.err)
+
+pub record-requires-clause-room : goal.record-requires-clause-room
+record-requires-clause-room c =
+    let script = c.args.script.now in let config = c.args.self.now in let holder = c.in-Some.actor.now in
+    let plans = owns-at script config c.args.k holder Step Done c.args.way (record { within = c.in-Some.ensures.item.3.0; is = c.in-Some.ensures.value }) c.requires.plans in
+    (c.in_ok-prepare_step.ensures.ok config.longest plans).room
+
+pub record-requires-clause-job : goal.record-requires-clause-job
+record-requires-clause-job c =
+    let script = c.args.script.now in let config = c.args.self.now in let holder = c.in-Some.actor.now in
+    let plans = owns-at script config c.args.k holder Step Done c.args.way (record { within = c.in-Some.ensures.item.3.0; is = c.in-Some.ensures.value }) c.requires.plans in
+    actor-job script config c.args.k holder plans.task c.prepare_step.new.self.node.state c.requires.sound (record { within = c.in-Some.ensures.item.3.0; is = c.in-Some.ensures.value }) plans.is
+    (c.in_ok-prepare_step.ensures.ok config.longest plans).state
 
 pub returns-clause-ok : goal.returns-clause-ok
 returns-clause-ok c =
-    let script = c.args.script.now in let holder = c.in-Some.actor.now in let new = c.step_alone.new.self in
-    IfOk-weaker c.step_alone.result (TurnedAlone script holder new c.args.k c.args.ticket Step Done c.args.way)
-    (Steps (configuration_of script c.args.self.now) (configuration_of script (with_holder c.args.self.now c.args.k new)) c.args.k c.args.ticket)
-    (λ entry. alone-steps script c.args.self.now c.args.k c.args.ticket holder new Step Done c.args.way entry (record { within = c.in-Some.ensures.item.3.0; is = c.in-Some.ensures.value }) c.requires.plans)
-    c.step_alone.ensures.ok
-
-pub returns-clause-fault : goal.returns-clause-fault
-returns-clause-fault c = short-stays (configuration_of c.args.script.now c.args.self.now) c.args.k c.step_alone.result c.step_alone.ensures.fault
-
-pub returns-clause-err : goal.returns-clause-err
-returns-clause-err c =
-    let script = c.args.script.now in let holder = c.in-Some.actor.now in let new = c.step_alone.new.self in
-    err_on (cell_of script new ≡ cell_of script holder) (configuration_of script (with_holder c.args.self.now c.args.k new) ≡ configuration_of script c.args.self.now) c.step_alone.result
-    (same-configuration script c.args.self.now c.args.k holder new c.in-Some.ensures.item.3.0 c.in-Some.ensures.value) c.step_alone.ensures.err
+    let script = c.args.script.now in let config = c.args.self.now in let holder = c.in-Some.actor.now in
+    let plans = owns-at script config c.args.k holder Step Done c.args.way (record { within = c.in-Some.ensures.item.3.0; is = c.in-Some.ensures.value }) c.requires.plans in
+    alone-steps script config c.args.k c.args.ticket holder c.prepare_step.new.self c.record.new.self c.prepare_step.new.entry c.requires.sound (record { within = c.in-Some.ensures.item.3.0; is = c.in-Some.ensures.value })
+    (c.in_ok-prepare_step.ensures.ok config.longest plans) (c.record.ensures script)

@@ -5,5 +5,5 @@ use Rattle.lio_rounds.proofs.machine.Machine.can_move.Goals as goal
 
 pub returns : goal.returns
 returns c =
-    c.can_move.ensures c.self.invariant.well_formed.sound
+    c.can_move.ensures c.self.invariant.0.well_formed.sound
     ∙ ap (λ (m : MachineParts). can (machine_of m).configuration c.args.k) c.self.view_is

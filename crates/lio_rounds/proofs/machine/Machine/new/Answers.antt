@@ -8,6 +8,7 @@ use Rattle.lio_calculus_rounds.proofs.OrderLemmas.{tasks_are_an_order}
 use Rattle.lio_config.specs.Configuration.{configuration_of}
 use Rattle.lio_rounds.specs.MachineState.{MachineState}
 use Rattle.lio_rounds.proofs.MachineRuns.{run-nothing}
+use Rattle.lio_rounds.proofs.SleepLemmas.{sleepers-none}
 use Rattle.lio_rounds.proofs.HolderTasks.{holders_from, holders_from-end, tasks_from-holders}
 use Rattle.lio_rounds.proofs.machine.Machine.new.Goals as goal
 
@@ -18,13 +19,15 @@ invariant_of-result c =
     holders_from-end c.loop-k.order.items c.loop-k.k c.deref-holder-items.result.now c.loop-k.invariant c.loop-k-test.false
     ∙ ap (holders_from 0) c.deref-holder-items.ensures.value ∙ tasks_from-holders c.args.script 0 c.args.config.holders.items in
     let made : List Entry → Ran = λ es. record { entries = es; last = here } in
-    let none : length c.new.result.items ≡ 0 = ap (λ (es : List Entry). length es) c.new.ensures.items in
-    record {
-      ran = record { first = here; well_formed = c.requires; tasks = []; is_run = run-nothing 0 here ∙ ap (λ (es : List Entry). Some (made es)) (sym c.new.ensures.items) };
-      well_formed = c.requires;
-      lists = subst (IsOrderOf here) (sym order) (tasks_are_an_order here);
-      numbered = λ i d within. absurd (omega (arith, within, none));
-    }
+    let none : length c.new.result.items ≡ 0 = ap (λ (es : List Entry). length es) c.new.ensures.items in (
+      record {
+        ran = record { first = here; well_formed = c.requires; tasks = []; is_run = run-nothing 0 here ∙ ap (λ (es : List Entry). Some (made es)) (sym c.new.ensures.items) };
+        well_formed = c.requires;
+        lists = subst (IsOrderOf here) (sym order) (tasks_are_an_order here);
+        numbered = λ i d within. absurd (omega (arith, within, none));
+      },
+      sleepers-none here c.loop-k.order.items c.new-2.result c.new-2.ensures,
+    )
 
 pub returns : goal.returns
 returns c =

@@ -1,4 +1,4 @@
 use Rattle.lio_rounds.proofs.machine.Machine.turn.Goals as goal
 
 pub next_entry-requires : goal.next_entry-requires
-next_entry-requires c = c.self.invariant.well_formed.sound
+next_entry-requires c = c.self.invariant.0.well_formed.sound

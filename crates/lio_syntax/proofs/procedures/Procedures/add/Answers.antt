@@ -1,4 +1,4 @@
-use Rattle.std.proofs.Common.{◌≡◌, ◌<◌, ◌^◌, length, ap, arith, vec_len}
+use Rattle.std.proofs.Common.{◌≡◌, ◌<◌, ◌^◌, length, arith, vec_len}
 use Rattle.lio_syntax.proofs.BeginningLemmas.{holds-more}
 use Rattle.lio_syntax.proofs.procedures.Procedures.add.Goals as goal
 

@@ -1,12 +1,12 @@
-use Rattle.std.proofs.Common.{ℕ, List, length, map, ap, sym, ◌∙◌, arith}
+use Rattle.std.proofs.Common.{ℕ, List, ap, sym, ◌∙◌}
 use Rattle.lio_syntax_lines.specs.declared.line.Line.{Line}
 use Rattle.lio_syntax.specs.Statements.{Procedure}
 use Rattle.lio_syntax.specs.declared.script.Kept.{Kept}
 use Rattle.lio_syntax.specs.Headers.{count_in}
 use Rattle.lio_syntax.specs.Behind.{script_of_lines}
-use Rattle.lio_syntax.specs.Beginnings.{Beginning, beginnings, number_in, number_of}
+use Rattle.lio_syntax.specs.Beginnings.{beginnings, number_in, number_of}
 use Rattle.lio_syntax.proofs.FaultLemmas.{keeps-lines}
-use Rattle.lio_syntax.proofs.BeginningLemmas.{number_in-script, number_of-within, length-places}
+use Rattle.lio_syntax.proofs.BeginningLemmas.{number_in-script, number_of-within, few_procedures}
 use Rattle.lio_syntax.proofs.script.Script.procedure_number.Goals as goal
 
 number-is : goal.returns-clause-number
@@ -23,7 +23,4 @@ pub returns-clause-within : goal.returns-clause-within
 returns-clause-within c = number_of-within c.args.self.now c.args.name.now c.number.result (number-is c)
 
 pub returns-clause-few : goal.returns-clause-few
-returns-clause-few c =
-    let lines : List Line = c.self.inside.kept.value.lines.items in
-    let places = c.self.invariant.3.places ∙ ap (λ (ls : List Line). map (λ (b : Beginning). b.at) (beginnings 0 ls)) (sym (keeps-lines lines c.self.invariant.0)) in
-    omega (arith, length-places (script_of_lines lines) c.self.inside.kept.value.procedures.places.items places, ap length c.self.view_is, c.self.invariant.3.few)
+returns-clause-few c = few_procedures c.self.inside.kept.value.lines.items c.args.self.now c.self.inside.kept.value.procedures c.self.invariant.0 c.self.view_is c.self.invariant.3

@@ -1,8 +1,8 @@
-use Rattle.std.proofs.Common.{length, take, ◌≡◌, ◌∙◌, sym, ap, [], arith}
-use Rattle.lio_task_control.specs.Continuation.{frame_over, parts_over, place_of}
-use Rattle.lio_task_control.proofs.ContinuationLemmas.{below, place_eq, take_all}
+use Rattle.lio_task_control.specs.declared.frame.Stage.{Stage}
+use Rattle.std.proofs.Common.{ℕ, ◌++◌, length, take, ◌≡◌, ◌∙◌, sym, ap, [], arith}
+use Rattle.lio_task_control.specs.Continuation.{frame_over, place_of, stage_items, frame_items}
+use Rattle.lio_task_control.proofs.ContinuationLemmas.{below, place_eq, take_all, calls_over-push, calls_over-take}
 use Rattle.lio_task_control.specs.Continuation.{call_over, calls_over}
-use Rattle.lio_task_control.proofs.PartLemmas.{calls_over-push, calls_over-take}
 use Rattle.lio_task_control.proofs.continuation.Continuation.copy.Goals as goal
 
 pub loop-call-preserved : goal.loop-call-preserved
@@ -21,5 +21,6 @@ returns c = λ lines.
     let calls = c.deref-call-items.result.now in
     let all : c.loop-call.call-index ≡ length calls = omega arith in
     place_eq _ _ _ _ c.in_ok-frame.ensures.environment
-    (ap (λ ps. parts_over lines ps (below lines copies)) c.in_ok-frame.ensures.parts
+    (ap (λ (at : ℕ). stage_items lines at c.in_ok-frame.frame.stage ++ below lines copies) c.in_ok-frame.ensures.at
+    ∙ ap (λ (s : Stage). stage_items lines c.args.self.now.frame.at s ++ below lines copies) c.in_ok-frame.ensures.stage
     ∙ ap (frame_over lines c.args.self.now.frame) (c.loop-call.invariant lines [] ∙ ap (λ cs. calls_over lines cs []) (take_all calls c.loop-call.call-index all ∙ c.deref-call-items.ensures.value)))

@@ -1,11 +1,11 @@
-use Rattle.std.proofs.Common.{length, take, ◌≡◌, ◌∙◌, sym, ap, [], List, map, arith}
+use Rattle.lio_task_control.specs.declared.frame.Stage.{Stage}
+use Rattle.std.proofs.Common.{ℕ, ◌++◌, length, take, ◌≡◌, ◌∙◌, sym, ap, [], List, map, arith}
 use Rattle.lio_task_control.specs.declared.frame.Call.{Call}
 use Rattle.lio_task_control.specs.Items.{Item}
-use Rattle.lio_task_control.specs.Continuation.{call_over, calls_over, frame_over, parts_over, place_of}
+use Rattle.lio_task_control.specs.Continuation.{call_over, calls_over, frame_over, place_of, stage_items, frame_items}
 use Rattle.lio_task_control.specs.Hiding.{hide_item, hide_place}
-use Rattle.lio_task_control.proofs.ContinuationLemmas.{below, place_eq, take_all}
-use Rattle.lio_task_control.proofs.HidingLemmas.{parts_over-hidden}
-use Rattle.lio_task_control.proofs.PartLemmas.{calls_over-push, calls_over-take}
+use Rattle.lio_task_control.proofs.ContinuationLemmas.{below, place_eq, take_all, calls_over-push, calls_over-take}
+use Rattle.lio_task_control.proofs.OwnLemmas.{frame-no_back, hidden-over}
 use Rattle.lio_task_control.proofs.continuation.Continuation.erase.Goals as goal
 
 pub loop-call-init : goal.loop-call-init
@@ -32,6 +32,7 @@ returns c = λ lines.
     let all : c.loop-call.call-index ≡ length calls = omega arith in
     let back = c.loop-call.invariant lines [] ∙ ap (λ (cs : List Call). map (hide_item o) (calls_over lines cs [])) (take_all calls c.loop-call.call-index all ∙ c.deref-call-items.ensures.value) in
     place_eq _ _ _ _ c.in_ok-frame.ensures.environment
-    (ap (λ ps. parts_over lines ps (below lines copies)) c.in_ok-frame.ensures.parts
+    (ap (λ (at : ℕ). stage_items lines at c.in_ok-frame.frame.stage ++ below lines copies) c.in_ok-frame.ensures.at
+    ∙ ap (λ (s : Stage). stage_items lines c.args.self.now.frame.at s ++ below lines copies) c.in_ok-frame.ensures.stage
     ∙ ap (frame_over lines was.frame) back
-    ∙ parts_over-hidden o lines was.frame.parts.items (below lines was.calls.items))
+    ∙ hidden-over o (frame_items lines was.frame) (below lines was.calls.items) (frame-no_back lines was.frame))

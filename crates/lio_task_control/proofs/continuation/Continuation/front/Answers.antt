@@ -1,7 +1,7 @@
-use Rattle.std.proofs.Common.{◌<◌, length, ◌≡◌, ◌∙◌, sym, subst, arith}
+use Rattle.std.proofs.Common.{[], ◌<◌, length, ◌≡◌, ◌∙◌, sym, subst, arith}
 use Rattle.lio_syntax.specs.Lines.{script_lines}
 use Rattle.lio_task_control.specs.Continuation.{place_of}
-use Rattle.lio_task_control.proofs.ContinuationLemmas.{below, no_calls, none_left, back_below}
+use Rattle.lio_task_control.proofs.ContinuationLemmas.{below, items_over, no_calls, none_left, back_below}
 use Rattle.std.proofs.lemmas.Bool.Decides.{nat_tests}
 use Rattle.lio_task_control.specs.Front.{IsBack}
 use Rattle.lio_task_control.proofs.continuation.Continuation.front.Goals as goal
@@ -16,7 +16,7 @@ returns-then-is_empty c =
     let ls = script_lines c.args.script.now in
     let calls = c.args.self.now.calls.items in
     let none : length calls ≡ 0 = grind (arith, nat_tests, c.if-is_empty.ensures) in
-    c.in_default.ensures (below ls calls) ∙ no_calls ls calls (none_left calls none)
+    items_over ls c.args.self.now.frame [] (below ls calls) c.in_default.ensures ∙ no_calls ls calls (none_left calls none)
 
 pub returns-else-is_empty : goal.returns-else-is_empty
 unfolding place_of
@@ -24,4 +24,4 @@ returns-else-is_empty c =
     let ls = script_lines c.args.script.now in
     let calls = c.args.self.now.calls.items in
     let some : 0 < length calls = grind (arith, nat_tests, c.if-is_empty.ensures) in
-    subst IsBack (sym (c.in_default.ensures (below ls calls))) (back_below ls calls some)
+    subst IsBack (sym (items_over ls c.args.self.now.frame [] (below ls calls) c.in_default.ensures)) (back_below ls calls some)
