@@ -64,13 +64,14 @@ impl Config {
     ghost use Rattle.lio_config.specs.Takes.{PlansFull, PlansOwn, PlansVisit, Stays, Steps};
 
     /// The task with a number.
-    pub(crate) fn task(&self, k: u32) -> Option<&Task>
+    pub fn task(&self, k: u32) -> Option<&Task>
         ensures { option_copied result ≡ task_in self.now k }
     {
         self.holders.get(k as usize)?.task.as_ref()
     }
 
     /// The turn of a task that meets no other node.
+    #[inline(never)]
     fn own(
         &mut self,
         alloc: Global,
@@ -129,6 +130,7 @@ impl Config {
     }
 
     /// The turn of a task that can take one, and that meets a node.
+    #[inline(never)]
     fn visit(
         &mut self,
         alloc: Global,

@@ -17,6 +17,7 @@ impl Task {
     ghost use Rattle.lio_task.specs.StateOf.{state_in};
 
     /// A child as it is born, at its parent's label.
+    #[inline(never)]
     pub fn of_birth(
         alloc: Global,
         birth: &Birth,

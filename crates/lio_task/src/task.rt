@@ -3,7 +3,8 @@ ghost use Rattle.std.specs.Prelude.{◌≡◌, ◌+◌, ◌<◌, ◌^◌, IsTrue
 ghost use Rattle.lio_labels.specs.Flow.{flows};
 
 use lio_labels::Label;
-use lio_task_control::Continuation;
+use lio_syntax::Script;
+use lio_task_control::{Continuation, Environment};
 use lio_task_turns::Standing;
 
 /// A task: where it stands in its script, its current label and its clearance, the turns that it
@@ -39,6 +40,18 @@ impl Task {
             cells: self.cells,
             ended: self.ended,
         }
+    }
+
+    /// What its names are bound to.
+    pub fn environment(&self) -> &Environment
+        ensures { (lines : List Line) → result.now ≡ (state_of lines self.now).environment }
+    {
+        self.continuation.environment()
+    }
+
+    /// The line of the script at which it stands, from 0. It is for messages: no clause says which.
+    pub fn line(&self, script: &Script) -> usize {
+        self.continuation.line(script)
     }
 
     /// Its current label.

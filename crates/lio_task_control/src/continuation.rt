@@ -10,6 +10,7 @@ ghost use Rattle.lio_task_control.specs.Hiding.{hide_place};
 use crate::environment::Environment;
 use crate::frame::{Call, Frame};
 use crate::front::Front;
+use crate::places::settled;
 use lio_clauses::NoMemory;
 use lio_labels::Label;
 use lio_syntax::Script;
@@ -68,6 +69,7 @@ impl Continuation {
     }
 
     /// What comes first.
+    #[inline(always)]
     pub fn front<'t, 's>(&'t self, script: &'s Script) -> Front<'t, 's>
         ensures { IsFront (place_of (script_lines script.now) self.now).items result }
     {
@@ -79,6 +81,11 @@ impl Continuation {
         } else {
             Front::Back
         }
+    }
+
+    /// The line of the script at which it stands, from 0. It is for messages: no clause says which.
+    pub fn line(&self, script: &Script) -> usize {
+        settled(script, self.frame.at)
     }
 
     /// An equal continuation.

@@ -104,6 +104,7 @@ impl Frame {
     }
 
     /// What comes first in it.
+    #[inline(always)]
     pub(crate) fn front<'t, 's>(&'t self, script: &'s Script) -> Option<Front<'t, 's>>
         ensures { MatchOption result (frame_items (script_lines script.now) self.now ≡ [])
             (λ front. (items : List Item)
@@ -118,6 +119,7 @@ impl Frame {
     }
 
     /// Goes on at a place, unless nothing is left.
+    #[inline(always)]
     fn go_to(&mut self, at: usize)
         ensures environment { self.new.environment ≡ self.old.environment }
         ensures items { (lines : List Line)
@@ -134,6 +136,7 @@ impl Frame {
     }
 
     /// Goes on behind what comes first.
+    #[inline(always)]
     pub(crate) fn advance(&mut self, script: &Script)
         ensures environment { self.new.environment ≡ self.old.environment }
         ensures items { frame_items (script_lines script.now) self.new

@@ -64,7 +64,7 @@ fn else_of(script: &Script, at: usize) -> Option<usize>
 }
 
 /// The place itself, or at the end of a block the one behind the block.
-fn settled(script: &Script, at: usize) -> usize
+pub(crate) fn settled(script: &Script, at: usize) -> usize
     ensures { SettlesAt (script_lines script.now) at result }
 {
     match line_at(script, at) {

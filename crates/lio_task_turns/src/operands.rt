@@ -15,6 +15,7 @@ use lio_values::{Content, Handle, Plain, Text, Value, Values};
 use std::alloc::Global;
 
 /// The plain value that an operand stands for, if it is bare.
+#[inline(always)]
 pub fn bare<'a>(environment: &'a Environment, operand: &'a Operand) -> Option<&'a Plain>
     ensures { option_copied result ≡ seen_as Some environment.now operand.now }
 {
