@@ -1,6 +1,5 @@
-pub mod Apart
-pub mod TakenLemmas
-pub mod Loads
-pub mod InputLemmas
-pub mod OutputLemmas
-pub mod LawLemmas
+mod LoadLemmas
+mod InputLemmas
+mod TakenLemmas
+mod SumLemmas
+pub mod WriteLemmas

@@ -1,7 +1,7 @@
 //! Why a step isn't done.
 ghost use Rattle.std.specs.Prelude.{◌≡◌};
 
-use lio_clauses::NoMemory;
+use lio_clauses::{NoMemory, TextFault};
 use lio_policy_draft::PolicyFault;
 use lio_start::StartFault;
 use lio_syntax::ScriptFault;
@@ -17,6 +17,9 @@ pub enum FrontFault {
     /// The file with this name couldn't be read.
     #[error("a file couldn't be read")]
     ReadFault(Text),
+    /// The observer's label is none over the policy's principals.
+    #[error("the observer's label is none over the policy's principals")]
+    BadLabel,
     /// The lowest rule that the policy breaks, and the lowest entry at which it does; entry 0 is
     /// the document.
     #[error("entry {1} of the policy breaks rule {0}")]
@@ -39,6 +42,19 @@ impl From<NoMemory> for FrontFault {
 
     fn from(_cause: NoMemory) -> FrontFault {
         FrontFault::NoMemory
+    }
+}
+
+impl From<TextFault> for FrontFault {
+    ghost use Rattle.lio_front.specs.Loading.{of_label};
+
+    ghost from_gives = { λ cause fault. fault ≡ of_label cause };
+
+    fn from(cause: TextFault) -> FrontFault {
+        match cause {
+            TextFault::BadText(_) | TextFault::Unknown(_) | TextFault::Wide => FrontFault::BadLabel,
+            TextFault::NoMemory => FrontFault::NoMemory,
+        }
     }
 }
 

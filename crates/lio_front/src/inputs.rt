@@ -1,7 +1,9 @@
 //! The inputs.
 
 ghost use Rattle.std.specs.Prelude.{◌≡◌, ◌≤◌, Ok, IfOk, IfErr, length};
-ghost use Rattle.lio_front.specs.Causes.{AreInputs, InputsSay};
+ghost use Rattle.lio_outside.specs.Asking.{Give};
+ghost use Rattle.lio_front.specs.Causes.{Says};
+ghost use Rattle.lio_front.specs.Loading as spec;
 
 use crate::fault::FrontFault;
 use crate::loading::fetch;
@@ -19,10 +21,11 @@ pub fn load_inputs<S: Store>(
 ) -> Result<List<Text>, FrontFault>
     ensures files { S.holds store.new ≡ S.holds store.old }
     ensures count { S.faults store.old ≤ S.faults store.new }
-    ensures ok { IfOk result (λ texts.
-        AreInputs (S.holds store.old) policy.now.longest policy.now.inputs (Ok texts)) }
+    ensures ok { IfOk result (λ texts. Give (S.holds store.old)
+        (spec.texts policy.now.longest policy.now.inputs) (Ok texts)) }
     ensures each { IfOk result (λ texts. length texts ≡ length policy.now.inputs) }
-    ensures err { IfErr result (InputsSay (S.holds store.old) policy.now.longest policy.now.inputs
+    ensures err { IfErr result (Says (S.holds store.old)
+        (spec.texts policy.now.longest policy.now.inputs)
         (S.faults store.old) (S.faults store.new)) }
 {
     let mut texts = List::new(alloc);

@@ -1,8 +1,8 @@
 //! The law of what a run writes. The function does nothing: its contract is the law.
-ghost use Rattle.lio_front.specs.Laws.{OutputsHoldEachChannel};
+ghost use Rattle.lio_front.specs.Laws.{OutputsHoldEachFile};
 
-/// Each channel's file holds exactly that channel's sends, and every file that is no channel's is
-/// as before.
-pub fn outputs_hold_each_channel()
-    ensures { OutputsHoldEachChannel }
+/// Where no file that is written is taken, each channel's file holds exactly that channel's sends,
+/// the history's the journal, the view's what is seen, and every other file is as before.
+pub fn outputs_hold_each_file()
+    ensures { OutputsHoldEachFile }
 {}

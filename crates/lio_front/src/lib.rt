@@ -7,10 +7,12 @@ mod fault;
 mod inputs;
 pub mod laws;
 mod loading;
+mod summing;
 mod write;
 
 pub use clashes::clash;
 pub use fault::{FrontFault, OutFault};
 pub use inputs::load_inputs;
 pub use loading::{Front, MOST_POLICY_BYTES, MOST_SCRIPT_BYTES, load};
+pub use summing::summary;
 pub use write::write_out;

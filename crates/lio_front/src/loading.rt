@@ -1,11 +1,20 @@
-//! Loading: the policy and the script.
+//! Loading: the policy, the observer's label and the script.
 
-ghost use Rattle.std.specs.Prelude.{◌≡◌, ◌≤◌, ℕ, List, Ok, IfOk, IfErr, Some, None};
+ghost use Rattle.std.specs.Prelude.{◌≡◌, ◌≤◌, ◌⊎◌, Ok, Err, IfOk, IfErr, None};
+ghost use Rattle.std.specs.Option.{option_map};
 ghost use Rattle.lio_syntax.specs.Verdict.{IsOver};
 ghost use Rattle.lio_start.specs.Fits as start;
-ghost use Rattle.lio_front.specs.Causes.{FetchSays, Gave, IsLoaded, LoadSays, PolicyLoaded};
+ghost use Rattle.lio_outside.specs.Asking.{Give};
+ghost use Rattle.lio_front.specs.Causes.{Says};
+ghost use Rattle.lio_front.specs.Loading.{loading, observer_from, policy_steps};
+ghost use Rattle.lio_front.specs.Loading.{script_steps, steps_under};
+ghost use Rattle.lio_outside.specs.Steps.{asked};
+ghost use Rattle.lio_front.specs.declared.fault.FrontFault.TheVariants.{Missing as missing};
+ghost use Rattle.lio_front.specs.declared.fault.FrontFault.TheVariants.{NoMemory as without_memory};
 
 use crate::fault::FrontFault;
+use lio_clauses::{Names, beside};
+use lio_labels::Label;
 use lio_outside::{FetchFault, Store};
 use lio_policy::{Policy, read_policy};
 use lio_start::fits;
@@ -19,11 +28,12 @@ pub const MOST_POLICY_BYTES: u32 = 1_048_576;
 /// The most bytes of a script.
 pub const MOST_SCRIPT_BYTES: u32 = 262_144;
 
-/// A policy, and a script that fits it.
+/// A policy, a script that fits it, and the label of an observer, where one was asked for.
 #[derive(Drop)]
 pub struct Front {
     pub policy: Policy,
     pub script: Script,
+    pub observer: Option<Label>,
 }
 
 /// Fetches a file, and names it where it can't be had. The store's files stay.
@@ -35,9 +45,10 @@ pub(crate) fn fetch<S: Store>(
 ) -> Result<Vec<u8>, FrontFault>
     ensures files { S.holds store.new ≡ S.holds store.old }
     ensures count { S.faults store.old ≤ S.faults store.new }
-    ensures ok { IfOk result (λ bytes. Gave (S.holds store.old) name.now limit (Some bytes.items)) }
-    ensures err { IfErr result (FetchSays (S.holds store.old) name.now limit (S.faults store.old)
-        (S.faults store.new)) }
+    ensures ok { IfOk result (λ bytes. Give (S.holds store.old)
+        (asked (missing name.now) name.now limit) (Ok bytes.items)) }
+    ensures err { IfErr result (Says (S.holds store.old) (asked (missing name.now) name.now limit)
+        (S.faults store.old) (S.faults store.new)) }
 {
     match store.fetch(alloc, name, limit) {
         Ok(bytes) => Ok(bytes),
@@ -51,13 +62,30 @@ pub(crate) fn fetch<S: Store>(
 fn load_policy<S: Store>(alloc: Global, store: &mut S, policy: &[u8]) -> Result<Policy, FrontFault>
     ensures files { S.holds store.new ≡ S.holds store.old }
     ensures count { S.faults store.old ≤ S.faults store.new }
-    ensures ok { IfOk result (PolicyLoaded (S.holds store.old) policy.now) }
-    ensures err { IfErr result (λ fault. (script : List ℕ)
-        → LoadSays (S.holds store.old) policy.now script (S.faults store.old)
-        (S.faults store.new) fault) }
+    ensures ok { IfOk result (λ read. Give (S.holds store.old) (policy_steps policy.now)
+        (Ok read)) }
+    ensures err { IfErr result (Says (S.holds store.old) (policy_steps policy.now)
+        (S.faults store.old) (S.faults store.new)) }
 {
     let text = fetch(alloc, store, policy, MOST_POLICY_BYTES)?;
     Ok(read_policy(alloc, text.as_slice())?)
+}
+
+/// Reads the label of an observer, where its text is there, over the names of principals.
+fn read_observer(
+    alloc: Global,
+    names: &Names,
+    label: Option<&[u8]>,
+) -> Result<Option<Label>, FrontFault>
+    ensures ok { IfOk result (λ observer.
+        observer_from names.now (option_map (λ text. text.now) label.entry) ≡ Ok observer) }
+    ensures err { IfErr result (λ fault. (fault ≡ FrontFault.NoMemory)
+        ⊎ (observer_from names.now (option_map (λ text. text.now) label.entry) ≡ Err fault)) }
+{
+    match label {
+        None => Ok(None),
+        Some(text) => Ok(Some(Label::read(alloc, text, names)?)),
+    }
 }
 
 /// Fetches and reads the script, and sees that each task of the policy can begin in it. The store's
@@ -65,21 +93,17 @@ fn load_policy<S: Store>(alloc: Global, store: &mut S, policy: &[u8]) -> Result<
 fn load_script<S: Store>(
     alloc: Global,
     store: &mut S,
-    script: &[u8],
     policy: &Policy,
+    script: &[u8],
 ) -> Result<Script, FrontFault>
     ensures files { S.holds store.new ≡ S.holds store.old }
     ensures count { S.faults store.old ≤ S.faults store.new }
-    ensures ok { IfOk result (λ procedures. (file : List ℕ)
-        → PolicyLoaded (S.holds store.old) file policy.now
-        → IsLoaded (S.holds store.old) file script.now
-        (Ok (record { policy = policy.now; script = procedures }))) }
+    ensures ok { IfOk result (λ procedures. Give (S.holds store.old)
+        (script_steps policy.now script.now) (Ok procedures)) }
     ensures fits { IfOk result (λ procedures. start.fits policy.now.tasks procedures ≡ None) }
     ensures over { IfOk result (λ procedures. IsOver policy.now.names procedures) }
-    ensures err { IfErr result (λ fault. (file : List ℕ)
-        → PolicyLoaded (S.holds store.old) file policy.now
-        → LoadSays (S.holds store.old) file script.now (S.faults store.old)
-        (S.faults store.new) fault) }
+    ensures err { IfErr result (Says (S.holds store.old) (script_steps policy.now script.now)
+        (S.faults store.old) (S.faults store.new)) }
 {
     let text = fetch(alloc, store, script, MOST_SCRIPT_BYTES)?;
     let script = read_script(alloc, text.as_slice(), &policy.names)?;
@@ -89,26 +113,56 @@ fn load_script<S: Store>(
     }
 }
 
-/// Fetches and reads the policy and then the script, and sees that each task of the policy can
-/// begin in the script. The store's files stay.
+/// Reads the observer's label, where its text is there, and then fetches and reads the script, both
+/// over the policy. The store's files stay.
+fn load_under<S: Store>(
+    alloc: Global,
+    store: &mut S,
+    policy: &Policy,
+    script: &[u8],
+    label: Option<&[u8]>,
+) -> Result<(Option<Label>, Script), FrontFault>
+    ensures files { S.holds store.new ≡ S.holds store.old }
+    ensures count { S.faults store.old ≤ S.faults store.new }
+    ensures ok { IfOk result (λ read. Give (S.holds store.old)
+        (steps_under policy.now script.now (option_map (λ text. text.now) label.entry)) (Ok read)) }
+    ensures fits { IfOk result (λ read. start.fits policy.now.tasks read.1 ≡ None) }
+    ensures over { IfOk result (λ read. IsOver policy.now.names read.1) }
+    ensures err { IfErr result (Says (S.holds store.old)
+        (steps_under policy.now script.now (option_map (λ text. text.now) label.entry))
+        (S.faults store.old) (S.faults store.new)) }
+{
+    let observer = read_observer(alloc, &policy.names, label)?;
+    beside(observer, load_script(alloc, store, policy, script))
+}
+
+/// Fetches and reads the policy, reads the observer's label over its principals, where one is asked
+/// for, and fetches and reads the script, in which each task of the policy can begin. The store's
+/// files stay.
 pub fn load<S: Store>(
     alloc: Global,
     store: &mut S,
     policy: &[u8],
     script: &[u8],
+    label: Option<&[u8]>,
 ) -> Result<Front, FrontFault>
     ensures files { S.holds store.new ≡ S.holds store.old }
     ensures count { S.faults store.old ≤ S.faults store.new }
-    ensures ok { IfOk result (λ front. IsLoaded (S.holds store.old) policy.now script.now
-        (Ok front)) }
+    ensures ok { IfOk result (λ front. Give (S.holds store.old)
+        (loading policy.now script.now (option_map (λ text. text.now) label.entry)) (Ok front)) }
     ensures fits { IfOk result (λ front. start.fits front.policy.tasks front.script ≡ None) }
     ensures over { IfOk result (λ front. IsOver front.policy.names front.script) }
-    ensures err { IfErr result (LoadSays (S.holds store.old) policy.now script.now
+    ensures err { IfErr result (Says (S.holds store.old)
+        (loading policy.now script.now (option_map (λ text. text.now) label.entry))
         (S.faults store.old) (S.faults store.new)) }
 {
     let policy = load_policy(alloc, store, policy)?;
-    match load_script(alloc, store, script, &policy) {
-        Ok(script) => Ok(Front { policy, script }),
+    match load_under(alloc, store, &policy, script, label) {
+        Ok((observer, script)) => Ok(Front {
+            policy,
+            script,
+            observer,
+        }),
         Err(fault) => {
             drop(policy);
             Err(fault)

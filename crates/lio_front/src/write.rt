@@ -1,16 +1,39 @@
-//! Writing the channels' files.
+//! Writing the files: the channels', the history and the view.
 
-ghost use Rattle.std.specs.Prelude.{◌≡◌, ◌≤◌, IfErr, OnOk};
-ghost use Rattle.lio_front.specs.Outputs.{kept, kept_one, output_of, outputs, OneSays, OutSays};
+ghost use Rattle.std.specs.Prelude.{◌≡◌, ◌≤◌, [], ◌∷◌, All, IfErr, OnOk};
+ghost use Rattle.std.specs.Option.{option_map};
+ghost use Rattle.lio_events.specs.Printable.{IsPrintable};
+ghost use Rattle.lio_outside.specs.Outputs.{kept};
+ghost use Rattle.lio_front.specs.Outputs.{journal_output, output_of, outputs, outputs_from};
+ghost use Rattle.lio_front.specs.Outputs.{OutSays};
 
 use crate::fault::OutFault;
-use lio_events::{Journal, channel_bytes};
+use lio_clauses::Names;
+use lio_events::{Journal, channel_bytes, print_journal};
 use lio_outside::{KeepFault, Store};
 use lio_policy::{FileEntry, Policy};
+use lio_values::Text;
 use std::alloc::Global;
 
+/// Writes a file, and names it where it can't be written.
+fn keep<S: Store>(alloc: Global, store: &mut S, file: &[u8], bytes: &[u8]) -> Result<(), OutFault>
+    ensures count { S.faults store.old ≤ S.faults store.new }
+    ensures ok { OnOk result (S.holds store.new ≡ kept (S.holds store.old)
+        (record { name = file.now; bytes = bytes.now } ∷ [])) }
+    ensures err { IfErr result (OutSays (S.holds store.old) (S.holds store.new)
+        (record { name = file.now; bytes = bytes.now } ∷ []) (S.faults store.old)
+        (S.faults store.new)) }
+{
+    let name = Text::of(alloc, file)?;
+    match store.keep(alloc, file, bytes) {
+        Ok(()) => Ok(()),
+        Err(KeepFault::Failed) => Err(OutFault::WriteFault(name)),
+        Err(KeepFault::NoMemory) => Err(OutFault::NoMemory),
+    }
+}
+
 /// Writes the file of the channel with a number.
-fn keep<S: Store>(
+fn keep_channel<S: Store>(
     alloc: Global,
     store: &mut S,
     channel: &FileEntry,
@@ -19,22 +42,17 @@ fn keep<S: Store>(
 ) -> Result<(), OutFault>
     ensures count { S.faults store.old ≤ S.faults store.new }
     ensures ok { OnOk result (S.holds store.new
-        ≡ kept_one (S.holds store.old) (output_of journal.now number channel.now)) }
-    ensures err { IfErr result (OneSays (S.holds store.old) (S.holds store.new)
-        (output_of journal.now number channel.now) (S.faults store.old) (S.faults store.new)) }
+        ≡ kept (S.holds store.old) (output_of journal.now number channel.now ∷ [])) }
+    ensures err { IfErr result (OutSays (S.holds store.old) (S.holds store.new)
+        (output_of journal.now number channel.now ∷ []) (S.faults store.old)
+        (S.faults store.new)) }
 {
-    let name = channel.file.copy(alloc)?;
     let bytes = channel_bytes(alloc, journal, number)?;
-    match store.keep(alloc, name.bytes(), bytes.as_slice()) {
-        Ok(()) => Ok(()),
-        Err(KeepFault::Failed) => Err(OutFault::WriteFault(name)),
-        Err(KeepFault::NoMemory) => Err(OutFault::NoMemory),
-    }
+    keep(alloc, store, channel.file.bytes(), bytes.as_slice())
 }
 
-/// Writes the channels' files in the policy's order, each with what the channel received. After
-/// want of memory a first part of the files is written, none or all of them included.
-pub fn write_out<S: Store>(
+/// Writes the channels' files in the policy's order, each with what the channel received.
+fn keep_channels<S: Store>(
     alloc: Global,
     store: &mut S,
     policy: &Policy,
@@ -42,12 +60,66 @@ pub fn write_out<S: Store>(
 ) -> Result<(), OutFault>
     ensures count { S.faults store.old ≤ S.faults store.new }
     ensures ok { OnOk result (S.holds store.new
-        ≡ kept (S.holds store.old) (outputs policy.now journal.now)) }
+        ≡ kept (S.holds store.old) (outputs_from journal.now 0 policy.now.channels)) }
     ensures err { IfErr result (OutSays (S.holds store.old) (S.holds store.new)
-        (outputs policy.now journal.now) (S.faults store.old) (S.faults store.new)) }
+        (outputs_from journal.now 0 policy.now.channels) (S.faults store.old)
+        (S.faults store.new)) }
 {
     for (number, channel) in policy.channels.as_slice().iter().enumerate() {
-        keep(alloc, store, channel, number as u32, journal)?;
+        keep_channel(alloc, store, channel, number as u32, journal)?;
     }
     Ok(())
+}
+
+/// Writes a journal's lines, with their tickets or without, where they have a file.
+fn keep_journal<S: Store>(
+    alloc: Global,
+    store: &mut S,
+    journal: &Journal,
+    ticket: bool,
+    names: &Names,
+    file: Option<&[u8]>,
+) -> Result<(), OutFault>
+    requires { All (IsPrintable names.now) journal.now }
+    ensures count { S.faults store.old ≤ S.faults store.new }
+    ensures ok { OnOk result (S.holds store.new ≡ kept (S.holds store.old)
+        (journal_output names.now ticket journal.now (option_map (λ name. name.now) file.entry))) }
+    ensures err { IfErr result (OutSays (S.holds store.old) (S.holds store.new)
+        (journal_output names.now ticket journal.now (option_map (λ name. name.now) file.entry))
+        (S.faults store.old) (S.faults store.new)) }
+{
+    let Some(file) = file else {
+        return Ok(());
+    };
+    let text = print_journal(alloc, journal, ticket, names)?;
+    keep(alloc, store, file, text.as_slice())
+}
+
+/// Writes the channels' files in the policy's order, each with what the channel received, then the
+/// history with its tickets, and then what an observer sees without tickets, the last two where
+/// they have a file. After want of memory a first part of the files is written, none or all of them
+/// included.
+pub fn write_out<S: Store>(
+    alloc: Global,
+    store: &mut S,
+    policy: &Policy,
+    journal: &Journal,
+    history: Option<&[u8]>,
+    view: Option<&[u8]>,
+    seen: &Journal,
+) -> Result<(), OutFault>
+    requires journal { All (IsPrintable policy.now.names) journal.now }
+    requires seen { All (IsPrintable policy.now.names) seen.now }
+    ensures count { S.faults store.old ≤ S.faults store.new }
+    ensures ok { OnOk result (S.holds store.new ≡ kept (S.holds store.old)
+        (outputs policy.now journal.now (option_map (λ name. name.now) history.entry)
+        (option_map (λ name. name.now) view.entry) seen.now)) }
+    ensures err { IfErr result (OutSays (S.holds store.old) (S.holds store.new)
+        (outputs policy.now journal.now (option_map (λ name. name.now) history.entry)
+        (option_map (λ name. name.now) view.entry) seen.now)
+        (S.faults store.old) (S.faults store.new)) }
+{
+    keep_channels(alloc, store, policy, journal)?;
+    keep_journal(alloc, store, journal, true, &policy.names, history)?;
+    keep_journal(alloc, store, seen, false, &policy.names, view)
 }

@@ -3,7 +3,7 @@
 use crate::respond;
 use lio_host_main::{HostStatus, Outcome, host_main};
 use lio_host_refusals::{detail_of, refusal_text};
-use lio_outside::MemStore;
+use lio_outside::{MemSay, MemStore};
 use std::alloc::{AllocError, Global};
 use std::fs::Files;
 use std::process::ExitCode;
@@ -118,14 +118,48 @@ fn put_files(
     Ok(())
 }
 
-/// A store with the files of a case, whose calls fail that are to fail.
-fn store(alloc: Global, case: &Case, policy: &str, script: &str) -> Result<MemStore, Fail> {
+/// The first bytes of a file, or the file with the byte 0xFF at a place.
+fn damage(alloc: Global, store: &mut MemStore, part: &Part, place: usize) -> Result<(), Fail> {
+    let (name, _) = part.about.as_str().split_once(' ').unwrap_or(("", ""));
+    let mut bytes = Vec::from_slice(alloc, store.get(name.as_bytes()).unwrap_or(b""))?;
+    if part.word.as_str() == "cut" {
+        bytes.truncate(place);
+    } else if let Some(byte) = bytes.get_mut(place) {
+        *byte = 0xff;
+    }
+    store.put(alloc, name.as_bytes(), bytes.as_slice())?;
+    Ok(())
+}
+
+/// Damages the files that a case cuts, or in which it puts a byte that is no text.
+fn damage_files(alloc: Global, store: &mut MemStore, case: &Case) -> Result<(), Fail> {
+    for part in &case.parts {
+        if let "cut" | "byte" = part.word.as_str()
+            && let Some((_, place)) = part.about.as_str().split_once(' ')
+        {
+            damage(alloc, store, part, place.parse::<usize>()?)?;
+        }
+    }
+    Ok(())
+}
+
+/// The calls of an object that are to fail.
+fn failing(alloc: Global, case: &Case, word: &str) -> Result<Vec<u64>, Fail> {
     let mut failing = Vec::new(alloc);
-    if let Some(call) = case.number("fail")? {
+    if let Some(call) = case.number(word)? {
         failing.push(call as u64)?;
     }
-    let mut store = MemStore::new(alloc, failing);
-    match put_files(alloc, &mut store, case, policy, script) {
+    Ok(failing)
+}
+
+/// A store with the files of a case, whose calls fail that are to fail.
+fn store(alloc: Global, case: &Case, policy: &str, script: &str) -> Result<MemStore, Fail> {
+    let mut store = MemStore::new(alloc, failing(alloc, case, "fail")?);
+    let filled = match put_files(alloc, &mut store, case, policy, script) {
+        Ok(()) => damage_files(alloc, &mut store, case),
+        refused => refused,
+    };
+    match filled {
         Ok(()) => Ok(store),
         Err(fail) => {
             drop(store);
@@ -149,6 +183,16 @@ fn is_true_of(part: &Part, store: &MemStore) -> bool {
         "file" => store.get(part.about.as_bytes()) == Some(part.text.as_bytes()),
         "absent" => store.get(part.about.as_bytes()).is_none(),
         _ => true,
+    }
+}
+
+/// Whether what was said is what a case says; where it says nothing of that and the host isn't done,
+/// nothing was said.
+fn was_said(case: &Case, answer: &HostStatus, said: &[u8]) -> bool {
+    match (case.text("said"), answer) {
+        (Some(text), _) => text.as_bytes() == said,
+        (None, HostStatus::Done) => true,
+        (None, _) => said.is_empty(),
     }
 }
 
@@ -200,12 +244,20 @@ fn does_as_said(
     script: &str,
 ) -> Result<bool, Fail> {
     let entries = case.number("entries")?.unwrap_or(0);
-    let Outcome { status, journal } = host_main(alloc, words, store);
+    let mut say = MemSay::new(alloc, failing(alloc, case, "failsay")?);
+    let Outcome { status, journal } = host_main(alloc, words, store, &mut say);
     let count = journal.entries().len();
     drop(journal);
     let as_said = answers_as_said(alloc, case, expected, &status, words, policy, script);
+    let said = was_said(case, &status, say.said());
     drop(status);
-    Ok(as_said? && count == entries && case.parts.iter().all(|part| is_true_of(part, store)))
+    drop(say);
+    Ok(
+        as_said?
+            && said
+            && count == entries
+            && case.parts.iter().all(|part| is_true_of(part, store)),
+    )
 }
 
 /// Whether the program ends with the exit status that a case says, over a store with its files.
@@ -221,8 +273,10 @@ fn ends_as_said<R: AllocGlobal + Files + Eprint>(
     };
     let number = expected.about.as_str().parse::<u8>()?;
     let mut store = store(rt.alloc(), case, policy, script)?;
-    let exit = respond(rt, words, &mut store);
+    let mut say = MemSay::new(rt.alloc(), failing(rt.alloc(), case, "failsay")?);
+    let exit = respond(rt, words, &mut store, &mut say);
     drop(store);
+    drop(say);
     Ok(exit == ExitCode::from(number))
 }
 
@@ -252,6 +306,24 @@ fn holds<R: AllocGlobal + Files + Eprint>(
     Ok(holds? && ends_as_said(rt, case, words.as_slice(), policy, script)?)
 }
 
+/// Whether a case holds, also where it cuts the policy at each place before its last brace.
+fn holds_wherever<R: AllocGlobal + Files + Eprint>(
+    rt: &R,
+    case: &Case,
+    policy: &str,
+    script: &str,
+) -> Result<bool, Fail> {
+    if case.part("cut_each").is_none() {
+        return holds(rt, case, policy, script);
+    }
+    for end in 0..policy.rfind('}').unwrap_or(0) {
+        if !holds(rt, case, policy.get(..end).unwrap_or(policy), script)? {
+            return Ok(false);
+        }
+    }
+    Ok(true)
+}
+
 /// The name of the first case of a text that doesn't hold, or nothing where all do.
 pub fn first_failing<R: AllocGlobal + Files + Eprint>(
     rt: &R,
@@ -263,7 +335,7 @@ pub fn first_failing<R: AllocGlobal + Files + Eprint>(
     for case in &cases {
         policy = case.text("policy").unwrap_or(policy);
         script = case.text("script").unwrap_or(script);
-        if !holds(rt, case, policy, script)? {
+        if !holds_wherever(rt, case, policy, script)? {
             return Ok(Some(case.name.clone()?));
         }
     }

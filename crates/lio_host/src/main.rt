@@ -1,4 +1,5 @@
-//! Runs a script under a policy over labelled inputs, and writes what it sends to its channels.
+//! Runs a script under a policy over labelled inputs, writes what it sends to its channels, and says a
+//! summary.
 #![tactic(auto)]
 
 ghost use Rattle.std.specs.Prelude.{◌≡◌, List};
@@ -6,12 +7,16 @@ ghost use Rattle.std.specs.Process.{exit_status};
 ghost use Rattle.lio_values.specs.declared.entry.Entry.{Entry};
 ghost use Rattle.lio_host_main.specs.ExitStatus.{exit_status as status_number};
 ghost use Rattle.lio_host_main.specs.Answers.{EndsWith};
-ghost use Rattle.lio_host_main.specs.Command.{bytes_of_words};
+ghost use Rattle.lio_host_words.specs.Sorted.{bytes_of_words};
 
 #[cfg(test)]
 mod cases;
 #[cfg(test)]
+mod cut;
+#[cfg(test)]
 mod limits;
+#[cfg(test)]
+mod outputs;
 #[cfg(test)]
 mod rows;
 #[cfg(test)]
@@ -21,7 +26,7 @@ mod worked;
 
 use lio_host_main::{HostStatus, Outcome, host_main};
 use lio_host_refusals::{print_refusal, refusal_detail};
-use lio_outside::{RealStore, Store};
+use lio_outside::{RealSay, RealStore, Say, Store};
 use std::fs::Files;
 use std::process::ExitCode;
 use std::{env, io, mem};
@@ -41,22 +46,31 @@ fn exit_code(status: &HostStatus) -> ExitCode
 
 /// Runs the script that the words name, says on standard error what was refused, if anything was,
 /// and gives the exit status of the answer.
-fn respond<R: AllocGlobal + Files + Eprint, S: Store>(
+fn respond<R: AllocGlobal + Files + Eprint, S: Store, W: Say>(
     rt: &R,
     words: &[String],
     store: &mut S,
+    say: &mut W,
 ) -> ExitCode
     ensures { EndsWith (λ (journal : List Entry). record {
       words = bytes_of_words words.now;
-      told_before = S.holds store.old;
-      told_after = S.holds store.new;
-      faults_before = S.faults store.old;
-      faults_after = S.faults store.new;
+      before = record {
+        told = S.holds store.old;
+        faults = S.faults store.old;
+        said = W.said say.old;
+        say_faults = W.faults say.old;
+      };
+      after = record {
+        told = S.holds store.new;
+        faults = S.faults store.new;
+        said = W.said say.new;
+        say_faults = W.faults say.new;
+      };
       journal = journal;
     }) (exit_status result) }
 {
     let alloc = rt.alloc();
-    let Outcome { status, journal } = host_main(alloc, words, store);
+    let Outcome { status, journal } = host_main(alloc, words, store, say);
     // Giving back a long journal piece by piece would take a good part of the run.
     mem::forget(journal);
     let detail = refusal_detail(alloc, rt, store, &status, words);
@@ -69,5 +83,6 @@ fn main(rt: HostRuntime) -> ExitCode {
     // Words that can't be had as text are wrong words.
     let words = words(&rt).unwrap_or(Vec::new(rt.alloc()));
     let mut store = RealStore::new(&rt);
-    respond(&rt, words.as_slice(), &mut store)
+    let mut say = RealSay::new(&rt);
+    respond(&rt, words.as_slice(), &mut store, &mut say)
 }

@@ -1,4 +1,4 @@
-//! The worked runs of the host, as text.
+//! The worked runs of the host, as text. Histories and views are files.
 //!
 //! A case begins with a line `case` and its name. Each of its lines is a word, what it is about, and the lines of its text, each with `|`
 //! before it; a line of a text ends with a line end, but with none where it ends with `~`, and with a carriage return too where with `^`.
@@ -8,10 +8,13 @@
 //! | `policy`, `script` | what the files `p.json` and `s.lio` hold, in this case and in those after it |
 //! | `input NAME` | what another file holds |
 //! | `words` | the words, one a line; `p.json` and `s.lio` where there is none |
-//! | `fail N` | call N of the store fails |
+//! | `cut NAME N`, `byte NAME PLACE` | a file has its first N bytes alone, or the byte 0xFF at a place |
+//! | `cut_each` | the case holds wherever the policy is cut before its last brace |
+//! | `fail N`, `failsay N` | call N of the store fails, or of the output |
 //! | `status STATUS`, `exit N` | the answer, and the exit status of the program |
 //! | `file NAME`, `absent NAME` | what a file holds afterwards, or that it isn't there |
 //! | `says` | how the words begin that are printed of the answer |
+//! | `said` | what was said; where there is none, nothing unless the answer is Done |
 //! | `entries N` | how many turns were taken; none where there is none |
 
 /// Scripts that run.
@@ -125,14 +128,14 @@ script
 status BadPolicy(1, 0)
 exit 4
 says
-|lio_host: BadPolicy(1, 0): p.json: the document: a policy is a JSON text~
+|lio_host: BadPolicy(1, 0): p.json:1:1: the text ends too early; a closing sign is missing~
 absent out.txt
 case a policy without tasks
 policy
 |{"version":1,"longest":4096,"principals":[],"channels":[],"inputs":[]}~
 status BadPolicy(2, 0)
 says
-|lio_host: BadPolicy(2, 0): p.json: the document: each object has exactly the keys~
+|lio_host: BadPolicy(2, 0): p.json: the document: "tasks" is missing~
 absent out.txt
 case a second version
 policy
@@ -142,7 +145,7 @@ policy
 |"tasks":[{"name":"main","proc":"main","label":"True %% True","clearance":"True %% True","turns":20,"cells":0,"args":[{"channel":"out"}]}]}~
 status BadPolicy(3, 0)
 says
-|lio_host: BadPolicy(3, 0): p.json: the document: `version` is 1~
+|lio_host: BadPolicy(3, 0): p.json: the document: "version" is 2; this host reads policies of version 1~
 absent out.txt
 case a principal that is there before
 policy
@@ -152,7 +155,7 @@ policy
 |"tasks":[{"name":"main","proc":"main","label":"True %% True","clearance":"True %% True","turns":20,"cells":0,"args":[{"channel":"out"}]}]}~
 status BadPolicy(4, 2)
 says
-|lio_host: BadPolicy(4, 2): p.json: principal 2, "alice": a name has 1 to 32 bytes~
+|lio_host: BadPolicy(4, 2): p.json: principal 2, "alice": its name is that of number 1 of its list~
 absent out.txt
 case a channel with an unknown principal
 policy
@@ -162,7 +165,7 @@ policy
 |"tasks":[{"name":"main","proc":"main","label":"True %% True","clearance":"True %% True","turns":20,"cells":0,"args":[{"channel":"out"}]}]}~
 status BadPolicy(5, 3)
 says
-|lio_host: BadPolicy(5, 3): p.json: channel 1, "out": a label is two formulas~
+|lio_host: BadPolicy(5, 3): p.json: channel 1, "out": "label", at byte 0: "carol" is no principal of the policy (alice, bob)~
 absent out.txt
 case a task above its clearance
 policy
@@ -172,7 +175,7 @@ policy
 |"tasks":[{"name":"main","proc":"main","label":"alice %% True","clearance":"True %% True","turns":20,"cells":0,"args":[{"channel":"out"}]}]}~
 status BadPolicy(6, 4)
 says
-|lio_host: BadPolicy(6, 4): p.json: task 1, "main": a task's label flows to its clearance~
+|lio_host: BadPolicy(6, 4): p.json: task 1, "main": its label alice %% True doesn't flow to its clearance True %% True; raise the clearance, or lower the label~
 absent out.txt
 case an argument that is no channel of the policy
 policy
@@ -182,7 +185,7 @@ policy
 |"tasks":[{"name":"main","proc":"main","label":"True %% True","clearance":"True %% True","turns":20,"cells":0,"args":[{"channel":"log"}]}]}~
 status BadPolicy(7, 2)
 says
-|lio_host: BadPolicy(7, 2): p.json: task 1, "main": an argument names an input or a channel~
+|lio_host: BadPolicy(7, 2): p.json: task 1, "main": argument 1: no channel has the name "log"; there are: out~
 absent out.txt
 case too many turns for the longest text
 policy
@@ -192,7 +195,7 @@ policy
 |"tasks":[{"name":"main","proc":"main","label":"True %% True","clearance":"True %% True","turns":262145,"cells":0,"args":[{"channel":"out"}]}]}~
 status BadPolicy(8, 0)
 says
-|lio_host: BadPolicy(8, 0): p.json: the document: `longest` is 1 to 65536~
+|lio_host: BadPolicy(8, 0): p.json: the document: "longest" times the turns of all tasks is 1073745920, more than 1073741824~
 absent out.txt
 case a file without a name
 policy
@@ -202,7 +205,7 @@ policy
 |"tasks":[{"name":"main","proc":"main","label":"True %% True","clearance":"True %% True","turns":20,"cells":0,"args":[{"channel":"out"}]}]}~
 status BadPolicy(9, 1)
 says
-|lio_host: BadPolicy(9, 1): p.json: channel 1, "out": a file's name has 1 to 255 bytes~
+|lio_host: BadPolicy(9, 1): p.json: channel 1, "out": "file" is empty~
 absent out.txt
 case a policy is refused before its script is looked for
 words
@@ -229,8 +232,9 @@ script
 |end
 status BadScript(2, 1)
 says
-|lio_host: BadScript(2, 1): s.lio:2: a line is one of the forms that docs/SCRIPTS.md lists, and a label in it is one over the principals of the policy
-|  2 | let x =~
+|lio_host: BadScript(2, 1): s.lio:2:8: a value is missing here: let X = A
+|  2 | let x =
+|             ^~
 absent out.txt
 case an else outside of an if
 script
@@ -241,8 +245,9 @@ script
 |end
 status BadScript(3, 2)
 says
-|lio_host: BadScript(3, 2): s.lio:3: each procedure and each block ends with `end`, and no line stands where it can't; the innermost that is open here is the `while` of line 2
-|  3 | else~
+|lio_host: BadScript(3, 2): s.lio:3:1: "else" belongs to an "if"; open here is the "while" of line 2
+|  3 | else
+|      ^~
 absent out.txt
 case a try that ends without catch
 script
@@ -255,8 +260,9 @@ script
 |end
 status BadScript(5, 2)
 says
-|lio_host: BadScript(5, 2): s.lio:5: each procedure and each block ends with `end`, and no line stands where it can't; the innermost that is open here is the `try` of line 4
-|  5 | end~
+|lio_host: BadScript(5, 2): s.lio:5:1: the "try" of line 4 needs "catch X Y" before this "end"
+|  5 | end
+|      ^~
 absent out.txt
 case a line behind the last procedure
 script
@@ -265,8 +271,9 @@ script
 |stop
 status BadScript(3, 2)
 says
-|lio_host: BadScript(3, 2): s.lio:3: each procedure and each block ends with `end`, and no line stands where it can't; no block and no procedure is open here
-|  3 | stop~
+|lio_host: BadScript(3, 2): s.lio:3:1: no procedure is open here; "proc P X .." begins one
+|  3 | stop
+|      ^~
 absent out.txt
 case a procedure that isn't there
 script
@@ -275,8 +282,9 @@ script
 |end
 status BadScript(2, 3)
 says
-|lio_host: BadScript(2, 3): s.lio:2: a procedure that is called, forked or spawned has a `proc` line; no line begins with `proc go`
-|  2 | spawn 1 0 go c~
+|lio_host: BadScript(2, 3): s.lio:2:11: no line begins with "proc go"
+|  2 | spawn 1 0 go c
+|                ^~
 absent out.txt
 case too many arguments, behind a label with blanks
 script
@@ -287,8 +295,9 @@ script
 |end
 status BadScript(2, 4)
 says
-|lio_host: BadScript(2, 4): s.lio:2: a procedure is given as many arguments as its first `proc` line has parameters; parameters of `go`: 1, arguments: 2
-|  2 | fork r <alice %% True> 1 0 go c 7~
+|lio_host: BadScript(2, 4): s.lio:2:28: parameters of "go": 1, arguments: 2
+|  2 | fork r <alice %% True> 1 0 go c 7
+|                                 ^~
 absent out.txt
 case a call with too few arguments, where lines end with carriage returns
 script
@@ -299,8 +308,9 @@ script
 |end^
 status BadScript(2, 4)
 says
-|lio_host: BadScript(2, 4): s.lio:2: a procedure is given as many arguments as its first `proc` line has parameters; parameters of `go`: 1, arguments: 0
-|  2 | call x go~
+|lio_host: BadScript(2, 4): s.lio:2:8: parameters of "go": 1, arguments: 0
+|  2 | call x go
+|             ^~
 absent out.txt
 case a try that ends without catch, where lines end with carriage returns
 script
@@ -313,8 +323,9 @@ script
 |end^
 status BadScript(5, 2)
 says
-|lio_host: BadScript(5, 2): s.lio:5: each procedure and each block ends with `end`, and no line stands where it can't; the innermost that is open here is the `try` of line 4
-|  5 | end~
+|lio_host: BadScript(5, 2): s.lio:5:1: the "try" of line 4 needs "catch X Y" before this "end"
+|  5 | end
+|      ^~
 absent out.txt
 case two procedures with one name
 script
@@ -412,7 +423,7 @@ fail 2
 status WriteFault(out.txt)
 exit 7
 says
-|lio_host: WriteFault(out.txt): a channel's file couldn't be written~
+|lio_host: WriteFault(out.txt): the file couldn't be written~
 absent out.txt
 entries 2
 case a file that isn't written is as before
@@ -459,17 +470,17 @@ policy
 fail 2
 status WriteFault(out\n\x1b.txt)
 says
-|lio_host: WriteFault(out\n\x1b.txt): a channel's file couldn't be written~
+|lio_host: WriteFault(out\n\x1b.txt): the file couldn't be written~
 entries 2
 "#;
 
-/// Words that aren't two names.
+/// Words that give no command, and what the options write.
 pub const WRONG_WORDS: &str = r#"case no words
 words
 status BadWords
 exit 1
 says
-|lio_host: BadWords: the words aren't two names~
+|lio_host: BadWords: there are to be two names~
 absent out.txt
 case one word
 words

@@ -1,7 +1,9 @@
 //! The worked runs of the host: each case of `rows.rt` holds.
 
 use crate::cases::first_failing;
+use crate::cut::CUT;
 use crate::limits::{FULL_POLICY, written_out};
+use crate::outputs::{OPTIONS, OUTPUTS};
 use crate::rows::{CLASHES, FAULTS, REFUSED_POLICIES, REFUSED_SCRIPTS, RUNS, WRONG_WORDS};
 use crate::worked::WORKED_RUNS;
 use std::fs::Files;
@@ -42,6 +44,21 @@ fn taken_names_clash(rt: HostRuntime) -> Result<(), Fail> {
 #[test]
 fn faults_name_their_file(rt: HostRuntime) -> Result<(), Fail> {
     assert_all_hold(&rt, FAULTS)
+}
+
+#[test]
+fn words_give_commands(rt: HostRuntime) -> Result<(), Fail> {
+    assert_all_hold(&rt, OPTIONS)
+}
+
+#[test]
+fn outputs_are_written(rt: HostRuntime) -> Result<(), Fail> {
+    assert_all_hold(&rt, OUTPUTS)
+}
+
+#[test]
+fn one_call_fails_or_input_is_cut(rt: HostRuntime) -> Result<(), Fail> {
+    assert_all_hold(&rt, CUT)
 }
 
 #[test]

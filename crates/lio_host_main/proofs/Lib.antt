@@ -1,2 +1,4 @@
 pub mod Prepares
+pub mod Finishes
 pub mod Says
+mod ViewLemmas

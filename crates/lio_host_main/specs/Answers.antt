@@ -1,131 +1,137 @@
 -- What each answer of the host says.
-use Rattle.std.specs.Prelude.{◌≡◌, ℕ, List, [], Option, Some, None, Result, Ok, Err, IfSome, ◌⊎◌}
+use Rattle.std.specs.Prelude.{◌≡◌, ℕ, List, [], Option, Some, None, Result, Ok, Err, ◌⊎◌}
 use Rattle.lio_values.specs.declared.entry.Entry.{Entry}
 use Rattle.lio_outside.specs.FileMap.{FileMap}
-use Rattle.lio_outside.specs.Fetch.{IsMissing}
 use Rattle.lio_outside.specs.Count.{Rose}
-use Rattle.lio_front.specs.Laws.{HoldsEachChannel}
-use Rattle.lio_front.specs.Outputs.{kept, outputs, KeepsFirst, StopsAt}
+use Rattle.lio_outside.specs.Said.{said_with, SaidPartly}
+use Rattle.lio_outside.specs.Asking.{Refuse}
+use Rattle.lio_outside.specs.Outputs.{kept, KeepsFirst, StopsAt}
+use Rattle.lio_front.specs.Laws.{HoldsEachFile}
+use Rattle.lio_front.specs.Summary.{summary_text}
+use Rattle.lio_calculus.specs.Run.{Ran}
 use Rattle.lio_calculus.specs.Step.{Configuration}
 use Rattle.lio_start.specs.Job.{first_of}
 use Rattle.lio_start.specs.declared.job.Job.{Job}
-use Rattle.lio_host_main.specs.declared.status.HostStatus.{HostStatus}
-use Rattle.lio_host_main.specs.declared.status.HostStatus.TheVariants.{Done, BadWords, Missing, ReadFault, BadPolicy, BadScript, BadStart, WriteFault, NoMemory, Clash}
-use Rattle.lio_host_main.specs.ExitStatus.{exit_status}
-use Rattle.lio_host_main.specs.Command.{Command, command_of}
-use Rattle.lio_host_main.specs.Preparing.{ReadsFile}
-use Rattle.lio_host_main.specs.Verdict.{Fetched, found, verdict}
 use Rattle.lio_rounds.specs.Headline.{IsRunOf}
 use Rattle.lio_rounds.specs.Runs.{IsByRounds}
+use Rattle.lio_host_words.specs.Command.{Command, command_of}
+use Rattle.lio_host_main.specs.declared.status.HostStatus.{HostStatus}
+use Rattle.lio_host_main.specs.declared.status.HostStatus.TheVariants.{Done, BadWords, Missing, ReadFault, BadPolicy, BadScript, BadStart, WriteFault, SayFault, NoMemory, Clash}
+use Rattle.lio_host_main.specs.ExitStatus.{exit_status}
+use Rattle.lio_host_main.specs.Order.{Order, seen_by, view_file, written}
+use Rattle.lio_host_main.specs.StatusOf.{cause_of}
+use Rattle.lio_host_main.specs.Verdict.{IsVerdict, prepared, told_of, verdict}
 
--- a call of the host: its words, what the store told of its files and how many faults it had counted, before and after
--- the call, and the journal of the answer
+-- the outside at a moment: what the store tells of its files, what the output tells was said to it, and how many faults each had counted
+pub record Outside : Type 0 where
+  pub told : Option FileMap
+  pub faults : ℕ
+  pub said : Option (List ℕ)
+  pub say_faults : ℕ
+
+-- a call of the host: its words, the outside before and after it, and the journal of the answer
 pub record Call : Type 0 where
   pub words : List (List ℕ)
-  pub told_before : Option FileMap
-  pub told_after : Option FileMap
-  pub faults_before : ℕ
-  pub faults_after : ℕ
+  pub before : Outside
+  pub after : Outside
   pub journal : List Entry
 
--- the verdict on a call, over what the store gave: what is found in its files, where it tells them
-pub record IsVerdict (told : Option FileMap) (words : List (List ℕ)) (is : Result Job HostStatus) : Type 0 where
-  pub fetched : Command → Fetched
-  pub is_fetched : IfSome told (λ files. fetched ≡ found files)
-  pub verdict_is : verdict fetched words ≡ is
-
--- nothing was run, and the store is as before
+-- nothing was run, no file was written, and nothing was said
 pub record NothingDone (call : Call) : Type 0 where
-  pub files : call.told_after ≡ call.told_before
+  pub files : call.after.told ≡ call.before.told
+  pub said : call.after.said ≡ call.before.said
   pub journal : call.journal ≡ []
 
--- the call was refused with its verdict
-pub record Refuses (call : Call) (status : HostStatus) : Type 0 where
-  pub verdict : IsVerdict call.told_before call.words (Err status)
-  pub nothing : NothingDone call
-
--- the journal is a complete run of what the verdict says, of which each observer sees what the erased calculus gives; and it is by rounds
-pub record RunsJob (call : Call) (job : Job) (journal : List Entry) : Type 0 where
-  pub verdict : IsVerdict call.told_before call.words (Ok job)
-  pub last : Configuration
-  pub is_run : IsRunOf job (record { entries = journal; last = last })
-  pub by_rounds : IsByRounds (first_of job) (record { entries = journal; last = last })
-
--- BadWords: the words name no policy and script
-pub record SaysBadWords (call : Call) : Type 0 where
-  pub words : command_of call.words ≡ None
-  pub refused : Refuses call BadWords
-
--- Done: the script ran, and the channels' files are kept in the policy's order; so each channel's file holds exactly that channel's sends, and every file that is no
--- channel's is as before
-pub record SaysDone (call : Call) : Type 0 where
-  pub job : Job
-  pub ran : RunsJob call job call.journal
-  pub files : call.told_after ≡ kept call.told_before (outputs job.policy call.journal)
-  pub channels : (before now : FileMap) → call.told_before ≡ Some before → call.told_after ≡ Some now → HoldsEachChannel job.policy call.journal before now
-
--- Missing: the verdict; and where the store tells nothing, the count of faults rose
-pub record SaysMissing (call : Call) (name : List ℕ) : Type 0 where
-  pub refused : Refuses call (Missing name)
-  pub missing : IsMissing call.told_before name call.faults_before call.faults_after
-
--- ReadFault: the name is that of a file that the call was to read, and the count of faults rose
-pub record SaysReadFault (call : Call) (name : List ℕ) : Type 0 where
+-- the call was refused by the steps of its command, and nothing was done
+pub record Refused (call : Call) (status : HostStatus) : Type 0 where
   pub command : Command
   pub words : command_of call.words ≡ Some command
-  pub reads : ReadsFile call.told_before command name
-  pub rose : Rose call.faults_before call.faults_after
+  pub refuse : Refuse (cause_of status) (told_of command.source call.before.told) (prepared command) call.before.faults call.after.faults status
   pub nothing : NothingDone call
 
--- WriteFault: the script ran; the files before the named one are whole, that one is as before or holds a first part of its bytes, and all
--- others are as before; the count of faults rose
-pub record SaysWriteFault (call : Call) (name : List ℕ) : Type 0 where
-  pub job : Job
-  pub ran : RunsJob call job call.journal
-  pub stops : StopsAt call.told_before call.told_after (outputs job.policy call.journal) name
-  pub rose : Rose call.faults_before call.faults_after
+-- BadWords: the words give no command; or the observer's label is none over the policy's principals, and that is the verdict
+abbrev pub SaysBadWords : Call → Type 0
+SaysBadWords call = ((command_of call.words ≡ None) × NothingDone call) ⊎ Refused call BadWords
 
--- the script ran, and a first part of the files is whole, none or all of them included; all others are as before
-pub record WritesFirst (call : Call) : Type 0 where
-  pub job : Job
-  pub journal : List Entry
-  pub ran : RunsJob call job journal
-  pub files : KeepsFirst call.told_before call.told_after (outputs job.policy journal)
+-- how a run was made: in rounds
+abbrev pub RanAs : Order → Ran → Type 0
+RanAs order ran = IsByRounds (first_of order.job) ran
 
--- NoMemory: the words name a policy and a script, and no file was written, or a first part of the run's files was
+-- the journal is a complete run of what the verdict says, of which each observer sees what the erased calculus gives; and how it was made
+pub record RunsOrder (call : Call) (order : Order) (ran : Ran) : Type 0 where
+  pub verdict : IsVerdict call.before.told call.words (Ok order)
+  pub is_run : IsRunOf order.job ran
+  pub ran_as : RanAs order ran
+
+-- the summary of a run
+abbrev pub summary_of : Order → Ran → List ℕ
+summary_of order ran = summary_text order.job.policy ran.last ran.entries
+
+-- What is written and said of a run. Done: all files are whole, and the summary was said. WriteFault: the files before the named one are whole, that one is as before or holds a first part of its bytes, all
+-- others are as before, the count of faults rose, and nothing was said. SayFault: all files are whole, a first part of the summary was said, and the count of the output's faults rose. NoMemory: a first part of the
+-- files is whole, none or all of them included, all others are as before, and nothing was said.
+abbrev pub Finishes : Order → Ran → Outside → Outside → HostStatus → Type 0
+Finishes order ran before after Done = (after.told ≡ kept before.told (written order ran.entries)) × (after.said ≡ said_with before.said (summary_of order ran))
+Finishes order ran before after (WriteFault name) = StopsAt before.told after.told (written order ran.entries) name × Rose before.faults after.faults × (after.said ≡ before.said)
+Finishes order ran before after SayFault = (after.told ≡ kept before.told (written order ran.entries)) × SaidPartly before.said after.said (summary_of order ran) × Rose before.say_faults after.say_faults
+Finishes order ran before after NoMemory = KeepsFirst before.told after.told (written order ran.entries) × (after.said ≡ before.said)
+Finishes order ran before after other = ⊥
+
+-- a run was made, and its files and its summary were dealt with so
+pub record Ends (call : Call) (journal : List Entry) (status : HostStatus) : Type 0 where
+  pub order : Order
+  pub last : Configuration
+  pub ran : RunsOrder call order (record { entries = journal; last = last })
+  pub finishes : Finishes order (record { entries = journal; last = last }) call.before call.after status
+
+-- the journal that comes with an answer after a run: none where memory was wanting
+abbrev pub journal_with : HostStatus → List Entry → List Entry
+journal_with NoMemory journal = []
+journal_with other journal = journal
+
+-- Done: a run was made, its files are kept, and its summary was said; so each channel's file holds exactly that channel's sends, the history's file the journal, the view's file what its observer sees, and every
+-- other file is as before
+pub record SaysDone (call : Call) : Type 0 where
+  pub ends : Ends call call.journal Done
+  pub files : (before now : FileMap) → call.before.told ≡ Some before → call.after.told ≡ Some now
+      → HoldsEachFile ends.order.job.policy call.journal ends.order.command.history (view_file ends.order.command) (seen_by ends.order.observer call.journal) before now
+
+-- NoMemory: the words give a command, and nothing was done, or a run was made
 pub record SaysNoMemory (call : Call) : Type 0 where
   pub command : Command
   pub words : command_of call.words ≡ Some command
-  pub files : (call.told_after ≡ call.told_before) ⊎ WritesFirst call
+  pub done : NothingDone call ⊎ ((journal : List Entry) × Ends call journal NoMemory)
   pub journal : call.journal ≡ []
 
 -- what each answer says of the call that gave it
 abbrev pub Says : Call → HostStatus → Type 0
 Says call Done = SaysDone call
 Says call BadWords = SaysBadWords call
-Says call (Missing name) = SaysMissing call name
-Says call (ReadFault name) = SaysReadFault call name
-Says call (BadPolicy rule entry) = Refuses call (BadPolicy rule entry)
-Says call (BadScript line rule) = Refuses call (BadScript line rule)
-Says call (BadStart place cause) = Refuses call (BadStart place cause)
-Says call (WriteFault name) = SaysWriteFault call name
+Says call (Missing name) = Refused call (Missing name)
+Says call (ReadFault name) = Refused call (ReadFault name)
+Says call (BadPolicy rule entry) = Refused call (BadPolicy rule entry)
+Says call (BadScript line rule) = Refused call (BadScript line rule)
+Says call (BadStart place cause) = Refused call (BadStart place cause)
+Says call (WriteFault name) = Ends call call.journal (WriteFault name)
+Says call SayFault = Ends call call.journal SayFault
 Says call NoMemory = SaysNoMemory call
-Says call (Clash name) = Refuses call (Clash name)
+Says call (Clash name) = Refused call (Clash name)
 
 -- the answer of a call whose verdict is this
-abbrev pub answer_of : Result Job HostStatus → HostStatus
-answer_of (Ok job) = Done
+abbrev pub answer_of : Result Order HostStatus → HostStatus
+answer_of (Ok order) = Done
 answer_of (Err status) = status
 
--- an answer of a file that couldn't be read or written, for which the count of faults rose
+-- an answer of a file or an output that failed, for which its count of faults rose
 abbrev pub IsFault : Call → HostStatus → Type 0
-IsFault call (ReadFault name) = Rose call.faults_before call.faults_after
-IsFault call (WriteFault name) = Rose call.faults_before call.faults_after
+IsFault call (ReadFault name) = Rose call.before.faults call.after.faults
+IsFault call (WriteFault name) = Rose call.before.faults call.after.faults
+IsFault call SayFault = Rose call.before.say_faults call.after.say_faults
 IsFault call other = ⊥
 
--- a call over these files is answered by its verdict, unless memory is wanting, or a file can't be read or written
+-- a call over these files is answered by its verdict, unless memory is wanting, or a file or the output failed
 pub record Follows (call : Call) (status : HostStatus) (files : FileMap) : Type 0 where
-  pub answer : (status ≡ answer_of (verdict (found files) call.words)) ⊎ ((status ≡ NoMemory) ⊎ IsFault call status)
+  pub answer : (status ≡ answer_of (verdict files call.words)) ⊎ ((status ≡ NoMemory) ⊎ IsFault call status)
 
 -- a call ends the program with an exit status: that of an answer that says of the call, with some journal, what it is to say
 pub record EndsWith (call : List Entry → Call) (exit : ℕ) : Type 0 where

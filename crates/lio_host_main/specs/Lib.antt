@@ -1,6 +1,7 @@
-pub mod Command
+pub mod Workload
+pub mod Order
 pub mod Verdict
 pub mod Answers
-pub mod Preparing
 pub mod ExitStatus
 pub mod StatusOf
+pub mod Laws

@@ -50,6 +50,7 @@ impl fmt::Display for HostStatus {
                 let name = Shown(name);
                 write!(f, "WriteFault({name})")
             }
+            HostStatus::SayFault => f.write_str("SayFault"),
             HostStatus::NoMemory => f.write_str("NoMemory"),
             HostStatus::Clash(name) => {
                 let name = Shown(name);

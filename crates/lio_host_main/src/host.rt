@@ -1,16 +1,17 @@
-//! The top call: words, policy, script, inputs, run, files.
+//! The top call: words, policy, script, inputs, run, files, summary.
 
-ghost use Rattle.std.specs.Prelude.{◌≡◌, ◌↔◌, ◌≤◌, [], None, IfSome};
-ghost use Rattle.lio_host_main.specs.Command.{command_of, bytes_of_words};
-ghost use Rattle.lio_host_main.specs.Answers.{Says, Follows};
+ghost use Rattle.std.specs.Prelude.{◌≡◌, ◌≤◌, [], None, IfSome};
+ghost use Rattle.lio_host_words.specs.Command.{command_of};
+ghost use Rattle.lio_host_words.specs.Sorted.{bytes_of_words};
+ghost use Rattle.lio_host_main.specs.Answers.{Says, Follows, journal_with};
 
-use crate::command::read_command;
-use crate::job::prepare;
+use crate::finish::finish_run;
+use crate::prepare::prepare_order;
 use crate::status::HostStatus;
 use lio_clauses::NoMemory;
 use lio_events::Journal;
-use lio_front::{OutFault, write_out};
-use lio_outside::Store;
+use lio_host_words::read_command;
+use lio_outside::{Say, Store};
 use lio_rounds::{Ran, run};
 use std::alloc::Global;
 
@@ -21,7 +22,7 @@ pub struct Outcome {
     pub journal: Journal,
 }
 
-/// The outcome of a call that ran nothing.
+/// The outcome of a call that gives no journal.
 fn refused(alloc: Global, status: HostStatus) -> Outcome
     ensures status { result.status ≡ status }
     ensures journal { result.journal ≡ [] }
@@ -32,73 +33,112 @@ fn refused(alloc: Global, status: HostStatus) -> Outcome
     }
 }
 
+/// The outcome of a run whose files weren't all written, or whose summary wasn't said.
+fn unfinished(alloc: Global, status: HostStatus, journal: Journal) -> Outcome
+    ensures status { result.status ≡ status }
+    ensures journal { result.journal ≡ journal_with status journal }
+{
+    match status {
+        HostStatus::NoMemory => {
+            drop(journal);
+            refused(alloc, HostStatus::NoMemory)
+        }
+        status => Outcome { status, journal },
+    }
+}
+
 /// What `host_main` answers.
-fn answer<S: Store>(alloc: Global, words: &[String], store: &mut S) -> Outcome
+fn answer<S: Store, W: Say>(alloc: Global, words: &[String], store: &mut S, say: &mut W) -> Outcome
     ensures count { S.faults store.old ≤ S.faults store.new }
+    ensures say_count { W.faults say.old ≤ W.faults say.new }
     ensures says { Says (record {
       words = bytes_of_words words.now;
-      told_before = S.holds store.old;
-      told_after = S.holds store.new;
-      faults_before = S.faults store.old;
-      faults_after = S.faults store.new;
+      before = record {
+        told = S.holds store.old;
+        faults = S.faults store.old;
+        said = W.said say.old;
+        say_faults = W.faults say.old;
+      };
+      after = record {
+        told = S.holds store.new;
+        faults = S.faults store.new;
+        said = W.said say.new;
+        say_faults = W.faults say.new;
+      };
       journal = result.journal;
     }) result.status }
 {
     let Some(command) = read_command(words) else {
         return refused(alloc, HostStatus::BadWords);
     };
-    let job = match prepare(alloc, store, command) {
-        Ok(job) => job,
+    let order = match prepare_order(alloc, store, command) {
+        Ok(order) => order,
         Err(status) => return refused(alloc, status),
     };
-    let Ran { journal, config } = match run(alloc, &job) {
+    let ran = match run(alloc, &order.job) {
         Ok(ran) => ran,
         Err(NoMemory) => {
-            drop(job);
+            drop(order);
             return refused(alloc, HostStatus::NoMemory);
         }
     };
+    let finished = finish_run(alloc, store, say, &order, &ran);
+    drop(order);
+    let Ran { journal, config } = ran;
     drop(config);
-    let written = write_out(alloc, store, job.policy(), &journal);
-    drop(job);
-    match written {
+    match finished {
         Ok(()) => Outcome {
             status: HostStatus::Done,
             journal,
         },
-        Err(OutFault::WriteFault(name)) => Outcome {
-            status: HostStatus::WriteFault(name),
-            journal,
-        },
-        Err(OutFault::NoMemory) => {
-            drop(journal);
-            refused(alloc, HostStatus::NoMemory)
-        }
+        Err(status) => unfinished(alloc, status, journal),
     }
 }
 
-/// Runs the script that the words name under the policy that they name, and writes the channels'
-/// files.
-pub fn host_main<S: Store>(alloc: Global, words: &[String], store: &mut S) -> Outcome
+/// Does what the words ask for: runs the script under the policy, writes the files, and says the
+/// summary.
+pub fn host_main<S: Store, W: Say>(
+    alloc: Global,
+    words: &[String],
+    store: &mut S,
+    say: &mut W,
+) -> Outcome
     ensures count { S.faults store.old ≤ S.faults store.new }
+    ensures say_count { W.faults say.old ≤ W.faults say.new }
     ensures says { Says (record {
       words = bytes_of_words words.now;
-      told_before = S.holds store.old;
-      told_after = S.holds store.new;
-      faults_before = S.faults store.old;
-      faults_after = S.faults store.new;
+      before = record {
+        told = S.holds store.old;
+        faults = S.faults store.old;
+        said = W.said say.old;
+        say_faults = W.faults say.old;
+      };
+      after = record {
+        told = S.holds store.new;
+        faults = S.faults store.new;
+        said = W.said say.new;
+        say_faults = W.faults say.new;
+      };
       journal = result.journal;
     }) result.status }
     ensures follows { IfSome (S.holds store.old) (Follows (record {
       words = bytes_of_words words.now;
-      told_before = S.holds store.old;
-      told_after = S.holds store.new;
-      faults_before = S.faults store.old;
-      faults_after = S.faults store.new;
+      before = record {
+        told = S.holds store.old;
+        faults = S.faults store.old;
+        said = W.said say.old;
+        say_faults = W.faults say.old;
+      };
+      after = record {
+        told = S.holds store.new;
+        faults = S.faults store.new;
+        said = W.said say.new;
+        say_faults = W.faults say.new;
+      };
       journal = result.journal;
     }) result.status) }
-    ensures bad_words { (result.status ≡ HostStatus.BadWords)
-        ↔ (command_of (bytes_of_words words.now) ≡ None) }
+    ensures bad_words { command_of (bytes_of_words words.now) ≡ None
+        → result.status ≡ HostStatus.BadWords }
 {
-    answer(alloc, words, store)
+    answer(alloc, words, store, say)
 }

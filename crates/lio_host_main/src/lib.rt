@@ -1,12 +1,19 @@
-//! The top call: the words, the policy, the script, the inputs, the run, and the channels' files.
+//! The top call: the words, the policy, the script, the inputs, the run, the files, and the
+//! summary.
 #![tactic(auto)]
 
-mod command;
 mod display;
+mod finish;
 mod host;
-mod job;
+pub mod laws;
+mod order;
+mod prepare;
 mod status;
+mod workload_files;
 
 pub use display::Shown;
+pub use finish::finish_run;
 pub use host::{Outcome, host_main};
+pub use order::Order;
+pub use prepare::prepare_order;
 pub use status::HostStatus;

@@ -3,16 +3,17 @@
 ghost use Rattle.std.specs.Prelude.{◌≡◌};
 
 use lio_clauses::NoMemory;
-use lio_front::FrontFault;
+use lio_front::{FrontFault, OutFault};
+use lio_outside::SayFault;
 use lio_start::StartFault;
 use lio_values::Text;
 
 /// How a call of the host ended.
 #[derive(Debug, PartialEq, Drop)]
 pub enum HostStatus {
-    /// The script ran, and the channels' files are written.
+    /// The script ran, the files are written, and the summary was said.
     Done,
-    /// The words name no policy and script.
+    /// The words give no command, or the observer's label is none over the policy's principals.
     BadWords,
     /// No file has this name.
     Missing(Text),
@@ -28,6 +29,8 @@ pub enum HostStatus {
     BadStart(u32, StartFault),
     /// The file with this name couldn't be written.
     WriteFault(Text),
+    /// The files are written, and the summary couldn't be said.
+    SayFault,
     /// No memory was left.
     NoMemory,
     /// The first file to be written whose name is that of a file that is read, or of one that is
@@ -54,10 +57,37 @@ impl From<FrontFault> for HostStatus {
         match fault {
             FrontFault::Missing(name) => HostStatus::Missing(name),
             FrontFault::ReadFault(name) => HostStatus::ReadFault(name),
+            FrontFault::BadLabel => HostStatus::BadWords,
             FrontFault::BadPolicy(rule, entry) => HostStatus::BadPolicy(rule, entry),
             FrontFault::BadScript(line, rule) => HostStatus::BadScript(line, rule),
             FrontFault::BadStart(place, cause) => HostStatus::BadStart(place, cause),
             FrontFault::NoMemory => HostStatus::NoMemory,
+        }
+    }
+}
+
+impl From<OutFault> for HostStatus {
+    ghost use Rattle.lio_host_main.specs.StatusOf.{status_of_out};
+
+    ghost from_gives = { λ fault status. status ≡ status_of_out fault };
+
+    fn from(fault: OutFault) -> HostStatus {
+        match fault {
+            OutFault::WriteFault(name) => HostStatus::WriteFault(name),
+            OutFault::NoMemory => HostStatus::NoMemory,
+        }
+    }
+}
+
+impl From<SayFault> for HostStatus {
+    ghost use Rattle.lio_host_main.specs.StatusOf.{status_of_say};
+
+    ghost from_gives = { λ fault status. status ≡ status_of_say fault };
+
+    fn from(fault: SayFault) -> HostStatus {
+        match fault {
+            SayFault::Failed => HostStatus::SayFault,
+            SayFault::NoMemory => HostStatus::NoMemory,
         }
     }
 }
@@ -79,6 +109,7 @@ impl HostStatus {
             HostStatus::BadScript(_, _) => 5,
             HostStatus::BadStart(_, _) => 6,
             HostStatus::WriteFault(_) => 7,
+            HostStatus::SayFault => 8,
             HostStatus::NoMemory => 9,
             HostStatus::Clash(_) => 11,
         }

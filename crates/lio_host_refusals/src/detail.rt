@@ -2,13 +2,15 @@
 
 ghost use Rattle.std.specs.Prelude.{◌≡◌, ◌≤◌};
 
+use crate::words::{FileNames, file_names};
 use lio_clauses::NoMemory;
 use lio_front::{MOST_POLICY_BYTES, MOST_SCRIPT_BYTES};
+use lio_hints::{Mistake, PolicyMistake, policy_mistake, script_mistake};
 use lio_host_main::HostStatus;
 use lio_outside::Store;
 use lio_policy::{Policy, read_policy};
 use lio_policy_draft::{EntryAt, PolicyFault, entry_at};
-use lio_syntax::{Hint, hint_at, line_at, parameter_count};
+use lio_syntax::{line_at, parameter_count};
 use lio_values::Text;
 use std::alloc::Global;
 use std::fs;
@@ -20,21 +22,19 @@ pub enum Detail {
     /// Nothing beyond the answer.
     Nothing,
     /// The entry of the policy that breaks a rule.
-    Entry(EntryAt),
+    Entry(WrongEntry),
     /// The task that can't begin.
     Task(TaskAt),
     /// The line of the script that breaks a rule.
     Line(LineAt),
 }
 
-impl Detail {
-    /// The entry, if it is one.
-    pub fn entry(&self) -> Option<&EntryAt> {
-        match self {
-            Detail::Entry(entry) => Some(entry),
-            _ => None,
-        }
-    }
+/// An entry of a policy that breaks a rule, where there is one with its number, and what is wrong
+/// with it.
+#[derive(Drop)]
+pub struct WrongEntry {
+    pub entry: Option<EntryAt>,
+    pub mistake: Option<PolicyMistake>,
 }
 
 /// A task that can't begin: its name, its procedure, how many arguments it gives, and how many
@@ -47,22 +47,50 @@ pub struct TaskAt {
     pub wanted: Option<usize>,
 }
 
-/// A line of a script that breaks a rule: its text, and a hint.
+/// A line of a script that breaks a rule: its text, and what is wrong with it.
 #[derive(Drop)]
 pub struct LineAt {
     pub text: Text,
-    pub hint: Hint,
+    pub mistake: Option<Mistake>,
 }
 
-/// A line of a script that breaks a rule.
-fn line_detail(alloc: Global, script: &[u8], number: u32, rule: u32) -> Result<Detail, NoMemory> {
-    if number == 0 {
-        return Ok(Detail::Nothing);
+/// An entry of a policy that breaks a rule.
+fn entry_detail(alloc: Global, policy: &[u8], rule: u32, number: u32) -> Result<Detail, NoMemory> {
+    let mistake = policy_mistake(alloc, policy, rule, number)?;
+    let entry = entry_at(alloc, policy, number)?;
+    Ok(Detail::Entry(WrongEntry { entry, mistake }))
+}
+
+/// A line of a script that breaks a rule, under a policy.
+fn line_at_fault(
+    alloc: Global,
+    policy: &Policy,
+    script: &[u8],
+    number: u32,
+    rule: u32,
+) -> Result<Detail, NoMemory> {
+    let mistake = script_mistake(alloc, &policy.names, script, number, rule)?;
+    let text = Text::of(alloc, line_at(script, number))?;
+    Ok(Detail::Line(LineAt { text, mistake }))
+}
+
+/// A line of a script that breaks a rule, under the policy that a text is.
+fn line_detail(
+    alloc: Global,
+    policy: &[u8],
+    script: &[u8],
+    number: u32,
+    rule: u32,
+) -> Result<Detail, NoMemory> {
+    match read_policy(alloc, policy) {
+        Ok(policy) => {
+            let detail = line_at_fault(alloc, &policy, script, number, rule);
+            drop(policy);
+            detail
+        }
+        Err(PolicyFault::Bad { .. }) => Ok(Detail::Nothing),
+        Err(PolicyFault::NoMemory) => Err(NoMemory),
     }
-    Ok(Detail::Line(LineAt {
-        text: Text::of(alloc, line_at(script, number))?,
-        hint: hint_at(alloc, script, number, rule)?,
-    }))
 }
 
 /// A task of a policy that can't begin in a script.
@@ -104,32 +132,26 @@ pub fn detail_of(
     script: &[u8],
 ) -> Result<Detail, NoMemory> {
     match status {
-        HostStatus::BadPolicy(_, entry) => match entry_at(alloc, policy, *entry)? {
-            Some(entry) => Ok(Detail::Entry(entry)),
-            None => Ok(Detail::Nothing),
-        },
-        HostStatus::BadScript(line, rule) => line_detail(alloc, script, *line, *rule),
+        HostStatus::BadPolicy(rule, entry) => entry_detail(alloc, policy, *rule, *entry),
+        HostStatus::BadScript(line, rule) => line_detail(alloc, policy, script, *line, *rule),
         HostStatus::BadStart(place, _) => task_detail(alloc, policy, script, *place),
         _ => Ok(Detail::Nothing),
     }
 }
 
-/// The text of the file that a word names, where it is a plain file, which can be read once more;
+/// The text of the file with a name, where it is a plain file, which can be read once more;
 /// else no bytes. The files stay as they are.
 fn text_again<S: Store>(
     alloc: Global,
     files: &impl Files,
     store: &mut S,
-    word: Option<&String>,
+    name: &str,
     limit: u32,
 ) -> Vec<u8>
     ensures files { S.holds store.new ≡ S.holds store.old }
     ensures count { S.faults store.old ≤ S.faults store.new }
 {
-    let Some(name) = word else {
-        return Vec::new(alloc);
-    };
-    match fs::metadata(files, name.as_str()) {
+    match fs::metadata(files, name) {
         Ok(about) if about.is_file() => store
             .fetch(alloc, name.as_bytes(), limit)
             .unwrap_or(Vec::new(alloc)),
@@ -153,7 +175,8 @@ pub fn refusal_detail<S: Store>(
         HostStatus::BadPolicy(_, _) | HostStatus::BadScript(_, _) | HostStatus::BadStart(_, _) => {}
         _ => return Detail::Nothing,
     }
-    let policy = text_again(alloc, files, store, words.first(), MOST_POLICY_BYTES);
-    let script = text_again(alloc, files, store, words.get(1), MOST_SCRIPT_BYTES);
+    let FileNames { policy, script } = file_names(words);
+    let policy = text_again(alloc, files, store, policy, MOST_POLICY_BYTES);
+    let script = text_again(alloc, files, store, script, MOST_SCRIPT_BYTES);
     detail_of(alloc, status, policy.as_slice(), script.as_slice()).unwrap_or(Detail::Nothing)
 }

@@ -4,6 +4,7 @@
 
 mod detail;
 mod refusal;
+mod words;
 
-pub use detail::{Detail, LineAt, TaskAt, detail_of, refusal_detail};
+pub use detail::{Detail, LineAt, TaskAt, WrongEntry, detail_of, refusal_detail};
 pub use refusal::{print_refusal, refusal_text};

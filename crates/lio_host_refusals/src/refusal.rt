@@ -1,26 +1,15 @@
 //! What is printed of a refusal: the answer as its type writes it, what was refused and where, and
 //! how to mend it.
 
-use crate::detail::Detail;
+use crate::detail::{Detail, LineAt};
+use crate::words::{FileNames, USAGE, file_names, words_text};
+use lio_hints::{Bytes, Mistake};
 use lio_host_main::{HostStatus, Shown};
 use lio_policy_draft::{EntryAt, EntryKind};
-use lio_syntax::Hint;
 use lio_values::Text;
 use std::alloc::{AllocError, Global};
 use std::fmt::Write;
-use std::{fmt, io, str};
-
-/// What the words are to be.
-const USAGE: &str =
-    "usage: lio_host POLICY SCRIPT\n  POLICY and SCRIPT are the names of two files; a name isn't empty and doesn't begin with `-`";
-
-/// The word at a place, where there is one.
-fn word(words: &[String], place: usize) -> &str {
-    match words.get(place) {
-        Some(word) => word.as_str(),
-        None => "",
-    }
-}
+use std::{fmt, io};
 
 /// An entry of a policy as it is shown: what it is, its place in its list and its name, or else its
 /// number.
@@ -103,10 +92,10 @@ fn script_rule_text(rule: u32) -> &'static str {
 }
 
 /// As what a file is read.
-fn read_as(name: &Text, words: &[String]) -> &'static str {
-    if name.bytes() == word(words, 0).as_bytes() {
+fn read_as(name: &Text, names: FileNames<'_>) -> &'static str {
+    if name.bytes() == names.policy.as_bytes() {
         "the policy's file"
-    } else if name.bytes() == word(words, 1).as_bytes() {
+    } else if name.bytes() == names.script.as_bytes() {
         "the script's file"
     } else {
         "an input's file"
@@ -114,52 +103,61 @@ fn read_as(name: &Text, words: &[String]) -> &'static str {
 }
 
 /// With what the name of a file that is written clashes.
-fn taken_by(name: &Text, words: &[String]) -> &'static str {
-    if name.bytes() == word(words, 0).as_bytes() {
+fn taken_by(name: &Text, names: FileNames<'_>) -> &'static str {
+    if name.bytes() == names.policy.as_bytes() {
         "it is the policy's own file"
-    } else if name.bytes() == word(words, 1).as_bytes() {
+    } else if name.bytes() == names.script.as_bytes() {
         "it is the script's file"
     } else {
         "it is an input's file, or written before"
     }
 }
 
-/// Bytes of a script as they are shown.
-fn shown_bytes(bytes: &[u8]) -> &str {
-    str::from_utf8(bytes).unwrap_or("..")
+/// How many columns stand before a place of a line, as the line is shown.
+fn columns_before(alloc: Global, line: &LineAt, place: usize) -> Result<usize, AllocError> {
+    let bytes = line.text.bytes();
+    let before = Bytes(bytes.get(..place).unwrap_or(bytes));
+    let shown = format!(in alloc; "{before}")?;
+    Ok(shown.as_str().len())
 }
 
-/// A hint as it is shown behind what the rule asks.
-#[derive(Clone, Copy)]
-struct ShownHint<'a> {
-    hint: &'a Hint,
-}
-
-impl fmt::Display for ShownHint<'_> {
-    fn fmt<W: fmt::Write>(&self, f: &mut fmt::Formatter<W>) -> fmt::Result {
-        match self.hint {
-            Hint::Nothing => Ok(()),
-            Hint::NothingOpen => f.write_str("; no block and no procedure is open here"),
-            Hint::Open(open) => {
-                let line = open.line as u128 + 1;
-                let word = shown_bytes(open.word.word());
-                write!(
-                    f,
-                    "; the innermost that is open here is the `{word}` of line {line}"
-                )
-            }
-            Hint::NoProcedure(name) => {
-                let name = shown_bytes(name.bytes());
-                write!(f, "; no line begins with `proc {name}`")
-            }
-            Hint::Takes(takes) => {
-                let name = shown_bytes(takes.name.bytes());
-                let wanted = takes.wanted;
-                let given = takes.given;
-                write!(f, "; parameters of `{name}`: {wanted}, arguments: {given}")
-            }
-        }
+/// A line of a script, and a sign under the place of a mistake in it.
+fn marked(
+    alloc: Global,
+    line: &LineAt,
+    number: u32,
+    mistake: &Mistake,
+) -> Result<String, AllocError> {
+    let shown = Bytes(line.text.bytes());
+    let head = format!(in alloc; "\n  {number} | ")?;
+    let columns = columns_before(alloc, line, mistake.place)?;
+    let mut text = format!(in alloc; "{head}{shown}\n")?;
+    for _column in 1..head.as_str().len() {
+        text.push_str(" ")?;
     }
+    for _column in 0..columns {
+        text.push_str(" ")?;
+    }
+    text.push_str("^")?;
+    Ok(text)
+}
+
+/// What is printed of a line with a mistake.
+fn mistake_text(
+    alloc: Global,
+    status: &HostStatus,
+    script: &str,
+    number: u32,
+    line: &LineAt,
+    mistake: &Mistake,
+) -> Result<String, AllocError> {
+    let told = mistake.text.as_str();
+    if number == 0 {
+        return format!(in alloc; "lio_host: {status}: {script}: {told}");
+    }
+    let column = mistake.place as u128 + 1;
+    let marked = marked(alloc, line, number, mistake)?;
+    format!(in alloc; "lio_host: {status}: {script}:{number}:{column}: {told}{marked}")
 }
 
 /// What is printed of a script that breaks a rule.
@@ -171,16 +169,47 @@ fn script_text(
     rule: u32,
     detail: &Detail,
 ) -> Result<String, AllocError> {
-    let asked = script_rule_text(rule);
-    match detail {
-        Detail::Line(found) => {
-            let hint = ShownHint { hint: &found.hint };
-            let shown = Shown(&found.text);
-            format!(in alloc;
-                "lio_host: {status}: {script}:{line}: {asked}{hint}\n  {line} | {shown}"
-            )
+    if let Detail::Line(found) = detail {
+        if let Some(mistake) = &found.mistake {
+            return mistake_text(alloc, status, script, line, found, mistake);
         }
-        _ => format!(in alloc; "lio_host: {status}: {script}:{line}: {asked}"),
+        let asked = script_rule_text(rule);
+        let shown = Bytes(found.text.bytes());
+        return format!(in alloc;
+            "lio_host: {status}: {script}:{line}: {asked}\n  {line} | {shown}"
+        );
+    }
+    let asked = script_rule_text(rule);
+    format!(in alloc; "lio_host: {status}: {script}:{line}: {asked}")
+}
+
+/// What is printed of a policy that breaks a rule.
+fn policy_text(
+    alloc: Global,
+    status: &HostStatus,
+    policy: &str,
+    number: u32,
+    rule: u32,
+    detail: &Detail,
+) -> Result<String, AllocError> {
+    let Detail::Entry(found) = detail else {
+        let asked = rule_text(rule);
+        return format!(in alloc; "lio_host: {status}: {policy}: {asked}");
+    };
+    let entry = ShownEntry {
+        number,
+        found: found.entry.as_ref(),
+    };
+    let Some(mistake) = &found.mistake else {
+        let asked = rule_text(rule);
+        return format!(in alloc; "lio_host: {status}: {policy}: {entry}: {asked}");
+    };
+    let told = mistake.text.as_str();
+    match mistake.position {
+        Some((line, column)) => {
+            format!(in alloc; "lio_host: {status}: {policy}:{line}:{column}: {told}")
+        }
+        None => format!(in alloc; "lio_host: {status}: {policy}: {entry}: {told}"),
     }
 }
 
@@ -218,50 +247,49 @@ pub fn refusal_text(
     words: &[String],
     detail: &Detail,
 ) -> Result<String, AllocError> {
-    let policy = word(words, 0);
-    let script = word(words, 1);
+    let names = file_names(words);
+    let FileNames { policy, script } = names;
     match status {
         HostStatus::Done => Ok(String::new(alloc)),
         HostStatus::BadWords => {
-            format!(in alloc; "lio_host: {status}: the words aren't two names\n{USAGE}")
+            let text = words_text(alloc, words)?;
+            format!(in alloc; "lio_host: {status}: {text}\n{USAGE}")
         }
         HostStatus::Missing(name) => {
-            let read = read_as(name, words);
+            let read = read_as(name, names);
             format!(in alloc;
                 "lio_host: {status}: {read} isn't there; names are looked up from the folder in which the command is given\n{USAGE}"
             )
         }
         HostStatus::ReadFault(name) => {
-            let read = read_as(name, words);
+            let read = read_as(name, names);
             format!(in alloc;
                 "lio_host: {status}: {read} couldn't be read; see that it is a file, and that it may be read"
             )
         }
         HostStatus::BadPolicy(rule, entry) => {
-            let asked = rule_text(*rule);
-            let entry = ShownEntry {
-                number: *entry,
-                found: detail.entry(),
-            };
-            format!(in alloc; "lio_host: {status}: {policy}: {entry}: {asked}")
+            policy_text(alloc, status, policy, *entry, *rule, detail)
         }
         HostStatus::BadScript(line, rule) => {
             script_text(alloc, status, script, *line, *rule, detail)
         }
         HostStatus::BadStart(_, _) => start_text(alloc, status, policy, script, detail),
         HostStatus::WriteFault(_) => format!(in alloc;
-            "lio_host: {status}: a channel's file couldn't be written; see that it and its folder may be written, and that there is room"
+            "lio_host: {status}: the file couldn't be written; see that it and its folder may be written, and that there is room"
+        ),
+        HostStatus::SayFault => format!(in alloc;
+            "lio_host: {status}: the files are written, and the summary couldn't be written to standard output"
         ),
         HostStatus::NoMemory => {
             format!(in alloc;
-                "lio_host: {status}: no memory was left; a first part of the channels' files may be written; give the process more memory, or the policy's tasks fewer turns"
+                "lio_host: {status}: no memory was left; a first part of the files may be written; give the process more memory, or the policy's tasks fewer turns"
             )
         }
         HostStatus::Clash(name) => {
-            let by = taken_by(name, words);
+            let by = taken_by(name, names);
             let name = Shown(name);
             format!(in alloc;
-                "lio_host: {status}: {policy}: the file {name} is to be written, but {by}; give the channel another file"
+                "lio_host: {status}: {policy}: the file {name} is to be written, but {by}; give the channel or the option another file"
             )
         }
     }

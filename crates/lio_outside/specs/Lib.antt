@@ -2,5 +2,11 @@ pub mod FileMap
 pub mod Count
 pub mod Fetch
 pub mod Keep
+pub mod Steps
+pub mod Asking
+pub mod Outputs
+pub mod Taken
+pub mod Said
+pub mod CallsByList
 pub mod MemState
 pub mod Entries

@@ -1,34 +1,27 @@
--- A store in memory whose calls fail by a list of their numbers.
-use Rattle.std.specs.Prelude.{ℕ, Bool, List, ◌==◌}
-use Rattle.std.specs.List.{list_any}
+-- A store and an output in memory whose calls fail by a list of their numbers.
+use Rattle.std.specs.Prelude.{ℕ, List, [], ◌++◌}
 use Rattle.std.specs.Coded.{Coded, code_by, coded×, coded_list, coded_ℕ}
 use Rattle.std.specs.FinMap as map
 use Rattle.std.proofs.Common.{refl}
 use Rattle.lio_outside.specs.FileMap.{FileMap, no_files, with_file}
-use Rattle.lio_outside.specs.Count.{counted}
+use Rattle.lio_outside.specs.CallsByList.{CallsByList, calls_code, no_calls, with_call, with_failure}
 
--- its files, the numbers of the calls that are to fail, how many calls were answered, and how many faults were counted
+-- a store: its files and its calls
 pub record MemState : Type 0 where
   pub files : FileMap
-  pub failing : List ℕ
-  pub calls : ℕ
-  pub faults : ℕ
+  pub calls : CallsByList
 
 abbrev pub mem_state_code : Coded MemState
 mem_state_code =
-    code_by (FileMap × (List ℕ × (ℕ × ℕ)))
-    (coded× (map.code (coded_list coded_ℕ) (coded_list coded_ℕ)) (coded× (coded_list coded_ℕ) (coded× coded_ℕ coded_ℕ)))
-    (λ s. (s.files, (s.failing, (s.calls, s.faults))))
-    (λ p. record { files = p.0; failing = p.1.0; calls = p.1.1.0; faults = p.1.1.1 })
+    code_by (FileMap × CallsByList)
+    (coded× (map.code (coded_list coded_ℕ) (coded_list coded_ℕ)) calls_code)
+    (λ s. (s.files, s.calls))
+    (λ p. record { files = p.0; calls = p.1 })
     (λ _. refl)
 
 -- a store without files, of which no call was answered
 abbrev pub fresh : List ℕ → MemState
-fresh failing = record { files = no_files; failing = failing; calls = 0; faults = 0 }
-
--- whether the next call is one of those that are to fail
-abbrev pub fails_next : MemState → Bool
-fails_next s = list_any (λ call. call == s.calls) s.failing
+fresh failing = record { files = no_files; calls = no_calls failing }
 
 -- the store with one more file
 abbrev pub with_mem_file : MemState → List ℕ → List ℕ → MemState
@@ -36,8 +29,33 @@ with_mem_file s name bytes = record s { files = with_file s.files name bytes }
 
 -- the store after a call that it carried out
 abbrev pub after_call : MemState → MemState
-after_call s = record s { calls = counted s.calls }
+after_call s = record s { calls = with_call s.calls }
 
 -- the store after a call that failed: its files are as they were
 abbrev pub after_failure : MemState → MemState
-after_failure s = record s { calls = counted s.calls; faults = counted s.faults }
+after_failure s = record s { calls = with_failure s.calls }
+
+-- an output: what was said, and its calls
+pub record MemSaid : Type 0 where
+  pub said : List ℕ
+  pub calls : CallsByList
+
+abbrev pub mem_said_code : Coded MemSaid
+mem_said_code =
+    code_by (List ℕ × CallsByList)
+    (coded× (coded_list coded_ℕ) calls_code)
+    (λ s. (s.said, s.calls))
+    (λ p. record { said = p.0; calls = p.1 })
+    (λ _. refl)
+
+-- an output to which nothing was said, of which no call was answered
+abbrev pub silent : List ℕ → MemSaid
+silent failing = record { said = []; calls = no_calls failing }
+
+-- the output after a call that it carried out
+abbrev pub after_saying : MemSaid → List ℕ → MemSaid
+after_saying s bytes = record { said = s.said ++ bytes; calls = with_call s.calls }
+
+-- the output after a call that failed: nothing more was said
+abbrev pub after_silence : MemSaid → MemSaid
+after_silence s = record s { calls = with_failure s.calls }

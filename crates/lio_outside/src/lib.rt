@@ -1,18 +1,29 @@
-//! The outside of the host: stores of named bytes, with a count of their faults.
+//! The outside of the host: stores of named bytes and outputs, with a count of their faults.
 #![tactic(auto)]
 
+mod calls;
 mod files;
 pub mod laws;
+mod mem_say;
 mod mem_store;
 mod pieces;
+mod real_say;
 mod real_store;
+mod say;
 mod store;
+mod sure_say;
 mod sure_store;
 
+pub use mem_say::MemSay;
 pub use mem_store::MemStore;
+pub use real_say::RealSay;
 pub use real_store::RealStore;
+pub use say::{Say, SayFault};
 pub use store::{FetchFault, KeepFault, Store};
+pub use sure_say::SureSay;
 pub use sure_store::SureStore;
 
+#[cfg(test)]
+mod say_tests;
 #[cfg(test)]
 mod tests;

@@ -4,9 +4,10 @@ ghost use Rattle.std.specs.Prelude.{IsOkUnless, IsTrue, vec_len};
 ghost use Rattle.std.specs.Option.{option_copied};
 ghost use Rattle.lio_outside.specs.FileMap.{bytes_of};
 ghost use Rattle.lio_outside.specs.Fetch.{given};
-ghost use Rattle.lio_outside.specs.MemState.{fresh, fails_next, with_mem_file, after_call};
-ghost use Rattle.lio_outside.specs.MemState.{after_failure};
+ghost use Rattle.lio_outside.specs.CallsByList.{fails_next};
+ghost use Rattle.lio_outside.specs.MemState.{fresh, with_mem_file, after_call, after_failure};
 
+use crate::calls::CallsByList;
 use crate::files::NamedFiles;
 use crate::store::{FetchFault, KeepFault, Store};
 use std::alloc::Global;
@@ -18,9 +19,7 @@ use std::marker::Model;
 #[derive(Debug, Drop)]
 pub struct MemStore {
     files: NamedFiles,
-    failing: Vec<u64>,
-    calls: u64,
-    faults: u64,
+    calls: CallsByList,
 }
 
 impl Model for MemStore {
@@ -30,8 +29,7 @@ impl Model for MemStore {
 
     ghost coded = { mem_state_code };
 
-    ghost view = { λ a.
-        record { files = a.files; failing = a.failing.items; calls = a.calls; faults = a.faults } };
+    ghost view = { λ a. record { files = a.files; calls = a.calls } };
 }
 
 impl MemStore {
@@ -41,9 +39,7 @@ impl MemStore {
     {
         MemStore {
             files: NamedFiles::new(alloc),
-            failing,
-            calls: 0,
-            faults: 0,
+            calls: CallsByList::new(failing),
         }
     }
 
@@ -65,46 +61,23 @@ impl MemStore {
 
     /// How many calls were answered. It stands still at the greatest number.
     pub fn call_count(&self) -> u64
-        ensures { result ≡ self.now.calls }
+        ensures { result ≡ self.now.calls.answered }
     {
-        self.calls
+        self.calls.answered()
     }
 
     /// How many faults were counted. It stands still at the greatest number.
     pub fn fault_count(&self) -> u64
-        ensures { result ≡ self.now.faults }
+        ensures { result ≡ self.now.calls.faults }
     {
-        self.faults
-    }
-
-    /// Whether the next call is to fail.
-    fn fails_next(&self) -> bool
-        ensures { result ≡ fails_next self.now }
-    {
-        self.failing.contains(&self.calls)
-    }
-
-    /// Counts a call that was carried out.
-    fn count_call(&mut self)
-        ensures { self.new ≡ after_call self.old }
-    {
-        self.calls = self.calls.saturating_add(1);
-    }
-
-    /// Counts a call that failed.
-    fn count_failure(&mut self)
-        ensures counted { self.new ≡ after_failure self.old }
-        ensures never_falls { self.old.faults ≤ self.new.faults }
-    {
-        self.count_call();
-        self.faults = self.faults.saturating_add(1);
+        self.calls.faults()
     }
 }
 
 impl Store for MemStore {
     ghost holds = { λ s. Some s.files };
 
-    ghost faults = { λ s. s.faults };
+    ghost faults = { λ s. s.calls.faults };
 
     fn fetch(&mut self, alloc: Global, name: &[u8], limit: u32) -> Result<Vec<u8>, FetchFault>
         // When each answer comes.
@@ -112,7 +85,7 @@ impl Store for MemStore {
         ensures ok_within_limit { IfOk result (λ v. vec_len v ≤ limit + 1) }
         ensures missing { IsErrOf result FetchFault.Missing
             → bytes_of self.old.files name.now ≡ None }
-        ensures failed { IsErrOf result FetchFault.Failed ↔ IsTrue (fails_next self.old) }
+        ensures failed { IsErrOf result FetchFault.Failed ↔ IsTrue (fails_next self.old.calls) }
 
         // The store after each answer.
         ensures after_ok { OnOk result (self.new ≡ after_call self.old) }
@@ -120,16 +93,16 @@ impl Store for MemStore {
         ensures after_failed { IsErrOf result FetchFault.Failed
             → self.new ≡ after_failure self.old }
         ensures after_no_memory { IsErrOf result FetchFault.NoMemory → self.new ≡ self.old }
-        ensures count_never_falls { self.old.faults ≤ self.new.faults }
+        ensures count_never_falls { self.old.calls.faults ≤ self.new.calls.faults }
     {
-        if self.fails_next() {
-            self.count_failure();
+        if self.calls.fails_next() {
+            self.calls.count_failure();
             return Err(FetchFault::Failed);
         }
         match self.files.fetch(alloc, name, limit) {
             Err(FetchFault::NoMemory) => Err(FetchFault::NoMemory),
             answer => {
-                self.count_call();
+                self.calls.count_call();
                 answer
             }
         }
@@ -137,21 +110,21 @@ impl Store for MemStore {
 
     fn keep(&mut self, alloc: Global, name: &[u8], bytes: &[u8]) -> Result<(), KeepFault>
         // When it fails.
-        ensures failed { IsErrOf result KeepFault.Failed ↔ IsTrue (fails_next self.old) }
+        ensures failed { IsErrOf result KeepFault.Failed ↔ IsTrue (fails_next self.old.calls) }
 
         // The store after each answer.
         ensures after_ok { OnOk result
             (self.new ≡ after_call (with_mem_file self.old name.now bytes.now)) }
         ensures after_failed { IsErrOf result KeepFault.Failed → self.new ≡ after_failure self.old }
         ensures after_no_memory { IsErrOf result KeepFault.NoMemory → self.new ≡ self.old }
-        ensures count_never_falls { self.old.faults ≤ self.new.faults }
+        ensures count_never_falls { self.old.calls.faults ≤ self.new.calls.faults }
     {
-        if self.fails_next() {
-            self.count_failure();
+        if self.calls.fails_next() {
+            self.calls.count_failure();
             return Err(KeepFault::Failed);
         }
         self.files.put(alloc, name, bytes)?;
-        self.count_call();
+        self.calls.count_call();
         Ok(())
     }
 }

@@ -44,7 +44,7 @@ fn copy_file<S: Store>(
 }
 
 /// Compares two values.
-fn check_same<T: PartialEq + Debug>(rt: &impl Abort, got: &T, want: &T) {
+pub(crate) fn check_same<T: PartialEq + Debug>(rt: &impl Abort, got: &T, want: &T) {
     assert_eq!(rt; *got, *want);
 }
 

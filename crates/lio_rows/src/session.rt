@@ -1,7 +1,7 @@
 //! What a command finds from those before it, and which command does what.
 
 use crate::refusal::{Answered, Refusal};
-use crate::{low, policies, runs, scripts, turns};
+use crate::{hints, low, policies, runs, scripts, turns};
 use lio_clauses::{Names, NoMemory};
 use lio_rows_commands::Answer;
 use lio_rows_fields::read_command;
@@ -45,6 +45,9 @@ impl Session {
 /// of fields are those of one.
 fn answer(alloc: Global, names: &Names, word: &str, fields: &[Vec<u8>]) -> Answered {
     if let Some(answer) = scripts::answer(alloc, names, word, fields) {
+        return Some(answer);
+    }
+    if let Some(answer) = hints::answer(alloc, names, word, fields) {
         return Some(answer);
     }
     if let Some(answer) = policies::answer(alloc, word, fields) {

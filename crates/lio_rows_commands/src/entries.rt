@@ -15,6 +15,7 @@ use std::alloc::Global;
 pub fn answer(alloc: Global, names: &Names, word: &str, fields: &[Vec<u8>]) -> Answered {
     let mut words = Words::new(fields);
     match word {
+        "entry" if fields.len() == 1 => Some(read(alloc, names, fields[0].as_slice())),
         "entry" => Some(finished(shown(&mut words, alloc, names), &words)),
         "erased" => Some(finished(erased(&mut words, alloc, names), &words)),
         "equal_entries" => Some(finished(equal(&mut words, alloc, names), &words)),
@@ -22,6 +23,14 @@ pub fn answer(alloc: Global, names: &Names, word: &str, fields: &[Vec<u8>]) -> A
         "bytes" => Some(finished(bytes(&mut words, alloc, names), &words)),
         _ => None,
     }
+}
+
+/// `entry LINE`: the line of the entry that is read of a line, with its ticket.
+fn read(alloc: Global, names: &Names, text: &[u8]) -> Result<Answer, Refusal> {
+    let entry = lio_events_reading::read_entry(alloc, text, names)?;
+    let answer = line(alloc, names, &entry, true);
+    drop(entry);
+    answer
 }
 
 /// `entry ENTRY`: the line of a copy of the entry, with its ticket.

@@ -1,6 +1,7 @@
 //! Why a command has no answer.
 
 use lio_clauses::{FormFault, NameFault, NoMemory, TextFault};
+use lio_events_reading::EntryFault;
 use lio_rows_fields::FieldFault;
 use std::alloc::{AllocError, AllocFailed};
 use std::fmt;
@@ -16,6 +17,8 @@ pub enum Refusal {
     Text(TextFault),
     /// A formula isn't made.
     Form(FormFault),
+    /// A line isn't that of an entry.
+    Entry(EntryFault),
     NoMemory,
 }
 
@@ -26,6 +29,7 @@ impl fmt::Display for Refusal {
             Refusal::Name(fault) => write!(f, "{fault:?}"),
             Refusal::Text(fault) => write!(f, "{fault:?}"),
             Refusal::Form(fault) => write!(f, "{fault:?}"),
+            Refusal::Entry(fault) => write!(f, "{fault:?}"),
             Refusal::NoMemory => f.write_str("NoMemory"),
         }
     }
@@ -46,6 +50,12 @@ impl From<TextFault> for Refusal {
 impl From<FormFault> for Refusal {
     fn from(fault: FormFault) -> Refusal {
         Refusal::Form(fault)
+    }
+}
+
+impl From<EntryFault> for Refusal {
+    fn from(fault: EntryFault) -> Refusal {
+        Refusal::Entry(fault)
     }
 }
 

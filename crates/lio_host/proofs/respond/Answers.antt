@@ -1,7 +1,7 @@
 use Rattle.std.proofs.Common.{List}
 use Rattle.lio_values.specs.declared.entry.Entry.{Entry}
+use Rattle.lio_host_words.specs.Sorted.{bytes_of_words}
 use Rattle.lio_host_main.specs.Answers.{Call}
-use Rattle.lio_host_main.specs.Command.{bytes_of_words}
 use Rattle.lio_host_main.proofs.Says.{says-at_last}
 use Rattle.lio_host.proofs.respond.Goals as goal
 
@@ -10,10 +10,18 @@ returns g c =
     let journal : List Entry = c.host_main-status.result.journal in
     let call : Call = record {
       words = bytes_of_words c.args.words.now;
-      told_before = g.S.Store.holds c.args.store.now;
-      told_after = g.S.Store.holds c.host_main-status.new.store;
-      faults_before = g.S.Store.faults c.args.store.now;
-      faults_after = g.S.Store.faults c.host_main-status.new.store;
+      before = record {
+        told = g.S.Store.holds c.args.store.now;
+        faults = g.S.Store.faults c.args.store.now;
+        said = g.W.Say.said c.args.say.now;
+        say_faults = g.W.Say.faults c.args.say.now;
+      };
+      after = record {
+        told = g.S.Store.holds c.host_main-status.new.store;
+        faults = g.S.Store.faults c.host_main-status.new.store;
+        said = g.W.Say.said c.host_main-status.new.say;
+        say_faults = g.W.Say.faults c.host_main-status.new.say;
+      };
       journal = journal;
     } in record {
       status = c.host_main-status.result.status;

@@ -1,5 +1,5 @@
 use Rattle.std.proofs.Common.{refl}
-use Rattle.lio_host_main.proofs.Says.{follows_verdict, bad_words}
+use Rattle.lio_host_main.proofs.Says.{bad_words, follows_verdict}
 use Rattle.lio_host_main.proofs.host.host_main.Goals as goal
 
 pub returns-clause-follows : goal.returns-clause-follows

@@ -1,0 +1,62 @@
+-- Lines are found.
+use Rattle.std.proofs.Common.{◌≡◌, ℕ, ◌^◌, ◌<◌, List, ◌++◌, drop, refl, ap, sym, ◌∙◌, append_assoc, codes, Option, true, false}
+use Rattle.std.specs.Prelude.{decimal}
+use Rattle.lio_labels.specs.declared.label.Label.{Label}
+use Rattle.lio_values.specs.declared.act.Act.{Act}
+use Rattle.lio_values.specs.declared.act.Reply.{Reply}
+use Rattle.lio_values.specs.declared.entry.Entry.{Entry}
+use Rattle.lio_values.specs.PlainText.{label_in_brackets}
+use Rattle.lio_events.specs.EntryText.{act_text, reply_text, target_text, line_text}
+use Rattle.lio_events.specs.JournalText.{entry_text}
+use Rattle.lio_events_reading.specs.Fits.{TargetFits}
+use Rattle.lio_events_reading.specs.Lines.{turn_text, IsTurnOver}
+use Rattle.lio_events_reading.specs.Over.{IsLabelOver, IsEntryOver}
+use Rattle.lio_events_reading.specs.Reading.{Finds}
+use Rattle.lio_events_reading.proofs.ActLemmas.{colon}
+
+regroup : (d s t l a c r n : List ℕ) → ((((((((d ++ s) ++ t) ++ s) ++ l) ++ s) ++ a) ++ c) ++ r) ++ n ≡ d ++ (s ++ (t ++ (s ++ (l ++ (s ++ (((a ++ c) ++ r) ++ n))))))
+regroup d s t l a c r n = simp append_assoc
+
+pub finds_line : (names : List (List ℕ)) (ticket : ℕ) (old : List ℕ) (actor : ℕ) (one two : List ℕ) (target : Option ℕ) (three four : List ℕ) (at : Label) (five six : List ℕ) (act : Act) (reply : Reply) (left : List ℕ)
+    → Finds decimal (λ n. n < 2 ^ 32) old actor one → two ≡ drop 1 one → Finds target_text TargetFits two target three → four ≡ drop 1 three → Finds (label_in_brackets names) (IsLabelOver names) four at five → six ≡ drop 1 five
+    → Finds (turn_text names) (IsTurnOver names) six (act, reply) left
+    → (entry : Entry) → IsEntryOver names entry → entry.ticket ≡ ticket → old ≡ line_text names entry → record { ticket = ticket; actor = actor; target = target; at = at; act = act; reply = reply } ≡ entry
+unfolding line_text
+finds_line names ticket old actor one two target three four at five six act reply left fa da ft dt fl dl fr entry o same is =
+    let blank : List ℕ = codes " " in
+    let end : List ℕ = codes "\n" in
+    let turn : List ℕ = ((act_text names entry.act ++ colon) ++ reply_text names entry.reply) ++ end in
+    let here : old ≡ decimal entry.actor ++ (blank ++ (target_text entry.target ++ (blank ++ (label_in_brackets names entry.at ++ (blank ++ turn))))) =
+    is ∙ regroup (decimal entry.actor) blank (target_text entry.target) (label_in_brackets names entry.at) (act_text names entry.act) colon (reply_text names entry.reply) end in
+    let ga = fa entry.actor _ o.fits.actor refl here in
+    let gt = ft entry.target _ o.fits.target refl (da ∙ ap (λ bytes. drop 1 bytes) ga.1) in
+    let gl = fl entry.at _ (o.printable.at, o.fits.at) refl (dt ∙ ap (λ bytes. drop 1 bytes) gt.1) in
+    let gr = fr (entry.act, entry.reply) end ((o.printable.act, o.printable.raise, o.fits.act), (o.printable.reply, o.fits.reply)) refl (dl ∙ ap (λ bytes. drop 1 bytes) gl.1) in
+    let make : ℕ → ℕ → Option ℕ → Label → Act × Reply → Entry = λ k a t l r. record { ticket = k; actor = a; target = t; at = l; act = r.0; reply = r.1 } in
+    ap (λ k. make k actor target at (act, reply)) (sym same) ∙ ap (λ a. make entry.ticket a target at (act, reply)) ga.0 ∙ ap (λ t. make entry.ticket entry.actor t at (act, reply)) gt.0
+    ∙ ap (λ l. make entry.ticket entry.actor entry.target l (act, reply)) gl.0 ∙ ap (λ r. make entry.ticket entry.actor entry.target entry.at r) gr.0
+
+-- with a ticket in front
+pub finds_ticket : (names : List (List ℕ)) (old : List ℕ) (ticket : ℕ) (mid next : List ℕ) → Finds decimal (λ n. n < 2 ^ 64) old ticket mid → next ≡ drop 1 mid
+    → (entry : Entry) → IsEntryOver names entry → old ≡ entry_text names true entry → (entry.ticket ≡ ticket) × (next ≡ line_text names entry)
+unfolding entry_text
+finds_ticket names old ticket mid next finds d entry o is =
+    let blank : List ℕ = codes " " in
+    let g = finds entry.ticket (blank ++ line_text names entry) o.fits.ticket refl (is ∙ append_assoc (decimal entry.ticket) blank (line_text names entry)) in
+    (sym g.0, d ∙ ap (λ bytes. drop 1 bytes) g.1)
+
+-- what was read of a line without its ticket is the entry whose text the line is
+abbrev pub GivesEntry : List (List ℕ) → ℕ → List ℕ → Entry → Type 0
+GivesEntry names ticket old found = (entry : Entry) → IsEntryOver names entry → entry.ticket ≡ ticket → old ≡ line_text names entry → found ≡ entry
+
+-- and with its ticket
+pub is_read : (names : List (List ℕ)) (line start : List ℕ) (ticket : ℕ) (mid next : List ℕ) (found : Entry) → start ≡ line → Finds decimal (λ n. n < 2 ^ 64) start ticket mid → next ≡ drop 1 mid → GivesEntry names ticket next found
+    → (entry : Entry) → IsEntryOver names entry → entry_text names true entry ≡ line → found ≡ entry
+is_read names line start ticket mid next found all finds d gives entry o is =
+    let g = finds_ticket names start ticket mid next finds d entry o (all ∙ sym is) in
+    gives entry o g.0 g.1
+
+pub is_seen : (names : List (List ℕ)) (line start : List ℕ) (ticket : ℕ) (found : Entry) → start ≡ line → GivesEntry names ticket start found
+    → (entry : Entry) → IsEntryOver names entry → entry.ticket ≡ ticket → entry_text names false entry ≡ line → found ≡ entry
+unfolding entry_text
+is_seen names line start ticket found all gives entry o same is = gives entry o same (all ∙ sym is)

@@ -1,0 +1,13 @@
+pub mod Behind
+pub mod Births
+pub mod Cut
+pub mod Fits
+pub mod Labels
+pub mod Lines
+pub mod Numbers
+pub mod Over
+pub mod Plains
+pub mod Reading
+pub mod Start
+pub mod Values
+pub mod Words

@@ -1,0 +1,120 @@
+//! Lines whole.
+ghost use Rattle.std.specs.Prelude.{◌≡◌, Bool, true, false, Ok, Err, IfOk, OnOk};
+ghost use Rattle.lio_values.specs.declared.entry.Entry.{Entry};
+ghost use Rattle.lio_events.specs.EntryText.{line_text};
+ghost use Rattle.lio_events.specs.JournalText.{entry_text};
+ghost use Rattle.lio_events.specs.Printable.{IsPrintable};
+ghost use Rattle.lio_events_reading.specs.Over.{IsEntryOver};
+ghost use Rattle.lio_events_reading.specs.Lines.{HasNone, HasNoneSeen, IsOnly, IsOnlySeen};
+ghost use Rattle.lio_events_reading.specs.Lines.{turn_text, IsTurnOver};
+ghost use Rattle.lio_events_reading.specs.Reading.{Finds};
+
+use crate::acts::act;
+use crate::cursor::Cursor;
+use crate::fault::EntryFault;
+use crate::labels::label;
+use crate::numbers::{long, number, target};
+use crate::replies::reply;
+use lio_clauses::{Names, NoMemory, beside};
+use lio_events::print_entry;
+use lio_values::{Act, Entry, Reply};
+use std::alloc::Global;
+
+/// Takes an act, and the reply to it.
+fn turn(text: &mut Cursor, alloc: Global, names: &Names) -> Result<(Act, Reply), NoMemory>
+    ensures finds { IfOk result (λ found. Finds (turn_text names.now)
+        (IsTurnOver names.now) text.old found text.new) }
+    ensures over { IfOk result (IsTurnOver names.now) }
+{
+    let act = act(text, alloc, names)?;
+    text.skip(3);
+    beside(act, reply(text, alloc, names))
+}
+
+/// Takes a line behind its ticket.
+fn line_behind(
+    text: &mut Cursor,
+    alloc: Global,
+    names: &Names,
+    ticket: u64,
+) -> Result<Entry, NoMemory>
+    ensures finds { IfOk result (λ found. (entry : Entry) → IsEntryOver names.now entry
+        → entry.ticket ≡ ticket → text.old ≡ line_text names.now entry → found ≡ entry) }
+    ensures over { IfOk result (IsEntryOver names.now) }
+    ensures ticket { IfOk result (λ found. found.ticket ≡ ticket) }
+{
+    let actor = number(text);
+    text.skip(1);
+    let target = target(text);
+    text.skip(1);
+    let at = label(text, alloc, names)?;
+    text.skip(1);
+    let (act, reply) = turn(text, alloc, names)?;
+    Ok(Entry {
+        ticket,
+        actor,
+        target,
+        at,
+        act,
+        reply,
+    })
+}
+
+/// The entry, if the line is its text.
+fn confirmed(
+    alloc: Global,
+    entry: Entry,
+    line: &[u8],
+    ticket: bool,
+    names: &Names,
+) -> Result<Entry, EntryFault>
+    requires { IsPrintable names.now entry }
+    ensures ok { IfOk result
+        (λ found. (found ≡ entry) × (entry_text names.now ticket entry ≡ line.now)) }
+    ensures none { result ≡ Err EntryFault.NotAnEntry
+        → ¬ (entry_text names.now ticket entry ≡ line.now) }
+{
+    let printed = print_entry(alloc, &entry, ticket, names);
+    let (entry, printed) = beside(entry, printed)?;
+    if printed.as_slice() == line {
+        Ok(entry)
+    } else {
+        drop(entry);
+        Err(EntryFault::NotAnEntry)
+    }
+}
+
+/// The entry over the names of principals whose text, with its ticket, is the line, with its line
+/// end. No other spelling is read.
+pub fn read_entry(alloc: Global, line: &[u8], names: &Names) -> Result<Entry, EntryFault>
+    ensures over { IfOk result (IsEntryOver names.now) }
+    ensures text { IfOk result (λ entry. entry_text names.now true entry ≡ line.now) }
+    ensures only { IfOk result (IsOnly names.now line.now) }
+    ensures none { result ≡ Err EntryFault.NotAnEntry → HasNone names.now line.now }
+{
+    let mut text = Cursor::new(line);
+    let ticket = long(&mut text);
+    text.skip(1);
+    let entry = line_behind(&mut text, alloc, names, ticket)?;
+    confirmed(alloc, entry, line, true, names)
+}
+
+/// The entry over the names of principals with this ticket whose text, without it, is the line of a
+/// view, with its line end. No other spelling is read.
+pub fn read_seen(
+    alloc: Global,
+    line: &[u8],
+    names: &Names,
+    ticket: u64,
+) -> Result<Entry, EntryFault>
+    ensures over { IfOk result (IsEntryOver names.now) }
+    ensures ticket { IfOk result (λ entry. entry.ticket ≡ ticket) }
+    ensures text { IfOk result (λ entry. entry_text names.now false entry ≡ line.now) }
+    ensures only { IfOk result (IsOnlySeen names.now ticket line.now) }
+    ensures none { result ≡ Err EntryFault.NotAnEntry
+        → HasNoneSeen names.now ticket line.now }
+{
+    let mut text = Cursor::new(line);
+    let entry = line_behind(&mut text, alloc, names, ticket)?;
+    confirmed(alloc, entry, line, false, names)
+}

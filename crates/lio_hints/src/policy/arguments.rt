@@ -1,0 +1,61 @@
+//! Arguments that name what isn't there.
+
+use crate::bytes::Bytes;
+use crate::policy::entry::{Entry, NamesOf, entry_of};
+use crate::policy::{Found, told};
+use lio_policy_draft::{ArgDraft, Draft, FileDraft};
+use lio_values::Text;
+use std::alloc::Global;
+
+/// Whether a name is one of a list's.
+fn is_among(files: &[FileDraft], name: &Text) -> bool {
+    files.iter().any(|file| file.name.bytes() == name.bytes())
+}
+
+/// What is wrong with the name of an input or a channel.
+fn no_such(
+    alloc: Global,
+    number: usize,
+    kind: &str,
+    name: &Text,
+    files: &[FileDraft],
+    others: &[FileDraft],
+    other: &str,
+) -> Found {
+    if is_among(files, name) {
+        return Ok(None);
+    }
+    let shown = Bytes(name.bytes());
+    if is_among(others, name) {
+        return told(format!(in alloc; "argument {number}: \"{shown}\" is {other}, and no {kind}"));
+    }
+    let names = NamesOf(files);
+    told(format!(in alloc;
+        "argument {number}: no {kind} has the name \"{shown}\"; there are: {names}"
+    ))
+}
+
+/// What is wrong with a task's arguments.
+pub(crate) fn argument_mistake(alloc: Global, draft: &Draft, entry: u32) -> Found {
+    let Entry::Task(_, task) = entry_of(draft, entry) else {
+        return Ok(None);
+    };
+    let inputs = draft.inputs.as_slice();
+    let channels = draft.channels.as_slice();
+    for (place, argument) in task.args.as_slice().iter().enumerate() {
+        let number = place.saturating_add(1);
+        let found = match argument {
+            ArgDraft::Input(name) => {
+                no_such(alloc, number, "input", name, inputs, channels, "a channel")?
+            }
+            ArgDraft::Channel(name) => {
+                no_such(alloc, number, "channel", name, channels, inputs, "an input")?
+            }
+            _ => None,
+        };
+        if found.is_some() {
+            return Ok(found);
+        }
+    }
+    Ok(None)
+}

@@ -1,0 +1,20 @@
+use Rattle.lio_host_words.specs.declared.name.Name.TheVariants.{History, View, Observer, Make}
+use Rattle.lio_host_words.specs.Sorted.{sorted_of}
+use Rattle.lio_host_words.proofs.WalkLemmas.{none-value}
+use Rattle.lio_host_words.proofs.sorted.Sorted.with_value.Goals as goal
+
+pub returns-in_err-only-in-History-clause-cases : goal.returns-in_err-only-in-History-clause-cases
+returns-in_err-only-in-History-clause-cases c =
+    rw (c.from_residual.ensures, c.in-History.is) (λ rest. none-value History (sorted_of c.args.self) c.args.word.now rest (c.in_err-only-in-History.ensures rest.histories))
+
+pub returns-in_err-only-in-View-clause-cases : goal.returns-in_err-only-in-View-clause-cases
+returns-in_err-only-in-View-clause-cases c =
+    rw (c.from_residual-in_err-only-in-View.ensures, c.in-View.is) (λ rest. none-value View (sorted_of c.args.self) c.args.word.now rest (c.in_err-only-in-View.ensures rest.views))
+
+pub returns-in_err-only-in-Observer-clause-cases : goal.returns-in_err-only-in-Observer-clause-cases
+returns-in_err-only-in-Observer-clause-cases c =
+    rw (c.from_residual-in_err-only-in-Observer.ensures, c.in-Observer.is) (λ rest. none-value Observer (sorted_of c.args.self) c.args.word.now rest (c.in_err-only-in-Observer.ensures rest.observers))
+
+pub returns-in_err-only-in-Make-clause-cases : goal.returns-in_err-only-in-Make-clause-cases
+returns-in_err-only-in-Make-clause-cases c =
+    rw (c.from_residual-in_err-only-in-Make.ensures, c.in-Make.is) (λ rest. none-value Make (sorted_of c.args.self) c.args.word.now rest (c.in_err-only-in-Make.ensures rest.sizes))

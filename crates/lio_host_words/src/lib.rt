@@ -1,0 +1,11 @@
+//! The words of the command line.
+#![tactic(auto)]
+
+mod command;
+mod name;
+mod numbers;
+mod place;
+mod said;
+mod sorted;
+
+pub use command::{Command, Source, Watch, read_command};

@@ -1,0 +1,10 @@
+//! The options.
+
+/// An option.
+#[derive(Clone, Copy)]
+pub enum Name {
+    History,
+    View,
+    Observer,
+    Make,
+}

@@ -1,0 +1,96 @@
+-- What steps give, and why they are refused, part by part.
+use Rattle.std.proofs.Common.{◌≡◌, refl, sym, subst, ℕ, ◌≤◌, arith, List, Option, Some, None, Result, Ok, Err, inl, inr, ap, ◌∙◌}
+use Rattle.lio_outside.specs.FileMap.{FileMap}
+use Rattle.lio_outside.specs.Fetch.{given, IsGiven, IsMissing}
+use Rattle.lio_outside.specs.Count.{Rose}
+use Rattle.lio_outside.specs.Steps.{Steps, Over, Ask, ◌>>=◌, asked, outcome, steps_told_as, told_as}
+use Rattle.lio_outside.specs.Asking.{AskFor, Cause, IsNotThere, IsNotRead, IsWanting, IsSaid, IsNever, Gave, Give, Refuse}
+use Rattle.lio_outside.proofs.CountLemmas.{Rose-in_part, IsMissing-in_part}
+
+-- steps that give something, and the steps after them
+pub give-then : {A B E : Type 0} → (told : Option FileMap) (first : Steps A E) (next : A → Steps B E) (a : A) (is : Result B E) → Give told first (Ok a) → Give told (next a) is → Give told (first >>= next) is
+give-then told (Over (Ok b)) next a is gave rest = let same : b ≡ a = cc in subst (λ x. Give told (next x) is) (sym same) rest
+give-then told (Over (Err fault)) next a is gave rest = absurd (cc)
+give-then told (Ask name limit go) next a is (bytes, got, gave) rest = (bytes, got, give-then told (go bytes) next a is gave rest)
+
+-- a refused step ends them
+pub give-refused : {A B E : Type 0} → (told : Option FileMap) (first : Steps A E) (next : A → Steps B E) (fault : E) → Give told first (Err fault) → Give told (first >>= next) (Err fault)
+give-refused told (Over (Ok b)) next fault gave = absurd (cc)
+give-refused told (Over (Err other)) next fault gave = let same : other ≡ fault = cc in ap Err same
+give-refused told (Ask name limit go) next fault (bytes, got, gave) = (bytes, got, give-refused told (go bytes) next fault gave)
+
+ask-first : {A B E : Type 0} → (told : Option FileMap) (first : Steps A E) (next : A → Steps B E) (file : List ℕ) → AskFor told first file → AskFor told (first >>= next) file
+ask-first told (Over is) next file ask = absurd ask
+ask-first told (Ask name limit go) next file (inl same) = inl same
+ask-first told (Ask name limit go) next file (inr (bytes, got, ask)) = inr (bytes, got, ask-first told (go bytes) next file ask)
+
+ask-behind : {A B E : Type 0} → (told : Option FileMap) (first : Steps A E) (next : A → Steps B E) (a : A) (file : List ℕ) → Give told first (Ok a) → AskFor told (next a) file → AskFor told (first >>= next) file
+ask-behind told (Over (Ok b)) next a file gave ask = let same : b ≡ a = cc in subst (λ x. AskFor told (next x) file) (sym same) ask
+ask-behind told (Over (Err fault)) next a file gave ask = absurd (cc)
+ask-behind told (Ask name limit go) next a file (bytes, got, gave) ask = inr (bytes, got, ask-behind told (go bytes) next a file gave ask)
+
+-- the first steps are refused
+pub refuse-first : {A B E : Type 0} → (cause : Cause) (told : Option FileMap) (first : Steps A E) (next : A → Steps B E) (before middle after : ℕ) (fault : E) → before ≤ middle → middle ≤ after
+    → Refuse cause told first before middle fault → Refuse cause told (first >>= next) before after fault
+refuse-first (IsNotThere name) told first next before middle after fault below above says =
+    (give-refused told first next fault says.0, IsMissing-in_part told name before before middle after (omega arith) below above says.1)
+refuse-first (IsNotRead name) told first next before middle after fault below above says =
+    (ask-first told first next name says.0, Rose-in_part before before middle after (omega arith) below above says.1)
+refuse-first IsWanting told first next before middle after fault below above says = tt
+refuse-first IsSaid told first next before middle after fault below above says = give-refused told first next fault says
+refuse-first IsNever told first next before middle after fault below above says = absurd says
+
+-- the steps behind the first are refused
+pub refuse-behind : {A B E : Type 0} → (cause : Cause) (told : Option FileMap) (first : Steps A E) (next : A → Steps B E) (a : A) (before middle after : ℕ) (fault : E) → before ≤ middle → middle ≤ after
+    → Give told first (Ok a) → Refuse cause told (next a) middle after fault → Refuse cause told (first >>= next) before after fault
+refuse-behind (IsNotThere name) told first next a before middle after fault below above gave says =
+    (give-then told first next a (Err fault) gave says.0, IsMissing-in_part told name before middle after after below above (omega arith) says.1)
+refuse-behind (IsNotRead name) told first next a before middle after fault below above gave says =
+    (ask-behind told first next a name gave says.0, Rose-in_part before middle after after below above (omega arith) says.1)
+refuse-behind IsWanting told first next a before middle after fault below above gave says = tt
+refuse-behind IsSaid told first next a before middle after fault below above gave says = give-then told first next a (Err fault) gave says
+refuse-behind IsNever told first next a before middle after fault below above gave says = absurd says
+
+-- steps whose faults are told in other words
+pub give-told : {A E F : Type 0} → (words : E → F) (told : Option FileMap) (steps : Steps A E) (is : Result A E) → Give told steps is → Give told (steps_told_as words steps) (told_as words is)
+give-told words told (Over got) is gave = ap (told_as words) gave
+give-told words told (Ask name limit go) is (bytes, got, gave) = (bytes, got, give-told words told (go bytes) is gave)
+
+ask-told : {A E F : Type 0} → (words : E → F) (told : Option FileMap) (steps : Steps A E) (file : List ℕ) → AskFor told steps file → AskFor told (steps_told_as words steps) file
+ask-told words told (Over got) file ask = absurd ask
+ask-told words told (Ask name limit go) file (inl same) = inl same
+ask-told words told (Ask name limit go) file (inr (bytes, got, ask)) = inr (bytes, got, ask-told words told (go bytes) file ask)
+
+pub refuse-told : {A E F : Type 0} → (words : E → F) (cause : Cause) (told : Option FileMap) (steps : Steps A E) (before after : ℕ) (fault : E) → Refuse cause told steps before after fault
+    → Refuse cause told (steps_told_as words steps) before after (words fault)
+refuse-told words (IsNotThere name) told steps before after fault says = (give-told words told steps (Err fault) says.0, says.1)
+refuse-told words (IsNotRead name) told steps before after fault says = (ask-told words told steps name says.0, says.1)
+refuse-told words IsWanting told steps before after fault says = tt
+refuse-told words IsSaid told steps before after fault says = give-told words told steps (Err fault) says
+refuse-told words IsNever told steps before after fault says = absurd says
+
+gave-given : (told : Option FileMap) (name : List ℕ) (limit : ℕ) (bytes : List ℕ) → IsGiven told name limit bytes → Gave told name limit (Some bytes)
+gave-given None name limit bytes given = tt
+gave-given (Some files) name limit bytes given = given
+
+-- a name that is reported missing is there under no limit
+gave-missing : (told : Option FileMap) (name : List ℕ) (limit before now : ℕ) → IsMissing told name before now → Gave told name limit None
+gave-missing None name limit before now missing = tt
+gave-missing (Some files) name limit before now missing = rw missing refl
+
+-- a file that is there
+pub give-asked : {E : Type 0} → (told : Option FileMap) (missing : E) (name : List ℕ) (limit : ℕ) (bytes : List ℕ) → IsGiven told name limit bytes → Give told (asked missing name limit) (Ok bytes)
+give-asked told missing name limit bytes given = (Some bytes, gave-given told name limit bytes given, refl)
+
+-- a file that isn't there
+pub refuse-missing : {E : Type 0} → (told : Option FileMap) (missing : E) (name : List ℕ) (limit before after : ℕ) → IsMissing told name before after → Refuse (IsNotThere name) told (asked missing name limit) before after missing
+refuse-missing told missing name limit before after is = ((None, gave-missing told name limit before after is, refl), is)
+
+-- a file that can't be read
+pub refuse-unread : {E : Type 0} → (told : Option FileMap) (missing : E) (name : List ℕ) (limit before after : ℕ) (fault : E) → Rose before after → Refuse (IsNotRead name) told (asked missing name limit) before after fault
+refuse-unread told missing name limit before after fault rose = (inl refl, rose)
+
+-- what steps give over a store that tells its files is their outcome over these files
+pub give-outcome : {A E : Type 0} → (files : FileMap) (steps : Steps A E) (is : Result A E) → Give (Some files) steps is → outcome (given files) steps ≡ is
+give-outcome files (Over got) is gave = gave
+give-outcome files (Ask name limit go) is (bytes, got, gave) = ap (λ b. outcome (given files) (go b)) got ∙ give-outcome files (go bytes) is gave
