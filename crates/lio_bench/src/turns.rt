@@ -2,6 +2,7 @@
 ghost use Rattle.std.specs.Prelude.{◌≡◌, IfOk};
 ghost use Rattle.lio_calculus.specs.Sound.{IsSound};
 ghost use Rattle.lio_config.specs.Configuration.{configuration_of};
+ghost use Rattle.lio_config.specs.Logs.{AreFresh};
 
 use lio_clauses::{NoMemory, beside};
 use lio_config::{Config, StepFault};
@@ -89,7 +90,9 @@ fn job_of(alloc: Global, policy: Policy) -> Result<Job, CountFault> {
 
 /// Gives the task before its first turn.
 fn started(alloc: Global, job: &Job) -> Result<Counting, NoMemory>
-    ensures { IfOk result (λ counting. IsSound (configuration_of counting.script counting.config)) }
+    ensures sound { IfOk result
+        (λ counting. IsSound (configuration_of counting.script counting.config)) }
+    ensures fresh { IfOk result (λ counting. AreFresh counting.config) }
 {
     let script = job.script().copy(alloc)?;
     let config = start(alloc, job)?;
@@ -98,7 +101,9 @@ fn started(alloc: Global, job: &Job) -> Result<Counting, NoMemory>
 
 /// Gives the task before its first turn.
 fn first(alloc: Global) -> Result<Counting, CountFault>
-    ensures { IfOk result (λ counting. IsSound (configuration_of counting.script counting.config)) }
+    ensures sound { IfOk result
+        (λ counting. IsSound (configuration_of counting.script counting.config)) }
+    ensures fresh { IfOk result (λ counting. AreFresh counting.config) }
 {
     let policy = read_policy(alloc, POLICY).map_err(CountFault::Policy)?;
     let job = job_of(alloc, policy)?;
@@ -107,7 +112,8 @@ fn first(alloc: Global) -> Result<Counting, CountFault>
 
 /// So many turns of the task.
 fn steps(alloc: Global, config: &mut Config, script: &Script, times: u32) -> Result<(), StepFault>
-    requires { IsSound (configuration_of script.now config.old) }
+    requires sound { IsSound (configuration_of script.now config.old) }
+    requires fresh { AreFresh config.old }
 {
     for ticket in 0..times {
         let entry = config.step(alloc, script, TASK, ticket as u64)?;

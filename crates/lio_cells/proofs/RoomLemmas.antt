@@ -10,7 +10,6 @@ use Rattle.lio_cells.specs.declared.room.Room.{Room}
 use Rattle.lio_cells.specs.declared.room.Room.TheVariants.{Nothing, Empties, Holds, Becomes, Ends}
 use Rattle.lio_cells.specs.State.{is_absent, is_reference, is_variable, is_job, written, filled, received, ended, placed, state_after}
 use Rattle.lio_cells.specs.Room.{room_to_send, room_for, state_with}
-use Rattle.lio_cells.specs.Node.{NodeState}
 
 made-write : (state : State) (value : Value) → state_with state (cond (is_reference state) (Holds value) Nothing) ≡ written state value
 made-write Absent value = refl
@@ -74,23 +73,7 @@ state_with-room_for state (act.Raise op label) = refl
 state_with-room_for state (act.Lower label) = refl
 state_with-room_for state (act.Release source target power content) = refl
 
--- ---- a node that serves an act
-
--- a node as contracts see it, of its parts
-abbrev pub node_with : State → Room → NodeState
-node_with state room = record { state = state; room = room }
-
-pub same-node : (state other : State) (room else_ : Room) → state ≡ other → room ≡ else_ → node_with state room ≡ node_with other else_
-same-node state other room else_ p q = ap (λ s. node_with s room) p ∙ ap (node_with other) q
-
--- the state and the room of a node, taken out of it, are those that are seen
-pub taken-state : (state moved : State) (room : Room) (node : NodeState) → node_with state room ≡ node → moved ≡ state → moved ≡ node.state
-taken-state state moved room node seen e = e ∙ ap (λ (n : NodeState). n.state) seen
-
-pub taken-room : (state : State) (room moved : Room) (node : NodeState) (a : Act) → node_with state room ≡ node → node.room ≡ room_for node.state a → moved ≡ room
-    → moved ≡ room_for node.state a
-taken-room state room moved node a seen reserved e = e ∙ ap (λ (n : NodeState). n.room) seen ∙ reserved
-
+-- a state that an act makes of what was reserved for it
 pub served-state : (state moved made : State) (room : Room) (a : Act) → moved ≡ state → room ≡ room_for state a → made ≡ state_with moved room → made ≡ state_after state a
 served-state state moved made room a p q e =
     e ∙ ap (λ s. state_with s room) p ∙ ap (state_with state) q ∙ state_with-room_for state a

@@ -1,4 +1,5 @@
 pub mod Pieces
 pub mod State
 pub mod Room
+pub mod Log
 pub mod Node

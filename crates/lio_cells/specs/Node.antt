@@ -1,20 +1,59 @@
 -- A node as contracts see it.
-use Rattle.std.specs.Prelude.{Bool, ◌||◌}
+use Rattle.std.specs.Prelude.{◌≡◌, Bool, true, false, ◌==◌, ◌&&◌, ◌||◌, List, [], ◌∷◌, ◌++◌, All, if◌then◌else◌}
+use Rattle.std.specs.List.{list_any}
 use Rattle.lio_values.specs.declared.act.Act.{Act}
+use Rattle.lio_values.specs.declared.entry.Entry.{Entry}
+use Rattle.lio_events.specs.Rising.{AreRising}
 use Rattle.lio_cells.specs.declared.state.State.{State}
 use Rattle.lio_cells.specs.declared.room.Room.{Room}
 use Rattle.lio_cells.specs.declared.room.Room.TheVariants.{Nothing}
-use Rattle.lio_cells.specs.State.{ready, is_job}
+use Rattle.lio_cells.specs.declared.wish.Wish.{Wish}
+use Rattle.lio_cells.specs.declared.wish.Wish.TheVariants as wish
+use Rattle.lio_cells.specs.declared.waiter.Waiter.{Waiter}
+use Rattle.lio_cells.specs.State.{ready, grants, is_job}
+use Rattle.lio_cells.specs.Log.{folded}
 
--- what a node holds, and what it keeps ready for an act
+-- What a node holds, the state that it began with, the entries that it has served since, who waits at it, and what it keeps ready for an act: what
+-- the act will put into the state, and whether its log has a place for an entry.
 pub record NodeState : Type 0 where
   pub state : State
+  pub first : State
+  pub log : List Entry
+  pub waiters : List Waiter
   pub room : Room
+  pub place : Bool
 
--- a node of this state that keeps nothing ready
+-- a node of this state, which has served nothing, at which nobody waits, and which keeps nothing ready
 abbrev pub node_of : State → NodeState
-node_of state = record { state = state; room = Nothing }
+node_of state = record { state = state; first = state; log = []; waiters = []; room = Nothing; place = false }
+
+-- a node that keeps nothing ready
+abbrev pub at_rest : NodeState → NodeState
+at_rest node = record node { room = Nothing; place = false }
 
 -- whether an act may change a node: the node is ready for it, or is the actor's own
 abbrev pub takes_part : State → Act → Bool
 takes_part state act = ready state act || is_job state
+
+-- What each node keeps.
+pub record IsKept (node : NodeState) : Type 0 where
+  -- its state is what its log makes of its first state
+  pub folds : node.state ≡ folded node.first node.log
+  -- tickets in its log rise
+  pub rising : AreRising node.log
+  -- nobody waits at it for what it grants
+  pub waiting : All (λ waiter. grants node.state waiter.wish ≡ false) node.waiters
+
+-- whether two waiters are the same
+abbrev pub is_wish : Wish → Wish → Bool
+is_wish wish.Take wish.Take = true
+is_wish wish.Put wish.Put = true
+is_wish wish.Wait wish.Wait = true
+is_wish one other = false
+
+abbrev pub is_waiter : Waiter → Waiter → Bool
+is_waiter one other = (one.task == other.task) && is_wish one.wish other.wish
+
+-- waiters with one more, unless it is there
+abbrev pub with_waiter : List Waiter → Waiter → List Waiter
+with_waiter waiters waiter = if list_any (is_waiter waiter) waiters then waiters else waiters ++ waiter ∷ []

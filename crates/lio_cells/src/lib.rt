@@ -3,6 +3,7 @@
 #![tactic(auto)]
 
 mod bytes;
+mod log;
 mod node;
 mod ready;
 mod reply;
@@ -10,9 +11,11 @@ mod reserve;
 mod room;
 mod served;
 mod state;
+mod waiter;
 mod wish;
 
 pub use bytes::Bytes;
 pub use node::Node;
 pub use state::State;
+pub use waiter::{Waiter, Waiters};
 pub use wish::Wish;

@@ -1,57 +1,118 @@
 //! Nodes.
-ghost use Rattle.std.specs.Prelude.{◌≡◌, IfOk, IsTrue, OnOk, OnErr};
+ghost use Rattle.std.specs.Prelude.{◌≡◌, ◌⊎◌, ◌++◌, [], ◌∷◌, IfOk, IsTrue, OnOk, OnErr, true, false};
+ghost use Rattle.lio_events.specs.Rising.{IsLater};
 ghost use Rattle.lio_cells.specs.State.{answer, grants, ready, state_after};
 ghost use Rattle.lio_cells.specs.Room.{room_for};
-ghost use Rattle.lio_cells.specs.Node.{NodeState, node_of, takes_part};
+ghost use Rattle.lio_cells.specs.Node.{IsKept, at_rest, node_of, takes_part, with_waiter};
 
+use crate::log::Log;
 use crate::room::Room;
 use crate::state::State;
+use crate::waiter::{Waiter, Waiters};
 use crate::wish::Wish;
 use crate::{ready, reply, reserve, served};
-use lio_clauses::{NoMemory, assign};
-use lio_values::{Act, Reply};
+use lio_clauses::{NoMemory, assign, beside};
+use lio_values::{Act, Entry, Reply};
 use std::alloc::Global;
 use std::marker::Model;
 use std::mem;
 
-/// A node: what it holds, and what it keeps ready for an act, so that the act takes no memory.
+/// A node: what it holds, the entries that it has served, who waits at it, and what it keeps ready
+/// for an act, so that the act takes no memory. Its state is what its entries make of the state that
+/// it began with, their tickets rise, and nobody waits at it for what it grants.
 #[derive(Drop)]
 pub struct Node {
     state: State,
     room: Room,
+    place: bool,
+    log: Log,
+    waiters: Waiters,
 }
 
 impl Model for Node {
-    ghost use Rattle.lio_cells.specs.Node.{NodeState};
+    ghost use Rattle.lio_cells.specs.Node.{IsKept, NodeState};
+    ghost use Rattle.lio_cells.specs.Log.{HasPlace, first_of};
 
     ghost Value = { NodeState };
 
-    ghost view = { λ n. record { state = n.state; room = n.room } };
+    ghost view = { λ n. record {
+      state = n.state;
+      first = first_of n.log.first n.state;
+      log = n.log.entries.items;
+      waiters = n.waiters;
+      room = n.room;
+      place = n.place;
+    } };
+
+    ghost invariant = { λ n. IsKept (record {
+      state = n.state;
+      first = first_of n.log.first n.state;
+      log = n.log.entries.items;
+      waiters = n.waiters;
+      room = n.room;
+      place = n.place;
+    }) × HasPlace n.log n.place };
 }
 
 impl Node {
-    /// A node of this state, which keeps nothing ready.
-    pub fn of(state: State) -> Node
+    /// A node of this state, which has served nothing.
+    pub fn of(alloc: Global, state: State) -> Node
         ensures { result ≡ node_of state }
     {
         Node {
             state,
             room: Room::Nothing,
+            place: false,
+            log: Log::new(alloc),
+            waiters: Waiters::new(alloc),
         }
     }
 
-    /// A node of an equal state, which keeps nothing ready.
+    /// An equal node, which keeps nothing ready.
     pub fn copy(&self, alloc: Global) -> Result<Node, NoMemory>
-        ensures { IfOk result (λ node. node ≡ node_of self.now.state) }
+        ensures { IfOk result (λ node. node ≡ at_rest self.now) }
     {
-        Ok(Node::of(self.state.copy(alloc)?))
+        let state = self.state.copy(alloc)?;
+        let (state, log) = beside(state, self.log.copy(alloc))?;
+        let (state, log, waiters) = match self.waiters.copy(alloc) {
+            Ok(waiters) => (state, log, waiters),
+            Err(error) => {
+                drop(state);
+                drop(log);
+                return Err(error);
+            }
+        };
+        Ok(Node {
+            state,
+            room: Room::Nothing,
+            place: false,
+            log,
+            waiters,
+        })
     }
 
-    /// What it holds.
+    /// What it holds: what its log makes of the state that it began with.
     pub fn state(&self) -> &State
-        ensures { result.now ≡ self.now.state }
+        ensures state { result.now ≡ self.now.state }
+        ensures kept { IsKept self.now }
     {
         &self.state
+    }
+
+    /// The entries that it has served, in order.
+    pub fn log(&self) -> &[Entry]
+        ensures log { result.now ≡ self.now.log }
+        ensures kept { IsKept self.now }
+    {
+        self.log.entries.as_slice()
+    }
+
+    /// Who waits at it.
+    pub fn waiters(&self) -> &[Waiter]
+        ensures waiters { result.now ≡ self.now.waiters }
+        ensures kept { IsKept self.now }
+    {
+        self.waiters.as_slice()
     }
 
     /// Whether it is ready for the act.
@@ -76,12 +137,12 @@ impl Node {
         reply::answer(alloc, &self.state, act)
     }
 
-    /// Takes the memory that the act needs in this node. After a refusal the node keeps nothing
-    /// ready. The state is as before.
-    pub fn reserve(&mut self, alloc: Global, act: &Act) -> Result<(), NoMemory>
-        ensures ok { OnOk result (self.new
-            ≡ record { state = self.old.state; room = room_for self.old.state act.now }) }
-        ensures err { OnErr result (self.new ≡ node_of self.old.state) }
+    /// Takes the memory that the state needs for the act. After a refusal nothing is kept ready for
+    /// the state; all else is as before.
+    pub fn reserve_state(&mut self, alloc: Global, act: &Act) -> Result<(), NoMemory>
+        ensures ok { OnOk result
+            (self.new ≡ record self.old { room = room_for self.old.state act.now }) }
+        ensures err { OnErr result (self.new ≡ record self.old { room = Room.Nothing }) }
     {
         assign(&mut self.room, Room::Nothing);
         match reserve::room_for(alloc, &self.state, act)? {
@@ -91,13 +152,77 @@ impl Node {
         Ok(())
     }
 
-    /// Lets the act change the state, by what was reserved for it. It takes no memory.
-    pub fn serve(&mut self, act: &Act)
+    /// Takes the memory that the act needs in this node: what the state needs, and a place for its
+    /// entry in the log. After a refusal the node keeps nothing ready. All else is as before.
+    pub fn reserve(&mut self, alloc: Global, act: &Act) -> Result<(), NoMemory>
+        ensures ok { OnOk result (self.new
+            ≡ record self.old { room = room_for self.old.state act.now; place = true }) }
+        ensures err { OnErr result (self.new ≡ at_rest self.old) }
+    {
+        self.place = false;
+        self.reserve_state(alloc, act)?;
+        match self.log.reserve(alloc, &self.state) {
+            Ok(()) => {
+                self.place = true;
+                Ok(())
+            }
+            Err(error) => {
+                assign(&mut self.room, Room::Nothing);
+                Err(error)
+            }
+        }
+    }
+
+    /// Serves the turn with this entry: its act changes the state by what was reserved for it, and
+    /// the entry comes last in the log. It takes no memory.
+    pub fn serve(&mut self, entry: Entry)
+        requires reserved { self.old.room ≡ room_for self.old.state entry.act }
+        requires place { self.old.place ≡ true }
+        requires takes_part { IsTrue (takes_part self.old.state entry.act) }
+        requires later { IsLater self.old.log entry }
+        requires nobody { (state_after self.old.state entry.act ≡ self.old.state)
+            ⊎ (self.old.waiters ≡ []) }
+        ensures { self.new ≡ record (at_rest self.old) {
+          state = state_after self.old.state entry.act;
+          log = self.old.log ++ entry ∷ [];
+        } }
+    {
+        self.place = false;
+        let room = mem::replace(&mut self.room, Room::Nothing);
+        served::serve(&mut self.state, room);
+        self.log.push(entry);
+    }
+
+    /// Becomes a new node, of the state that the act makes by what was reserved for it. It takes no
+    /// memory.
+    pub fn renew(&mut self, act: &Act)
         requires reserved { self.old.room ≡ room_for self.old.state act.now }
         requires takes_part { IsTrue (takes_part self.old.state act.now) }
         ensures { self.new ≡ node_of (state_after self.old.state act.now) }
     {
-        let room = mem::replace(&mut self.room, Room::Nothing);
-        served::serve(&mut self.state, room);
+        self.place = false;
+        let held = mem::replace(&mut self.room, Room::Nothing);
+        self.log.clear();
+        self.waiters.clear();
+        served::serve(&mut self.state, held);
+    }
+
+    /// Lets a task wait at it for what it doesn't grant, unless the task does already. After a
+    /// refusal all is as before.
+    pub fn park(&mut self, waiter: Waiter) -> Result<(), NoMemory>
+        requires { grants self.old.state waiter.wish ≡ false }
+        ensures ok { OnOk result (self.new
+            ≡ record self.old { waiters = with_waiter self.old.waiters waiter }) }
+        ensures err { OnErr result (self.new ≡ self.old) }
+    {
+        self.waiters.add(waiter)
+    }
+
+    /// Takes out all who wait at it. It takes no memory.
+    pub fn take_waiters(&mut self) -> Waiters
+        ensures all { result ≡ self.old.waiters }
+        ensures none { self.new ≡ record self.old { waiters = [] } }
+    {
+        self.waiters.take()
     }
 }

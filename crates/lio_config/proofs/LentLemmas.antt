@@ -1,5 +1,5 @@
 -- What the parts of a turn make of the holders that it is lent: a prepared turn, and what it records.
-use Rattle.std.proofs.Common.{◌≡◌, ◌∙◌, refl, sym, ap, ℕ, true, false, true≢false, ◌||◌, List, Option, Some, None}
+use Rattle.std.proofs.Common.{◌≡◌, ◌∙◌, refl, sym, ap, subst, ℕ, ◌⊎◌, inl, inr, Bool, not, true, false, true≢false, ◌||◌, List, [], Option, Some, None}
 use Rattle.std.specs.Option.{option_map}
 use Rattle.lio_labels.specs.declared.label.Label.{Label}
 use Rattle.lio_values.specs.declared.act.Act.{Act}
@@ -7,7 +7,6 @@ use Rattle.lio_values.specs.declared.act.Act.TheVariants as act
 use Rattle.lio_values.specs.declared.act.Reply.{Reply}
 use Rattle.lio_values.specs.declared.entry.Entry.{Entry}
 use Rattle.lio_cells.specs.Node.{NodeState, takes_part}
-use Rattle.lio_cells.specs.Room.{room_for}
 use Rattle.lio_cells.specs.declared.state.State.{State}
 use Rattle.lio_cells.specs.declared.state.State.TheVariants as state
 use Rattle.lio_cells.specs.State.{ready as is_ready, answer, is_job, state_after}
@@ -35,7 +34,7 @@ use Rattle.lio_task.specs.Goes.{way_of}
 use Rattle.lio_task.specs.StateOf.{state_in}
 use Rattle.lio_config.specs.Configuration.{cell_of}
 use Rattle.lio_config.specs.Takes.{PlansVisit}
-use Rattle.lio_config.specs.Turns.{Gone, HasRoom, IsChild, IsLabelOf, Prepared, PreparedMet, PreparesAlone, PreparesMeeting, Records, Serves, Stands, ends, gone_cell, recorded, served_cell}
+use Rattle.lio_config.specs.Turns.{Gone, HasRoom, IsAsBefore, IsChild, IsLabelOf, Prepared, PreparedMet, PreparesAlone, PreparesMeeting, Records, Serves, Stands, ends, gone_cell, looks, recorded, served_cell, woken}
 use Rattle.lio_config.proofs.MoveLemmas.{visit-moves, visit-ready}
 
 -- the task that was found
@@ -65,7 +64,7 @@ resumes script program old new task asked reply w p is plans goes_by goes =
     ∙ ap (λ (t : Option Task). option_map (λ (u : TaskState). resumed program u asked reply) (option_map (state_in script) t)) (sym is)
 
 -- the node of a task is changed by nothing but the task's end
-state-kept : (state : State) (asked : Act) → is_job state ≡ true → ends asked ≡ false → state_after state asked ≡ state
+pub state-kept : (state : State) (asked : Act) → is_job state ≡ true → ends asked ≡ false → state_after state asked ≡ state
 unfolding state_after
 state-kept (state.Job label result) (act.Ended content) job e = absurd (true≢false e)
 state-kept (state.Job label result) act.Step job e = refl
@@ -88,13 +87,52 @@ state-kept (state.Ref label value) asked job e = absurd (true≢false (sym job))
 state-kept (state.Var label value) asked job e = absurd (true≢false (sym job))
 state-kept (state.Chan label bytes) asked job e = absurd (true≢false (sym job))
 
-pub job-recorded : (cell : Cell) (asked : Act) → is_job cell.state ≡ true → ends asked ≡ false → cell ≡ recorded cell asked
-job-recorded cell asked job e = ap (λ (s : State). let c : Cell = record cell { state = s } in c) (sym (state-kept cell.state asked job e))
+-- it takes part in each act
+pub job-part : (state : State) (asked : Act) → is_job state ≡ true → takes_part state asked ≡ true
+job-part state asked job = by (is_ready state asked) (is_job state) job
+  where
+    by : (a b : Bool) → b ≡ true → (a || b) ≡ true
+    by true b e = refl
+    by false b e = e
+
+-- a node whose waiters are taken out where an act changes it is left alone by the act, or nobody waits at it
+woken-waits : (node : NodeState) (asked : Act) (changes : Bool) → (changes ≡ false → state_after node.state asked ≡ node.state)
+    → (state_after (woken changes node).state asked ≡ (woken changes node).state) ⊎ ((woken changes node).waiters ≡ [])
+woken-waits node asked true still = inr refl
+woken-waits node asked false still = inl (still refl)
+
+pub nobody-waits : (node now : NodeState) (asked : Act) (changes : Bool) → now ≡ woken changes node → (changes ≡ false → state_after node.state asked ≡ node.state)
+    → (state_after now.state asked ≡ now.state) ⊎ (now.waiters ≡ [])
+nobody-waits node now asked changes is still = subst (λ (n : NodeState). (state_after n.state asked ≡ n.state) ⊎ (n.waiters ≡ [])) (sym is) (woken-waits node asked changes still)
+
+pub not-false : (b : Bool) → not b ≡ false → b ≡ true
+not-false true e = refl
+not-false false e = absurd (true≢false e)
+
+-- an act that only looks at a node leaves it alone
+pub state-looked_at : (state : State) (asked : Act) → looks asked ≡ true → state_after state asked ≡ state
+unfolding state_after
+state-looked_at state act.Read e = refl
+state-looked_at state act.Wait e = refl
+state-looked_at state (act.Ended content) e = absurd (true≢false (sym e))
+state-looked_at state act.Step e = refl
+state-looked_at state (act.Seal l) e = refl
+state-looked_at state (act.Raise op l) e = refl
+state-looked_at state (act.Lower l) e = refl
+state-looked_at state (act.Release source target power content) e = refl
+state-looked_at state (act.NewRef l value) e = absurd (true≢false (sym e))
+state-looked_at state (act.NewVar l value) e = absurd (true≢false (sym e))
+state-looked_at state (act.Fork birth) e = absurd (true≢false (sym e))
+state-looked_at state (act.Spawn birth) e = absurd (true≢false (sym e))
+state-looked_at state (act.Write value) e = absurd (true≢false (sym e))
+state-looked_at state act.Take e = absurd (true≢false (sym e))
+state-looked_at state (act.Put value) e = absurd (true≢false (sym e))
+state-looked_at state (act.Send text) e = absurd (true≢false (sym e))
 
 -- a turn that meets no other node is prepared by its parts
 pub alone-prepared : (script : List Procedure) (old new : Holder) (k ticket : ℕ) (asked : Act) (reply : Reply) (w : Way) (at : Label) → IsLabelOf old at → Gone script old new w asked reply
-    → new.node.state ≡ old.node.state → HasRoom new.node asked → PreparesAlone script old new k asked reply w (record { ticket = ticket; actor = k; target = None; at = at; act = asked; reply = reply })
-alone-prepared script old new k ticket asked reply w at label goes kept room = λ longest plans.
+    → new.node.state ≡ old.node.state → new.node.log ≡ old.node.log → new.node.waiters ≡ old.node.waiters → HasRoom new.node asked → PreparesAlone script old new k asked reply w (record { ticket = ticket; actor = k; target = None; at = at; act = asked; reply = reply })
+alone-prepared script old new k ticket asked reply w at label goes kept log waiters room = λ longest plans.
     let state : TaskState = state_in script plans.task in
     let move : Move = record { act = asked; target = None; reply = reply; onward = way_of (script_lines script) state.items w } in
     let shown : ℕ → Label → Option Entry = λ t l. Some (record { ticket = t; actor = k; target = None; at = l; act = asked; reply = reply }) in
@@ -106,6 +144,8 @@ alone-prepared script old new k ticket asked reply w at label goes kept room = �
       meets = refl;
       task = resumes script (program_of script longest) old new plans.task asked reply w _ plans.is plans.plans refl goes;
       state = kept;
+      log = log;
+      waiters = waiters;
       room = room;
     }
 
@@ -127,9 +167,9 @@ meeting-moves script longest c k n old was asked onward plans stands there ready
 
 -- a turn that meets the node of another holder is prepared by its parts
 pub meeting-prepared : (script : List Procedure) (old new was now : Holder) (k ticket n : ℕ) (asked : Act) (reply : Reply) (onward : Onward) (at : Label) (child : Option Task) → is_ready was.node.state asked ≡ true → reply ≡ answer was.node.state asked
-    → IsLabelOf old at → Gone script old new (way.On onward) asked reply → new.node.state ≡ old.node.state → HasRoom new.node asked → cell_of script now ≡ cell_of script was → now.node.room ≡ room_for now.node.state asked → IsChild script old asked child
+    → IsLabelOf old at → Gone script old new (way.On onward) asked reply → new.node.state ≡ old.node.state → new.node.log ≡ old.node.log → new.node.waiters ≡ old.node.waiters → HasRoom new.node asked → IsAsBefore script was now → HasRoom now.node asked → IsChild script old asked child
     → PreparesMeeting script old new was now k n asked onward (record { ticket = ticket; actor = k; target = Some n; at = at; act = asked; reply = reply }) child
-meeting-prepared script old new was now k ticket n asked reply onward at child ready replies label goes kept room met met_room bears = λ longest plans.
+meeting-prepared script old new was now k ticket n asked reply onward at child ready replies label goes kept log waiters room met met_room bears = λ longest plans.
     let state : TaskState = state_in script plans.task in
     let shown : ℕ → ℕ → Label → Reply → Option Entry = λ t i l r. Some (record { ticket = t; actor = k; target = Some i; at = l; act = asked; reply = r }) in
     let answered : Reply = answer was.node.state asked in
@@ -142,12 +182,16 @@ meeting-prepared script old new was now k ticket n asked reply onward at child r
         meets = refl;
         task = resumes script (program_of script longest) old new plans.task asked reply (way.On onward) _ plans.is plans.plans refl goes;
         state = kept;
+        log = log;
+        waiters = waiters;
         room = room;
       };
       met = record {
-        cell = met;
+        cell = met.cell;
+        log = met.log;
+        waiters = met.waiters;
         room = met_room;
-        takes_part = ap (λ (cell : Cell). takes_part cell.state asked) met ∙ ap (λ b. b || is_job was.node.state) ready;
+        takes_part = ap (λ (cell : Cell). takes_part cell.state asked) met.cell ∙ ap (λ b. b || is_job was.node.state) ready;
         bears = bears plans.task plans.is longest ∙ ap (λ (l : Label). born (program_of script longest) l asked) (sym (label plans.task plans.is));
       };
     }

@@ -3,6 +3,7 @@ pub mod MoveLemmas
 pub mod PairLemmas
 pub mod LentLemmas
 pub mod TurnLemmas
+pub mod LogLemmas
 pub mod PreviewLemmas
 pub mod SoundLemmas
 pub mod PartLemmas

@@ -152,9 +152,9 @@ pub meeting-same : (script : List Procedure) (config : Config) (k n : ℕ) (hold
 meeting-same script config k n holders holder now was met lent same =
     let c : Configuration = configuration_of script config in
     configuration_of-with_both script config k n holders holder now was met lent
-    ∙ ap (λ (here : Cell). with_cell (with_cell c k here) n (cell_of script met)) (same.actor ∙ sym (cell-there script config k holder lent.actor_is))
+    ∙ ap (λ (here : Cell). with_cell (with_cell c k here) n (cell_of script met)) (same.actor.cell ∙ sym (cell-there script config k holder lent.actor_is))
     ∙ ap (λ (d : Configuration). with_cell d n (cell_of script met)) (with_cell-same c k)
-    ∙ ap (with_cell c n) (same.met ∙ sym (cell-there script config n was lent.met_is))
+    ∙ ap (with_cell c n) (same.met.cell ∙ sym (cell-there script config n was lent.met_is))
     ∙ with_cell-same c n
 
 -- what a visit of a configuration stands on

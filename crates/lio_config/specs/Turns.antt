@@ -1,6 +1,6 @@
 -- Words for the contracts of a turn in two halves, over the holders that it is lent: the actor's, and that of the node that its act meets.
 -- The first half does all that may fail, the second records the act in the nodes.
-use Rattle.std.specs.Prelude.{◌≡◌, ℕ, List, Option, Some, None, IsTrue, Bool, true, false}
+use Rattle.std.specs.Prelude.{◌≡◌, ℕ, List, [], ◌∷◌, ◌++◌, Option, Some, None, IsTrue, Bool, true, false, if◌then◌else◌}
 use Rattle.std.specs.Option.{option_map}
 use Rattle.lio_labels.specs.declared.label.Label.{Label}
 use Rattle.lio_values.specs.declared.act.Act.{Act}
@@ -82,9 +82,30 @@ abbrev pub ends : Act → Bool
 ends (act.Ended content) = true
 ends asked = false
 
--- what an act needs in its actor's node is reserved in it: the end of the task needs something, and nothing else does
-abbrev pub HasRoom : NodeState → Act → Type 0
-HasRoom node asked = ends asked ≡ true → node.room ≡ room_for node.state asked
+-- whether an act only looks at the node that it meets
+abbrev pub looks : Act → Bool
+looks act.Read = true
+looks act.Wait = true
+looks asked = false
+
+-- what an act needs in a node is reserved in it: what its state needs, and a place in its log
+pub record HasRoom (node : NodeState) (asked : Act) : Type 0 where
+  pub room : node.room ≡ room_for node.state asked
+  pub place : node.place ≡ true
+
+-- a node whose waiters are taken out, where an act changes it
+abbrev pub woken : Bool → NodeState → NodeState
+woken changes node = if changes then record node { waiters = [] } else node
+
+-- a node's log after a turn with this ticket
+abbrev pub with_turn : List Entry → Entry → ℕ → List Entry
+with_turn log entry ticket = log ++ record entry { ticket = ticket } ∷ []
+
+-- a holder stands for the same cell as before, its node has the same log, and the same tasks wait at it
+pub record IsAsBefore (script : List Procedure) (old new : Holder) : Type 0 where
+  pub cell : cell_of script new ≡ cell_of script old
+  pub log : new.node.log ≡ old.node.log
+  pub waiters : new.node.waiters ≡ old.node.waiters
 
 -- All that may fail of the turn of task k is done: what its holder was before and is now, and the number of the node that the turn meets, if it
 -- meets one. `holds` says what else has to hold of a configuration.
@@ -97,6 +118,8 @@ pub record Prepared (script : List Procedure) (longest : ℕ) (holds : Configura
   pub task : option_map (state_in script) new.task ≡ (acted (program_of script longest) entry (cell_of script old)).task
   -- the node is as before, and has room for the act
   pub state : new.node.state ≡ old.node.state
+  pub log : new.node.log ≡ old.node.log
+  pub waiters : new.node.waiters ≡ old.node.waiters
   pub room : HasRoom new.node entry.act
 
 -- a turn that meets no other node is prepared, where it is what the task plans
@@ -107,7 +130,9 @@ PreparesAlone script old new k asked reply way entry =
 -- The node that a turn meets is prepared for the turn's entry.
 pub record PreparedMet (script : List Procedure) (longest : ℕ) (was now : Holder) (entry : Entry) (child : Option Task) : Type 0 where
   pub cell : cell_of script now ≡ cell_of script was
-  pub room : now.node.room ≡ room_for now.node.state entry.act
+  pub log : now.node.log ≡ was.node.log
+  pub waiters : now.node.waiters ≡ was.node.waiters
+  pub room : HasRoom now.node entry.act
   pub takes_part : IsTrue (takes_part now.node.state entry.act)
   -- the child is the one that the act gives birth to, if it does
   pub bears : option_map (state_in script) child ≡ born (program_of script longest) entry.at entry.act
@@ -138,7 +163,7 @@ Records script old new asked = cell_of script new ≡ recorded (cell_of script o
 abbrev pub Serves : List Procedure → Holder → Holder → Act → Option Task → Type 0
 Serves script old new asked child = cell_of script new ≡ served_cell (cell_of script old) asked (option_map (state_in script) child)
 
--- two holders stand for the same cells as before
+-- two holders stand for the same cells as before, and their nodes have the same logs and waiters
 pub record AreAsBefore (script : List Procedure) (old new was now : Holder) : Type 0 where
-  pub actor : cell_of script new ≡ cell_of script old
-  pub met : cell_of script now ≡ cell_of script was
+  pub actor : IsAsBefore script old new
+  pub met : IsAsBefore script was now

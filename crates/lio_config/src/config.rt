@@ -2,7 +2,7 @@
 ghost use Rattle.std.specs.Prelude.{◌≡◌};
 
 use crate::pair::pair_mut;
-use crate::turn::blank_entry;
+use crate::turn::{Meeting, blank_entry};
 use lio_cells::Node;
 use lio_clauses::NoMemory;
 use lio_syntax::Script;
@@ -61,6 +61,7 @@ impl Config {
     ghost use Rattle.lio_calculus.specs.Step.{can, number_of};
     ghost use Rattle.lio_task_turns.specs.Turns.{target_of};
     ghost use Rattle.lio_config.specs.Configuration.{configuration_of, task_in};
+    ghost use Rattle.lio_config.specs.Logs.{Appends, HasSameLogs, IsLaterThanLogs};
     ghost use Rattle.lio_config.specs.Takes.{PlansFull, PlansOwn, PlansVisit, Stays, Steps};
 
     /// The task with a number.
@@ -85,18 +86,21 @@ impl Config {
     ) -> Result<(), StepFault>
         requires sound { IsSound (configuration_of script.now self.old) }
         requires plans { PlansOwn script.now self.old.longest (task_in self.old k) act reply way }
+        requires later { IsLaterThanLogs self.old ticket }
         ensures ok { OnOk result (Steps (configuration_of script.now self.old)
             (configuration_of script.now self.new) k ticket entry.new) }
+        ensures logs { OnOk result (Appends self.old self.new entry.new) }
         ensures fault { IfErr result (Stays (configuration_of script.now self.old) k) }
         ensures err { OnErr result (configuration_of script.now self.new
             ≡ configuration_of script.now self.old) }
+        ensures kept { OnErr result (HasSameLogs self.old self.new) }
     {
         let Some(actor) = self.holders.get_mut(k as usize) else {
             unreachable!()
         };
-        actor.prepare_alone(alloc, script, k, act, reply, way, entry)?;
+        let own = actor.prepare_alone(alloc, script, k, act, reply, way, entry)?;
         entry.ticket = ticket;
-        actor.record(entry);
+        drop(actor.record(own, ticket));
         Ok(())
     }
 
@@ -114,18 +118,21 @@ impl Config {
         requires sound { IsSound (configuration_of script.now self.old) }
         requires plans { PlansOwn script.now self.old.longest (task_in self.old k) stepping done
             way }
+        requires later { IsLaterThanLogs self.old ticket }
         ensures ok { OnOk result (Steps (configuration_of script.now self.old)
             (configuration_of script.now self.new) k ticket entry.new) }
+        ensures logs { OnOk result (Appends self.old self.new entry.new) }
         ensures fault { IfErr result (Stays (configuration_of script.now self.old) k) }
         ensures err { OnErr result (configuration_of script.now self.new
             ≡ configuration_of script.now self.old) }
+        ensures kept { OnErr result (HasSameLogs self.old self.new) }
     {
         let Some(actor) = self.holders.get_mut(k as usize) else {
             unreachable!()
         };
-        actor.prepare_step(alloc, script, k, way, entry)?;
+        let own = actor.prepare_step(alloc, script, k, way, entry)?;
         entry.ticket = ticket;
-        actor.record(entry);
+        drop(actor.record(own, ticket));
         Ok(())
     }
 
@@ -146,19 +153,24 @@ impl Config {
         requires plans { PlansVisit script.now self.old.longest (task_in self.old k) act
             (number_of (target_of target)) onward }
         requires can { IsTrue (can (configuration_of script.now self.old) k) }
+        requires later { IsLaterThanLogs self.old ticket }
         ensures ok { OnOk result (Steps (configuration_of script.now self.old)
             (configuration_of script.now self.new) k ticket entry.new) }
+        ensures logs { OnOk result (Appends self.old self.new entry.new) }
         ensures fault { IfErr result (Stays (configuration_of script.now self.old) k) }
         ensures err { OnErr result (configuration_of script.now self.new
             ≡ configuration_of script.now self.old) }
+        ensures kept { OnErr result (HasSameLogs self.old self.new) }
     {
         let n = target.number();
         drop(target);
         let (actor, met) = pair_mut(&mut self.holders, k as usize, n as usize);
-        let child = actor.prepare_meeting(alloc, script, k, met, n, act, onward, entry)?;
+        let Meeting { own, twin, child } = actor.prepare_meeting(
+            alloc, script, k, met, n, act, onward, entry,
+        )?;
         entry.ticket = ticket;
-        actor.record(entry);
-        met.record_met(entry, child);
+        drop(actor.record(own, ticket));
+        drop(met.record_met(twin, ticket, child));
         Ok(())
     }
 
@@ -175,11 +187,14 @@ impl Config {
     ) -> Result<(), StepFault>
         requires sound { IsSound (configuration_of script.now self.old) }
         requires plans { PlansFull script.now self.old.longest (task_in self.old k) full }
+        requires later { IsLaterThanLogs self.old ticket }
         ensures ok { OnOk result (Steps (configuration_of script.now self.old)
             (configuration_of script.now self.new) k ticket entry.new) }
+        ensures logs { OnOk result (Appends self.old self.new entry.new) }
         ensures fault { IfErr result (Stays (configuration_of script.now self.old) k) }
         ensures err { OnErr result (configuration_of script.now self.new
             ≡ configuration_of script.now self.old) }
+        ensures kept { OnErr result (HasSameLogs self.old self.new) }
     {
         let Some(task) = self.task(k) else {
             unreachable!()
@@ -201,7 +216,8 @@ impl Config {
         }
     }
 
-    /// Takes one small step: the turn of task `k`, whose entry has this ticket. The configuration
+    /// Takes one small step: the turn of task `k`, whose entry has this ticket, which is greater than
+    /// all in the logs. The entry comes last in the log of each node that it shows. The configuration
     /// stays sound. After a refusal it is as before.
     pub fn step(
         &mut self,
@@ -210,13 +226,16 @@ impl Config {
         k: u32,
         ticket: u64,
     ) -> Result<Entry, StepFault>
-        requires { IsSound (configuration_of script.now self.old) }
+        requires sound { IsSound (configuration_of script.now self.old) }
+        requires later { IsLaterThanLogs self.old ticket }
         ensures ok { IfOk result (Steps (configuration_of script.now self.old)
             (configuration_of script.now self.new) k ticket) }
+        ensures logs { IfOk result (Appends self.old self.new) }
         ensures sound { OnOk result (IsSound (configuration_of script.now self.new)) }
         ensures fault { IfErr result (Stays (configuration_of script.now self.old) k) }
         ensures err { OnErr result (configuration_of script.now self.new
             ≡ configuration_of script.now self.old) }
+        ensures kept { OnErr result (HasSameLogs self.old self.new) }
     {
         let mut entry = blank_entry(alloc)?;
         match self.take(alloc, script, k, ticket, &mut entry) {
@@ -237,13 +256,16 @@ impl Config {
         ticket: u64,
         entry: &mut Entry,
     ) -> Result<(), StepFault>
-        requires { IsSound (configuration_of script.now self.old) }
+        requires sound { IsSound (configuration_of script.now self.old) }
+        requires later { IsLaterThanLogs self.old ticket }
         ensures ok { OnOk result (Steps (configuration_of script.now self.old)
             (configuration_of script.now self.new) k ticket entry.new) }
+        ensures logs { OnOk result (Appends self.old self.new entry.new) }
         ensures sound { OnOk result (IsSound (configuration_of script.now self.new)) }
         ensures fault { IfErr result (Stays (configuration_of script.now self.old) k) }
         ensures err { OnErr result (configuration_of script.now self.new
             ≡ configuration_of script.now self.old) }
+        ensures kept { OnErr result (HasSameLogs self.old self.new) }
     {
         let Some(task) = self.task(k) else {
             return Err(StepFault::Still(k));

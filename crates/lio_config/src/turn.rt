@@ -6,10 +6,11 @@
 //! leaves what the holders stand for as it was. The second half takes no memory: the nodes serve.
 //! Between the two the caller sets the entry's ticket.
 ghost use Rattle.std.specs.Prelude.{◌≡◌, IfOk, None};
-ghost use Rattle.lio_config.specs.Turns.{ends};
+ghost use Rattle.lio_config.specs.Turns.{ends, looks};
 ghost use Rattle.lio_labels.specs.Extremes.{public};
 
 use crate::config::Holder;
+use lio_cells::Waiters;
 use lio_clauses::{NoMemory, assign};
 use lio_labels::Label;
 use lio_syntax::Script;
@@ -88,19 +89,39 @@ fn fill(entry: &mut Entry, k: u32, target: Option<u32>, act: Act, reply: Reply)
     assign(&mut entry.reply, reply);
 }
 
+/// Whether an act only looks at the node that it meets.
+#[inline(always)]
+fn looks(act: &Act) -> bool
+    ensures { result ≡ looks act.now }
+{
+    matches!(act, Act::Read | Act::Wait)
+}
+
+/// A turn that meets another node, as it was prepared.
+#[derive(Drop)]
+pub struct Meeting {
+    /// The entry for the actor's log.
+    pub own: Entry,
+    /// The entry for the log of the node that is met.
+    pub twin: Entry,
+    /// The child that the act gives birth to, if it does.
+    pub child: Option<Task>,
+}
+
 impl Holder {
-    ghost use Rattle.std.specs.Prelude.{◌≡◌, List, IsTrue, IfOk, OnOk, OnErr};
+    ghost use Rattle.std.specs.Prelude.{◌≡◌, ◌<◌, List, All, IsTrue, IfOk, OnOk, OnErr, Some, None};
+    ghost use Rattle.std.specs.Prelude.{if◌then◌else◌, []};
     ghost use Rattle.lio_values.specs.declared.act.Act.TheVariants.{Step as stepping};
     ghost use Rattle.lio_values.specs.declared.act.Reply.TheVariants.{Done as done};
     ghost use Rattle.lio_syntax.specs.Statements.{Procedure};
     ghost use Rattle.lio_cells.specs.Node.{takes_part};
     ghost use Rattle.lio_cells.specs.State.{ready as is_ready, answer, is_job};
-    ghost use Rattle.lio_cells.specs.Room.{room_for};
     ghost use Rattle.lio_config.specs.Configuration.{cell_of};
     ghost use Rattle.lio_task.specs.declared.go.Way.TheVariants as way;
     ghost use Rattle.lio_config.specs.Turns.{AreAsBefore, Bears, CanMeet, CanTurn, Gone, HasRoom};
-    ghost use Rattle.lio_config.specs.Turns.{HasTask, IsChild, IsLabelOf, Records, Serves};
-    ghost use Rattle.lio_config.specs.Turns.{PreparesAlone, PreparesMeeting};
+    ghost use Rattle.lio_config.specs.Turns.{HasTask, IsAsBefore, IsChild, IsLabelOf, Records};
+    ghost use Rattle.lio_config.specs.Turns.{PreparesAlone, PreparesMeeting, Serves, with_turn};
+    ghost use Rattle.lio_config.specs.Turns.{woken};
 
     /// A copy of its task's label.
     #[inline(always)]
@@ -127,11 +148,11 @@ impl Holder {
     }
 
     /// Takes the memory that an act needs in its node.
+    #[inline(always)]
     fn reserve(&mut self, alloc: Global, act: &Act) -> Result<(), NoMemory>
-        ensures same { (script : List Procedure)
-            → cell_of script self.new ≡ cell_of script self.old }
+        ensures same { (script : List Procedure) → IsAsBefore script self.old self.new }
         ensures task { self.new.task ≡ self.old.task }
-        ensures room { OnOk result (self.new.node.room ≡ room_for self.new.node.state act.now) }
+        ensures room { OnOk result (HasRoom self.new.node act.now) }
     {
         self.node.reserve(alloc, act)
     }
@@ -157,57 +178,55 @@ impl Holder {
         task.go(alloc, script, way, act, reply)
     }
 
-    /// Copies its task's label into an entry, and takes the memory that the end of the task needs in
-    /// its node.
+    /// Copies its task's label into an entry, and takes the memory that the act needs in its node.
     fn get_ready(&mut self, alloc: Global, act: &Act, entry: &mut Entry) -> Result<(), NoMemory>
         requires { HasTask self.old }
         ensures label { OnOk result (IsLabelOf self.old entry.new.at) }
         ensures ticket { entry.new.ticket ≡ entry.old.ticket }
-        ensures same { (script : List Procedure)
-            → cell_of script self.new ≡ cell_of script self.old }
+        ensures same { (script : List Procedure) → IsAsBefore script self.old self.new }
         ensures task { self.new.task ≡ self.old.task }
         ensures room { OnOk result (HasRoom self.new.node act.now) }
     {
         self.tell_label(alloc, entry)?;
-        if ends(act) {
-            self.reserve(alloc, act)
-        } else {
-            Ok(())
-        }
+        self.reserve(alloc, act)
     }
 
-    /// Does all that may fail of a turn in its own holder: the entry's label, the memory that the
-    /// act needs in its node, and last how its task goes on. After a refusal of memory it stands
-    /// for the same cell.
+    /// Copies the entry of a turn for its node's log, and lets its task go on. After a refusal of
+    /// memory it stands for the same cell; its node is left alone.
     fn prepare(
         &mut self,
         alloc: Global,
         script: &Script,
         way: Way,
-        act: &Act,
-        reply: &Reply,
-        entry: &mut Entry,
-    ) -> Result<(), NoMemory>
+        entry: &Entry,
+    ) -> Result<Entry, NoMemory>
         requires { CanTurn script.now self.old way }
-        ensures label { OnOk result (IsLabelOf self.old entry.new.at) }
-        ensures gone { OnOk result (Gone script.now self.old self.new way.entry act.now reply.now) }
-        ensures room { OnOk result (HasRoom self.new.node act.now) }
-        ensures state { OnOk result (self.new.node.state ≡ self.old.node.state) }
+        ensures own { IfOk result (λ own. own ≡ entry.now) }
+        ensures gone { OnOk result
+            (Gone script.now self.old self.new way.entry entry.now.act entry.now.reply) }
         ensures err { OnErr result (cell_of script.now self.new ≡ cell_of script.now self.old) }
-        ensures ticket { entry.new.ticket ≡ entry.old.ticket }
+        ensures node { self.new.node ≡ self.old.node }
     {
-        match self.get_ready(alloc, act, entry) {
-            Ok(()) => self.go(alloc, script, way, act, reply),
+        let own = match entry.copy(alloc) {
+            Ok(own) => own,
             Err(error) => {
                 drop(way);
+                return Err(error);
+            }
+        };
+        match self.go(alloc, script, way, &entry.act, &entry.reply) {
+            Ok(()) => Ok(own),
+            Err(error) => {
+                drop(own);
                 Err(error)
             }
         }
     }
 
     /// Does all that may fail of a turn of its task, which has number `k`, where the turn meets no
-    /// other node; fills the entry, but for its ticket. The task has gone on. After a refusal of
-    /// memory it stands for the same cell.
+    /// other node; fills the entry, but for its ticket, and gives an equal one for its node's log.
+    /// The task has gone on. After a refusal of memory it stands for the same cell, and its node has
+    /// the same log and waiters.
     pub fn prepare_alone(
         &mut self,
         alloc: Global,
@@ -217,27 +236,29 @@ impl Holder {
         reply: Reply,
         way: Way,
         entry: &mut Entry,
-    ) -> Result<(), NoMemory>
+    ) -> Result<Entry, NoMemory>
         requires { CanTurn script.now self.old way }
         ensures ok { OnOk result
             (PreparesAlone script.now self.old self.new k act reply way.entry entry.new) }
-        ensures err { OnErr result (cell_of script.now self.new ≡ cell_of script.now self.old) }
+        ensures own { IfOk result (λ own. own ≡ entry.new) }
+        ensures err { OnErr result (IsAsBefore script.now self.old self.new) }
         ensures ticket { entry.new.ticket ≡ entry.old.ticket }
     {
-        match self.prepare(alloc, script, way, &act, &reply, entry) {
+        match self.get_ready(alloc, &act, entry) {
             Ok(()) => {
                 fill(entry, k, None, act, reply);
-                Ok(())
+                self.prepare(alloc, script, way, entry)
             }
             Err(error) => {
                 drop(act);
                 drop(reply);
+                drop(way);
                 Err(error)
             }
         }
     }
 
-    /// The same of a turn that is a step and concerns the task alone: its node is left alone.
+    /// The same of a turn that is a step and concerns the task alone.
     #[inline(always)]
     pub fn prepare_step(
         &mut self,
@@ -246,20 +267,24 @@ impl Holder {
         k: u32,
         way: Way,
         entry: &mut Entry,
-    ) -> Result<(), NoMemory>
+    ) -> Result<Entry, NoMemory>
         requires { CanTurn script.now self.old way }
         ensures ok { OnOk result
             (PreparesAlone script.now self.old self.new k stepping done way.entry entry.new) }
-        ensures err { OnErr result (cell_of script.now self.new ≡ cell_of script.now self.old) }
+        ensures own { IfOk result (λ own. own ≡ entry.new) }
+        ensures err { OnErr result (IsAsBefore script.now self.old self.new) }
         ensures ticket { entry.new.ticket ≡ entry.old.ticket }
     {
-        if let Err(error) = self.tell_label(alloc, entry) {
-            drop(way);
-            return Err(error);
+        match self.get_ready(alloc, &Act::Step, entry) {
+            Ok(()) => {
+                fill_step(entry, k);
+                self.prepare(alloc, script, way, entry)
+            }
+            Err(error) => {
+                drop(way);
+                Err(error)
+            }
         }
-        self.go(alloc, script, way, &Act::Step, &Reply::Done)?;
-        fill_step(entry, k);
-        Ok(())
     }
 
     /// The child that an act of its task gives birth to, if it does.
@@ -277,9 +302,8 @@ impl Holder {
     fn answer(&mut self, alloc: Global, act: &Act) -> Result<Reply, NoMemory>
         requires { IsTrue (is_ready self.old.node.state act.now) }
         ensures reply { IfOk result (λ reply. reply ≡ answer self.old.node.state act.now) }
-        ensures same { (script : List Procedure)
-            → cell_of script self.new ≡ cell_of script self.old }
-        ensures room { OnOk result (self.new.node.room ≡ room_for self.new.node.state act.now) }
+        ensures same { (script : List Procedure) → IsAsBefore script self.old self.new }
+        ensures room { OnOk result (HasRoom self.new.node act.now) }
     {
         let reply = self.node.answer(alloc, act)?;
         match self.reserve(alloc, act) {
@@ -291,43 +315,64 @@ impl Holder {
         }
     }
 
-    /// Does what may fail of a turn that meets the node of another holder, but for the child; gives
-    /// the reply. After a refusal of memory both stand for the same cells.
+    /// Gets the node of another holder and its own ready for an act that meets the other; gives the
+    /// reply, and copies its task's label into the entry. Both stand for the same cells.
     fn meet(
         &mut self,
         alloc: Global,
-        script: &Script,
         met: &mut Holder,
         act: &Act,
-        onward: Onward,
         entry: &mut Entry,
     ) -> Result<Reply, NoMemory>
-        requires turns { CanTurn script.now self.old (way.On onward) }
+        requires task { HasTask self.old }
         requires ready { IsTrue (is_ready met.old.node.state act.now) }
         ensures reply { IfOk result (λ reply. reply ≡ answer met.old.node.state act.now) }
         ensures label { OnOk result (IsLabelOf self.old entry.new.at) }
-        ensures gone { IfOk result (λ reply.
-            Gone script.now self.old self.new (way.On onward.entry) act.now reply) }
-        ensures room { OnOk result (HasRoom self.new.node act.now) }
-        ensures state { OnOk result (self.new.node.state ≡ self.old.node.state) }
-        ensures met { cell_of script.now met.new ≡ cell_of script.now met.old }
-        ensures met_room { OnOk result
-            (met.new.node.room ≡ room_for met.new.node.state act.now) }
-        ensures err { OnErr result (cell_of script.now self.new ≡ cell_of script.now self.old) }
         ensures ticket { entry.new.ticket ≡ entry.old.ticket }
+        ensures same { (script : List Procedure)
+            → AreAsBefore script self.old self.new met.old met.new }
+        ensures task { self.new.task ≡ self.old.task }
+        ensures room { OnOk result (HasRoom self.new.node act.now) }
+        ensures met_room { OnOk result (HasRoom met.new.node act.now) }
     {
-        match met.answer(alloc, act) {
-            Ok(reply) => {
-                match self.prepare(alloc, script, Way::On(onward), act, &reply, entry) {
-                    Ok(()) => Ok(reply),
-                    Err(error) => {
-                        drop(reply);
-                        Err(error)
-                    }
-                }
+        let reply = met.answer(alloc, act)?;
+        match self.get_ready(alloc, act, entry) {
+            Ok(()) => Ok(reply),
+            Err(error) => {
+                drop(reply);
+                Err(error)
             }
+        }
+    }
+
+    /// Copies the entry of a turn for two logs, and lets its task go on after the turn, which meets
+    /// another node. After a refusal of memory it stands for the same cell; its node is left alone.
+    fn prepare_both(
+        &mut self,
+        alloc: Global,
+        script: &Script,
+        onward: Onward,
+        entry: &Entry,
+    ) -> Result<(Entry, Entry), NoMemory>
+        requires { CanTurn script.now self.old (way.On onward) }
+        ensures own { IfOk result (λ both. both.0 ≡ entry.now) }
+        ensures twin { IfOk result (λ both. both.1 ≡ entry.now) }
+        ensures gone { OnOk result (Gone script.now self.old self.new (way.On onward.entry)
+            entry.now.act entry.now.reply) }
+        ensures err { OnErr result (cell_of script.now self.new ≡ cell_of script.now self.old) }
+        ensures node { self.new.node ≡ self.old.node }
+    {
+        let twin = match entry.copy(alloc) {
+            Ok(twin) => twin,
             Err(error) => {
                 drop(onward);
+                return Err(error);
+            }
+        };
+        match self.prepare(alloc, script, Way::On(onward), entry) {
+            Ok(own) => Ok((own, twin)),
+            Err(error) => {
+                drop(twin);
                 Err(error)
             }
         }
@@ -335,8 +380,9 @@ impl Holder {
 
     /// Does all that may fail of a turn of its task, which has number `k`, where the turn meets the
     /// node of another holder, which has number `n` and is ready; fills the entry, but for its
-    /// ticket, and gives the child that the act gives birth to, if it does. The task has gone on.
-    /// After a refusal of memory both stand for the same cells.
+    /// ticket, and gives equal ones for both logs and the child that the act gives birth to, if it
+    /// does. The task has gone on. After a refusal of memory both stand for the same cells, and
+    /// their nodes have the same logs and waiters.
     pub fn prepare_meeting(
         &mut self,
         alloc: Global,
@@ -347,11 +393,13 @@ impl Holder {
         act: Act,
         onward: Onward,
         entry: &mut Entry,
-    ) -> Result<Option<Task>, NoMemory>
+    ) -> Result<Meeting, NoMemory>
         requires meets { CanMeet script.now self.old act onward }
         requires ready { IsTrue (is_ready met.old.node.state act) }
-        ensures ok { IfOk result (PreparesMeeting script.now self.old self.new met.old met.new k n
-            act onward.entry entry.new) }
+        ensures ok { IfOk result (λ meeting. PreparesMeeting script.now self.old self.new met.old
+            met.new k n act onward.entry entry.new meeting.child) }
+        ensures own { IfOk result (λ meeting. meeting.own ≡ entry.new) }
+        ensures twin { IfOk result (λ meeting. meeting.twin ≡ entry.new) }
         ensures err { OnErr result (AreAsBefore script.now self.old self.new met.old met.new) }
         ensures ticket { entry.new.ticket ≡ entry.old.ticket }
     {
@@ -363,42 +411,82 @@ impl Holder {
                 return Err(error);
             }
         };
-        match self.meet(alloc, script, met, &act, onward, entry) {
-            Ok(reply) => {
-                fill(entry, k, Some(n), act, reply);
-                Ok(child)
-            }
+        let reply = match self.meet(alloc, met, &act, entry) {
+            Ok(reply) => reply,
             Err(error) => {
                 drop(act);
+                drop(onward);
+                drop(child);
+                return Err(error);
+            }
+        };
+        fill(entry, k, Some(n), act, reply);
+        match self.prepare_both(alloc, script, onward, entry) {
+            Ok((own, twin)) => Ok(Meeting { own, twin, child }),
+            Err(error) => {
                 drop(child);
                 Err(error)
             }
         }
     }
 
-    /// Records a turn of its task that was prepared: its node serves the act. It takes no memory.
-    #[inline(always)]
-    pub fn record(&mut self, entry: &Entry)
-        requires room { HasRoom self.old.node entry.now.act }
-        requires job { IsTrue (is_job self.old.node.state) }
-        ensures { (script : List Procedure) → Records script self.old self.new entry.now.act }
+    /// Takes out who waits at its node, where the node is about to change.
+    fn wake(&mut self, changes: bool) -> Option<Waiters>
+        ensures woken { result ≡ (if changes then Some self.old.node.waiters else None) }
+        ensures node { self.new.node ≡ woken changes self.old.node }
+        ensures task { self.new.task ≡ self.old.task }
     {
-        if ends(&entry.act) {
-            self.node.serve(&entry.act);
+        if changes {
+            Some(self.node.take_waiters())
+        } else {
+            None
         }
     }
 
-    /// Records a turn that was prepared in the holder that it meets: its node serves the act, and
-    /// where it has no task it has the child, if there is one. It takes no memory.
-    pub fn record_met(&mut self, entry: &Entry, child: Option<Task>)
-        requires room { self.old.node.room ≡ room_for self.old.node.state entry.now.act }
-        requires takes_part { IsTrue (takes_part self.old.node.state entry.now.act) }
-        ensures { (script : List Procedure)
-            → Serves script self.old self.new entry.now.act child }
+    /// Records a turn of its task that was prepared, with its ticket: its node serves it. Who waits
+    /// at the node is taken out where the turn is the task's end, which changes the node. It takes
+    /// no memory.
+    pub fn record(&mut self, mut entry: Entry, ticket: u64) -> Option<Waiters>
+        requires room { HasRoom self.old.node entry.act }
+        requires job { IsTrue (is_job self.old.node.state) }
+        requires later { All (λ before. before.ticket < ticket) self.old.node.log }
+        ensures cell { (script : List Procedure) → Records script self.old self.new entry.act }
+        ensures log { self.new.node.log ≡ with_turn self.old.node.log entry ticket }
+        ensures woken { result ≡ (if ends entry.act then Some self.old.node.waiters else None) }
+        ensures waiters { self.new.node.waiters
+            ≡ (if ends entry.act then [] else self.old.node.waiters) }
     {
-        self.node.serve(&entry.act);
+        entry.ticket = ticket;
+        let woken = self.wake(ends(&entry.act));
+        self.node.serve(entry);
+        woken
+    }
+
+    /// Records a turn that was prepared in the holder that it meets, with its ticket: its node serves
+    /// it, and where it has no task it has the child, if there is one. Who waits at the node is taken
+    /// out unless the act only looks at it. It takes no memory.
+    pub fn record_met(
+        &mut self,
+        mut entry: Entry,
+        ticket: u64,
+        child: Option<Task>,
+    ) -> Option<Waiters>
+        requires room { HasRoom self.old.node entry.act }
+        requires takes_part { IsTrue (takes_part self.old.node.state entry.act) }
+        requires later { All (λ before. before.ticket < ticket) self.old.node.log }
+        ensures cell { (script : List Procedure)
+            → Serves script self.old self.new entry.act child }
+        ensures log { self.new.node.log ≡ with_turn self.old.node.log entry ticket }
+        ensures woken { result ≡ (if looks entry.act then None else Some self.old.node.waiters) }
+        ensures waiters { self.new.node.waiters
+            ≡ (if looks entry.act then self.old.node.waiters else []) }
+    {
+        entry.ticket = ticket;
+        let woken = self.wake(!looks(&entry.act));
+        self.node.serve(entry);
         if self.task.is_none() {
             self.task = child;
         }
+        woken
     }
 }

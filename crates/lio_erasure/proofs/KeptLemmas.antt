@@ -1,8 +1,9 @@
 -- A cell that is left out has no holder, whatever the turns do.
-use Rattle.std.proofs.Common.{◌≡◌, ◌∙◌, refl, sym, ap, subst, ℕ, Bool, true, false, true≢false, not, ◌||◌, IsTrue, List, [], Option, Some, None, is_some}
+use Rattle.std.proofs.Common.{◌≡◌, ◌∙◌, refl, sym, ap, subst, ℕ, ◌+◌, ◌<◌, Bool, true, false, true≢false, not, ◌||◌, IsTrue, List, [], ◌∷◌, ◌++◌, get_or, length, map, take, Option, Some, None, is_some}
 use Rattle.std.specs.Prelude.{slice_set}
 use Rattle.std.specs.Option.{option_map}
-use Rattle.std.proofs.lemmas.List.Elements.{All-set}
+use Rattle.std.proofs.lemmas.List.{map-append, take_more}
+use Rattle.std.proofs.lemmas.List.Elements.{All-push, All-set}
 use Rattle.lio_labels.specs.declared.label.Label.{Label}
 use Rattle.lio_values.specs.declared.value.Value.{Value}
 use Rattle.lio_values.specs.declared.act.Act.{Act}
@@ -14,12 +15,12 @@ use Rattle.lio_syntax.specs.Statements.{Procedure}
 use Rattle.lio_calculus.specs.Task.{TaskState}
 use Rattle.lio_calculus.specs.Step.{Cell}
 use Rattle.lio_calculus.specs.Hiding.{hide_task}
-use Rattle.lio_calculus.specs.Erased.{hide_cell, hide_state, sees}
+use Rattle.lio_calculus.specs.Erased.{erase_cell, hide_cell, hide_state, sees}
 use Rattle.lio_task.specs.declared.task.Task.{Task}
 use Rattle.lio_config.specs.declared.config.Holder.{Holder}
 use Rattle.lio_config.specs.Configuration.{cell_of}
 use Rattle.lio_task.specs.StateOf.{state_in}
-use Rattle.lio_erasure.specs.Low.{LeavesOutBlanks, is_kept}
+use Rattle.lio_erasure.specs.Low.{LeavesOutBlanks, is_kept, low_cell_of}
 
 -- a holder in the place of another one
 pub set-kept : (holders news : List (Option Holder)) (n : ℕ) (holder : Option Holder) → news ≡ slice_set holders n holder → IsTrue (is_kept holder) → LeavesOutBlanks holders → LeavesOutBlanks news
@@ -104,3 +105,18 @@ pub hidden-kept : (observer : Label) (holder other : Holder) → ((script : List
     → IsTrue (is_kept (Some other))
 hidden-kept observer holder other seen hides =
     kept-cell [] other (hide_cell observer (cell_of [] holder)) (hides []) (hidden-there observer (cell_of [] holder) (seen-there observer (cell_of [] holder) (sym (seen []))))
+
+-- one cell more is put behind those that are kept: it stands for the next holder, erased
+pub erased-next : (script : List Procedure) (observer : Label) (low news : List (Option Holder)) (holders : List Holder) (i : ℕ) (holder : Holder) (cell : Option Holder) → i < length holders → holder ≡ get_or holders i holder
+    → news ≡ low ++ cell ∷ [] → low_cell_of script cell ≡ erase_cell observer (cell_of script holder) → map (low_cell_of script) low ≡ map (erase_cell observer) (map (cell_of script) (take i holders))
+    → map (low_cell_of script) news ≡ map (erase_cell observer) (map (cell_of script) (take (i + 1) holders))
+erased-next script observer low news holders i holder cell within is pushed erased so_far =
+    ap (map (low_cell_of script)) pushed ∙ map-append (low_cell_of script) low (cell ∷ []) ∙ ap (λ (cells : List Cell). cells ++ low_cell_of script cell ∷ []) so_far
+    ∙ ap (λ (last : Cell). map (erase_cell observer) (map (cell_of script) (take i holders)) ++ last ∷ []) erased
+    ∙ sym (map-append (erase_cell observer) (map (cell_of script) (take i holders)) (cell_of script holder ∷ []))
+    ∙ ap (map (erase_cell observer))
+    (sym (map-append (cell_of script) (take i holders) (holder ∷ []))
+    ∙ ap (map (cell_of script)) (ap (λ (h : Holder). take i holders ++ h ∷ []) is ∙ sym (take_more holders i holder within)))
+
+pub kept-next : (low news : List (Option Holder)) (cell : Option Holder) → news ≡ low ++ cell ∷ [] → LeavesOutBlanks low → IsTrue (is_kept cell) → LeavesOutBlanks news
+kept-next low news cell pushed kept one = subst LeavesOutBlanks (sym pushed) (All-push (λ (holder : Option Holder). IsTrue (is_kept holder)) low cell kept one)

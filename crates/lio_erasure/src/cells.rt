@@ -214,7 +214,7 @@ fn reserve_in(alloc: Global, place: &mut Option<Holder>, act: &Act) -> Result<()
     ensures kept { IsTrue (is_kept place.old) → IsTrue (is_kept place.new) }
 {
     match place {
-        Some(holder) => holder.node.reserve(alloc, act),
+        Some(holder) => holder.node.reserve_state(alloc, act),
         None => Ok(()),
     }
 }
@@ -227,7 +227,7 @@ fn serve_in(place: &mut Option<Holder>, act: &Act)
     ensures kept { IsTrue (is_kept place.old) → IsTrue (is_kept place.new) }
 {
     match place {
-        Some(holder) => holder.node.serve(act),
+        Some(holder) => holder.node.renew(act),
         None => unreachable!(),
     }
 }

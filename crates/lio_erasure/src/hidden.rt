@@ -97,7 +97,7 @@ pub(crate) fn hidden(alloc: Global, holder: &Holder, observer: &Label) -> Result
         → cell_of script hidden ≡ hide_cell observer.now (cell_of script holder.now)) }
 {
     let state = hide_state(alloc, holder.node.state(), observer)?;
-    let node = Node::of(state);
+    let node = Node::of(alloc, state);
     let (node, task) = beside(node, hide_task(alloc, &holder.task, observer))?;
     Ok(Holder { node, task })
 }

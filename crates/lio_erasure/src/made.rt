@@ -21,10 +21,10 @@ fn made_node(alloc: Global, act: &Act) -> Result<Node, NoMemory>
     requires { IsTrue (makes act.now) }
     ensures { IfOk result (λ node. node.state ≡ state_after (State.Absent) act.now) }
 {
-    let mut node = Node::of(State::Absent);
-    match node.reserve(alloc, act) {
+    let mut node = Node::of(alloc, State::Absent);
+    match node.reserve_state(alloc, act) {
         Ok(()) => {
-            node.serve(act);
+            node.renew(act);
             Ok(node)
         }
         Err(error) => {

@@ -1,10 +1,8 @@
 -- What a machine keeps when it takes a turn.
-use Rattle.std.proofs.Common.{◌≡◌, ◌∙◌, refl, sym, ap, subst, ℕ, ◌<◌, ◌≤◌, ◌+◌, Bool, true, false, List, [], ◌∷◌, ◌++◌, length, length-append, arith, get_or, nat_lt, Some}
-use Rattle.std.proofs.Math.ListN.{get_or-append}
-use Rattle.std.proofs.Math.Seq.{get_or-append_seam}
-use borrow.Author.Tests.{ltb-true, ltb-false}
+use Rattle.std.proofs.Common.{◌≡◌, ◌∙◌, refl, sym, ap, subst, ℕ, ◌<◌, ◌+◌, List, [], ◌∷◌, ◌++◌, length, arith, All, Some}
+use Rattle.std.proofs.lemmas.List.Elements.{All-contains_itself, filter-append}
 use Rattle.lio_values.specs.declared.entry.Entry.{Entry}
-use Rattle.lio_events.specs.Rising.{AreRising}
+use Rattle.lio_calculus.specs.Effect.{touches}
 use Rattle.lio_calculus.specs.Run as calculus
 use Rattle.lio_calculus.specs.Run.{Ran}
 use Rattle.lio_calculus.specs.Step.{Configuration, Turn, step}
@@ -13,28 +11,11 @@ use Rattle.lio_calculus_rounds.proofs.TurnLemmas.{Parts, parts}
 use Rattle.lio_calculus_rounds.proofs.OrderLaws.{turn-keeps_order}
 use Rattle.lio_calculus_rounds.specs.Laws.{IsOrderOf}
 use Rattle.lio_calculus_rounds.proofs.Turns.{turn_keeps_well_formed}
-use Rattle.lio_rounds.specs.Invariant.{AreNumbered, IsMachine, IsRunTo}
+use Rattle.lio_calculus_logs.specs.Journals.{AreNumberedFrom, ArePartsOf, of_cell}
+use Rattle.lio_calculus_logs.specs.Logs.{Logs}
+use Rattle.lio_calculus_logs.proofs.JournalLemmas.{numbered-push, numbered-up_to, part-in}
+use Rattle.lio_rounds.specs.Invariant.{IsMachine, IsRunTo}
 use Rattle.lio_rounds.proofs.MachineRuns.{run-append, run-nothing, run-step}
-
--- one more entry, whose ticket is the number of those before it
-numbered_with : (entries : List Entry) (entry : Entry) → AreNumbered entries → entry.ticket ≡ length entries → AreNumbered (entries ++ entry ∷ [])
-numbered_with entries entry numbered next i d within = by_place (nat_lt i (length entries)) refl
-  where
-    long : length (entries ++ entry ∷ []) ≡ length entries + 1
-    long = length-append entries (entry ∷ [])
-
-    by_place : (b : Bool) → nat_lt i (length entries) ≡ b → (get_or (entries ++ entry ∷ []) i d).ticket ≡ i
-    by_place true e = let inside : i < length entries = ltb-true _ _ e in rw (get_or-append entries (entry ∷ []) d i inside) (numbered i d inside)
-    by_place false e =
-        let outside : length entries ≤ i = ltb-false _ _ e in
-        let last : i ≡ length entries = omega (arith, long) in
-        rw (last, get_or-append_seam entries entry [] d) next
-
--- numbered tickets rise
-pub numbered-rising : (entries : List Entry) → AreNumbered entries → AreRising entries
-numbered-rising entries numbered i j d before within =
-    let first : i < length entries = omega arith in
-    omega (arith, numbered i d first, numbered j d within)
 
 -- one more turn of a run
 run-turn : (c d : Configuration) (k : ℕ) (entry : Entry) (before now : List Entry) → IsRunTo c before → step (length before) c k ≡ Some (record { entry = entry; next = d }) → now ≡ before ++ entry ∷ [] → IsRunTo d now
@@ -60,9 +41,21 @@ pub machine-took : (c d : Configuration) (k : ℕ) (entry : Entry) (order listed
 machine-took c d k entry order listed before now machine steps lists last =
     let turn : Turn = record { entry = entry; next = d } in
     let p : Parts (length before) c k turn = parts (length before) c k turn steps in
+    let count : length before ≡ 0 + length before = omega arith in
     record {
       ran = run-turn c d k entry before now machine.ran steps last;
       well_formed = turn_keeps_well_formed (length before) c k p.task turn machine.well_formed p.is_task steps;
       lists = subst (IsOrderOf d) (sym lists) (turn-keeps_order (length before) c k turn order machine.well_formed.sound steps machine.lists);
-      numbered = subst AreNumbered (sym last) (numbered_with before entry machine.numbered (sym (ap (λ (t : Turn). t.entry.ticket) p.is_turn)));
+      numbered = subst (AreNumberedFrom 0) (sym last) (numbered-push 0 before entry machine.numbered (sym (ap (λ (t : Turn). t.entry.ticket) p.is_turn) ∙ count));
     }
+
+-- the ticket of the next turn is greater than all in the logs
+pub later-than-logs : (logs : Logs) (entries : List Entry) (ticket n : ℕ) → ArePartsOf entries logs → AreNumberedFrom 0 entries → ticket ≡ length entries → All (λ (before : Entry). before.ticket < ticket) (logs n)
+later-than-logs logs entries ticket n parts numbered is k d within =
+    let below = numbered-up_to 0 entries _ numbered (part-in logs entries parts numbered n _ (All-contains_itself (logs n) k d within)) in
+    omega (arith, below)
+
+-- logs that got an entry more are the parts of the journal with the entry
+pub parts-push : (old new : Logs) (entries : List Entry) (entry : Entry) (now : List Entry) → ArePartsOf entries old → ((n : ℕ) → new n ≡ old n ++ of_cell n (entry ∷ [])) → now ≡ entries ++ entry ∷ [] → ArePartsOf now new
+parts-push old new entries entry now parts got is n =
+    got n ∙ ap (λ log. log ++ of_cell n (entry ∷ [])) (parts n) ∙ sym (filter-append (touches n) entries (entry ∷ [])) ∙ ap (of_cell n) (sym is)

@@ -20,7 +20,8 @@ use Rattle.lio_start.proofs.NameLemmas.{runs_are_printable}
 use Rattle.lio_start.proofs.PowerLemmas.{releases_are_of_policy}
 use Rattle.lio_calculus.proofs.SendLemmas.{sends_are_seen}
 use Rattle.lio_rounds.specs.Headline.{IsRunOf, KeepsToPolicy}
-use Rattle.lio_rounds.specs.Runs.{IsByRounds, IsCompleteRun, RunsRounds, SeesChannels, actors}
+use Rattle.lio_calculus_logs.specs.Journals.{actors}
+use Rattle.lio_rounds.specs.Runs.{IsByRounds, IsCompleteRun, RunsRounds, SeesChannels}
 
 -- the actors of a run's journal are those that it was to run
 run-actors : (ticket : ℕ) (c : Configuration) (ks : List ℕ) (ran : calculus.Ran) → calculus.run ticket c ks ≡ Some ran → actors ran.entries ≡ ks
@@ -35,9 +36,13 @@ run-actors ticket c (k ∷ ks) ran is =
     ∙ ap (λ (j : ℕ). j ∷ actors f.rest.entries) (step_changes_two_cells ticket c k f.turn f.is_step).actor
     ∙ ap (λ (js : List ℕ). k ∷ js) (run-actors (ticket + 1) f.turn.next ks f.rest f.is_rest)
 
+-- so it is a run of its own actors
+pub run-own_actors : (c : Configuration) (ks : List ℕ) (ran : calculus.Ran) → calculus.run 0 c ks ≡ Some ran → calculus.run 0 c (actors ran.entries) ≡ Some ran
+run-own_actors c ks ran is = subst (λ (js : List ℕ). calculus.run 0 c js ≡ Some ran) (sym (run-actors 0 c ks ran is)) is
+
 rounds-complete : (c : Configuration) (ran : calculus.Ran) → RunsRounds c ran → IsCompleteRun c ran
 rounds-complete c ran is = record {
-  is_run = subst (λ (ks : List ℕ). calculus.run 0 c ks ≡ Some ran) (sym (run-actors 0 c (rounds c) ran is.is_run)) is.is_run;
+  is_run = run-own_actors c (rounds c) ran is.is_run;
   complete = is.complete;
   first = is.first;
   last = is.last;
@@ -64,12 +69,13 @@ keeps-to_policy job ks ran is runs =
       printable = runs_are_printable job.policy job.script job.inputs ks ran is.policy is.over runs;
     }
 
+-- a complete run from a job's first configuration is a run of the job
+pub complete-run_of_job : (job : JobParts) (ran : calculus.Ran) → IsJob job → IsCompleteRun (first_of job) ran → IsRunOf job ran
+complete-run_of_job job ran is complete = record { is_run = complete; keeps = keeps-to_policy job (actors ran.entries) ran is complete.is_run }
+
 -- the run of the rounds of a job is a complete run of it
 pub run-of_job : (job : JobParts) (ran : calculus.Ran) → IsJob job → RunsRounds (first_of job) ran → IsRunOf job ran
-run-of_job job ran is runs = record {
-  is_run = rounds-complete (first_of job) ran runs;
-  keeps = keeps-to_policy job (rounds (first_of job)) ran is runs.is_run;
-}
+run-of_job job ran is runs = complete-run_of_job job ran is (rounds-complete (first_of job) ran runs)
 
 -- and it is by rounds
 pub run-by_rounds : (c : Configuration) (ran : calculus.Ran) → RunsRounds c ran → IsByRounds c ran

@@ -1,14 +1,13 @@
 -- What a machine keeps beside its value.
-use Rattle.std.specs.Prelude.{◌≡◌, ◌<◌, ℕ, List, Some, length, slice_index_or}
+use Rattle.std.specs.Prelude.{◌≡◌, ℕ, List, Some}
 use Rattle.lio_values.specs.declared.entry.Entry.{Entry}
 use Rattle.lio_calculus.specs.Run.{run}
 use Rattle.lio_calculus.specs.Step.{Configuration}
+use Rattle.lio_calculus_logs.specs.Journals.{AreNumberedFrom, ArePartsOf}
 use Rattle.lio_calculus_rounds.specs.Laws.{IsOrderOf}
 use Rattle.lio_calculus_rounds.specs.WellFormed.{IsWellFormed}
-
--- each ticket is the number of entries before it
-abbrev pub AreNumbered : List Entry → Type 0
-AreNumbered entries = (i : ℕ) (d : Entry) → i < length entries → (slice_index_or entries i d).ticket ≡ i
+use Rattle.lio_config.specs.declared.config.Config.{Config}
+use Rattle.lio_config.specs.Logs.{log_in}
 
 -- the entries are a run that leads to the configuration, from a well-formed one in which no turn was taken
 pub record IsRunTo (c : Configuration) (entries : List Entry) : Type 0 where
@@ -22,4 +21,8 @@ pub record IsMachine (c : Configuration) (order : List ℕ) (entries : List Entr
   pub ran : IsRunTo c entries
   pub well_formed : IsWellFormed c
   pub lists : IsOrderOf c order
-  pub numbered : AreNumbered entries
+  pub numbered : AreNumberedFrom 0 entries
+
+-- the logs of a configuration's nodes are the parts of the entries
+pub record HasLogsOf (entries : List Entry) (config : Config) : Type 0 where
+  pub parts : ArePartsOf entries (log_in config)

@@ -1,5 +1,5 @@
 -- Complete runs, and runs by rounds.
-use Rattle.std.specs.Prelude.{◌≡◌, ℕ, List, IsTrue, Some, map, slice_get}
+use Rattle.std.specs.Prelude.{◌≡◌, ℕ, List, IsTrue, Some, slice_get}
 use Rattle.lio_labels.specs.declared.label.Label.{Label}
 use Rattle.lio_labels.specs.Flow.{flows}
 use Rattle.lio_values.specs.declared.entry.Entry.{Entry}
@@ -11,19 +11,22 @@ use Rattle.lio_calculus.specs.Step.{Configuration}
 use Rattle.lio_calculus.specs.Run as calculus
 use Rattle.lio_events.specs.Views.{view}
 use Rattle.lio_calculus.specs.Run.{run}
+use Rattle.lio_calculus_logs.specs.Journals.{AreMergeable, IsMerged, actors}
 use Rattle.lio_calculus_rounds.specs.Rounds.{IsComplete, rounds}
 use Rattle.lio_calculus_rounds.specs.LowLaws.{RoundsSeenAs}
 use Rattle.lio_calculus_rounds.specs.WellFormed.{IsWellFormed}
 use Rattle.lio_config.specs.Configuration.{configuration_of}
+use Rattle.lio_config.specs.Logs.{log_in}
 use Rattle.lio_rounds.specs.declared.by_rounds.Ran.{Ran}
 
 -- the run that the code's journal and configuration stand for, with a script
 abbrev pub ran_of : List Procedure → Ran → calculus.Ran
 ran_of script ran = record { entries = ran.journal; last = configuration_of script ran.config }
 
--- the tasks that took the turns of a journal, in order
-abbrev pub actors : List Entry → List ℕ
-actors entries = map (λ entry. entry.actor) entries
+-- A run's configuration has the logs of its journal: they can be merged, and the journal is their merge.
+pub record HasItsLogs (ran : Ran) : Type 0 where
+  pub mergeable : AreMergeable (log_in ran.config)
+  pub merged : IsMerged (log_in ran.config) ran.journal
 
 -- A complete run: the turns of those who took them, with tickets from 0, after which no task can take one; the first and the last configuration are well-formed.
 pub record IsCompleteRun (c : Configuration) (ran : calculus.Ran) : Type 0 where

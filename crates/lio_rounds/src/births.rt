@@ -6,7 +6,7 @@ ghost use Rattle.lio_rounds.specs.Births.{ended_in, listed};
 use lio_values::{Act, Entry};
 
 /// The task to which a turn gave birth, by its entry.
-pub(crate) fn born_in(entry: &Entry) -> Option<u32>
+pub fn born_in(entry: &Entry) -> Option<u32>
     ensures { listed result ≡ born_in entry.now }
 {
     match entry.act {
@@ -17,7 +17,7 @@ pub(crate) fn born_in(entry: &Entry) -> Option<u32>
 }
 
 /// The task that a turn ended, by its entry.
-pub(crate) fn ended_in(entry: &Entry) -> Option<u32>
+pub fn ended_in(entry: &Entry) -> Option<u32>
     ensures { result ≡ ended_in entry.now }
 {
     match entry.act {

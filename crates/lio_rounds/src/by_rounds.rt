@@ -2,7 +2,7 @@
 ghost use Rattle.std.specs.Prelude.{IfOk};
 ghost use Rattle.lio_start.specs.Job.{IsJob, first_of};
 ghost use Rattle.lio_rounds.specs.Headline.{IsRunOf};
-ghost use Rattle.lio_rounds.specs.Runs.{IsByRounds, RunsRounds, ran_of};
+ghost use Rattle.lio_rounds.specs.Runs.{HasItsLogs, IsByRounds, RunsRounds, ran_of};
 
 use crate::Machine;
 use lio_clauses::NoMemory;
@@ -22,6 +22,7 @@ pub struct Ran {
 fn run_to_the_end(alloc: Global, job: &Job) -> Result<Ran, NoMemory>
     ensures rounds { IfOk result (λ it. RunsRounds (first_of job.now) (ran_of job.now.script it)) }
     ensures job { IsJob job.now }
+    ensures logs { IfOk result HasItsLogs }
 {
     let script = job.script().copy(alloc)?;
     let config = start(alloc, job)?;
@@ -35,6 +36,7 @@ fn run_to_the_end(alloc: Global, job: &Job) -> Result<Ran, NoMemory>
 pub fn run(alloc: Global, job: &Job) -> Result<Ran, NoMemory>
     ensures run { IfOk result (λ it. IsRunOf job.now (ran_of job.now.script it)) }
     ensures rounds { IfOk result (λ it. IsByRounds (first_of job.now) (ran_of job.now.script it)) }
+    ensures logs { IfOk result HasItsLogs }
 {
     run_to_the_end(alloc, job)
 }

@@ -10,6 +10,7 @@ pub mod laws;
 mod machine;
 mod places;
 
+pub use births::{born_in, ended_in};
 pub use by_rounds::{Ran, run};
 pub use by_schedule::{Scheduled, run_by_schedule};
 pub use lio_config::StepFault as TurnFault;

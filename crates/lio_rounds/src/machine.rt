@@ -26,7 +26,7 @@ pub struct Machine {
 impl Model for Machine {
     ghost use Rattle.lio_config.specs.Configuration.{configuration_of};
     ghost use Rattle.lio_rounds.specs.MachineParts.{MachineParts, machine_code};
-    ghost use Rattle.lio_rounds.specs.Invariant.{IsMachine};
+    ghost use Rattle.lio_rounds.specs.Invariant.{HasLogsOf, IsMachine};
     ghost use Rattle.lio_rounds.specs.Sleep.{SleepersMay};
 
     ghost Value = { MachineParts };
@@ -41,7 +41,8 @@ impl Model for Machine {
     } };
 
     ghost invariant = { λ m. let c = configuration_of m.script m.config
-        in IsMachine c m.order.items m.entries.items × SleepersMay c m.order.items m.awake };
+        in IsMachine c m.order.items m.entries.items × SleepersMay c m.order.items m.awake
+        × HasLogsOf m.entries.items m.config };
 }
 
 impl Machine {
@@ -53,15 +54,19 @@ impl Machine {
     ghost use Rattle.lio_calculus_rounds.specs.Round.{round};
     ghost use Rattle.lio_calculus_rounds.specs.Laws.{IsOrderOf};
     ghost use Rattle.lio_calculus_rounds.specs.Rounds.{IsComplete, rounds_from, stepped, tasks};
+    ghost use Rattle.lio_calculus_logs.specs.Journals.{AreMergeable, IsMerged};
+    ghost use Rattle.lio_config.specs.Logs.{AreFresh, log_in};
     ghost use Rattle.lio_config.specs.Takes.{Stays};
     ghost use Rattle.lio_rounds.specs.MachineState.{HasBegun, HasRun, HasTaken, HasWalked};
     ghost use Rattle.lio_rounds.specs.Schedule.{HasGoneOn};
     ghost use Rattle.lio_rounds.specs.MachineParts.{machine_of};
     ghost use Rattle.lio_rounds.specs.MachineLaws.{HasRunSeen, IsSeenAsErased};
 
-    /// A machine that has taken no turn, of a well-formed configuration.
+    /// A machine that has taken no turn, of a well-formed configuration in which no node has served
+    /// one.
     pub fn new(alloc: Global, config: Config, script: Script) -> Result<Machine, NoMemory>
-        requires { IsWellFormed (configuration_of script config) }
+        requires well_formed { IsWellFormed (configuration_of script config) }
+        requires fresh { AreFresh config }
         ensures { IfOk result (λ machine. let c = configuration_of script config
             in machine_of machine ≡ record {
               script = script;
@@ -268,8 +273,8 @@ impl Machine {
         self.run_rounds(alloc)
     }
 
-    /// Gives the journal of the turns taken, and the configuration after them. Each observer sees
-    /// of both what the erased calculus gives.
+    /// Gives the journal of the turns taken, and the configuration after them, whose nodes have their
+    /// logs: the journal is their merge. Each observer sees of both what the erased calculus gives.
     pub fn finish(self) -> (Journal, Config)
         ensures journal { result.0 ≡ (machine_of self).entries }
         ensures configuration { configuration_of (machine_of self).script result.1
@@ -277,6 +282,8 @@ impl Machine {
         ensures well_formed { IsWellFormed (machine_of self).configuration }
         ensures seen { HasRunSeen (machine_of self) }
         ensures since { IsSeenAsErased (machine_of self) }
+        ensures mergeable { AreMergeable (log_in result.1) }
+        ensures merged { IsMerged (log_in result.1) result.0 }
     {
         (Journal::of(self.entries), self.config)
     }

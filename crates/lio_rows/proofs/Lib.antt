@@ -1,1 +1,2 @@
 pub mod LowNames
+pub mod LogRows

@@ -2,6 +2,7 @@
 #![tactic(auto)]
 
 mod hints;
+mod logs;
 mod low;
 mod policies;
 mod refusal;

@@ -2,7 +2,7 @@
 use Rattle.std.proofs.Common.{◌≡◌, ◌∙◌, refl, sym, ap, subst, ℕ, false, ◌+◌, ◌<◌, ◌≤◌, List, [], ◌∷◌, ◌++◌, length, map, take, drop, get_or, IsTrue, Option, Some, None, arith, append_assoc, append-nil}
 use Rattle.std.specs.Prelude.{option_and_then, replicate, slice_get}
 use Rattle.std.proofs.lemmas.List.{drop_all, map-append, take_all, take_more, replicate_more}
-use Rattle.std.proofs.lemmas.List.Elements.{All-head, All-tail}
+use Rattle.std.proofs.lemmas.List.Elements.{All-head, All-push, All-tail}
 use Rattle.std.proofs.lemmas.List.Sums.{sum_by-cons}
 use Rattle.lio_labels.specs.declared.label.Label.{Label}
 use Rattle.lio_labels.specs.Flow.{flows}
@@ -17,6 +17,7 @@ use Rattle.lio_calculus.specs.Step.{Cell, blank, body_of, child_of, parameters_o
 use Rattle.lio_task_turns.specs.StateOf.{program_of}
 use Rattle.lio_config.specs.declared.config.Holder.{Holder}
 use Rattle.lio_config.specs.Configuration.{cell_of}
+use Rattle.lio_config.specs.Logs.{HaveNoLogs}
 use Rattle.lio_policy.specs.Policy.{PolicyParts, IsPolicy}
 use Rattle.lio_policy.specs.declared.policy.FileEntry.{FileEntry}
 use Rattle.lio_policy.specs.declared.policy.TaskEntry.{TaskEntry}
@@ -194,3 +195,8 @@ started policy script texts longest count channels tasks inputs none with_channe
     ∙ ap (λ (ts : List TaskEntry). parts channels ts (inputs_of policy texts) (cells_in_all ts)) same_tasks
     ∙ ap (λ (cs : List FileEntry). parts cs policy.tasks (inputs_of policy texts) (cells_in_all policy.tasks)) same_channels)
     ∙ ap (λ (n : ℕ). record { program = program_of script n; cells = parts policy.channels policy.tasks (inputs_of policy texts) (cells_in_all policy.tasks) }) same_longest
+
+-- holders whose nodes have served nothing, with one more
+pub no-logs-push : (holders : List Holder) (holder : Holder) (after : List Holder) → after ≡ holders ++ holder ∷ [] → HaveNoLogs holders → holder.node.log ≡ [] → HaveNoLogs after
+no-logs-push holders holder after is none new =
+    subst HaveNoLogs (sym is) (All-push (λ (h : Holder). h.node.log ≡ []) holders holder none new)

@@ -1,5 +1,5 @@
 //! Tasks as they begin, with their jobs.
-ghost use Rattle.std.specs.Prelude.{◌≡◌, IfOk, None};
+ghost use Rattle.std.specs.Prelude.{◌≡◌, [], IfOk, None};
 ghost use Rattle.lio_cells.specs.Node.{node_of};
 ghost use Rattle.lio_cells.specs.declared.state.State.{State};
 ghost use Rattle.lio_cells.specs.declared.state.State.TheVariants as state;
@@ -69,7 +69,8 @@ fn task(
 fn job_node(alloc: Global, label: &Label) -> Result<Node, NoMemory>
     ensures { IfOk result (λ node. node ≡ node_of (state.Job label.now None)) }
 {
-    Ok(Node::of(State::Job(label.copy(alloc)?, None)))
+    let label = label.copy(alloc)?;
+    Ok(Node::of(alloc, State::Job(label, None)))
 }
 
 /// A job with its task, whose range of numbers begins at the given one.
@@ -81,8 +82,9 @@ pub(crate) fn job(
     entry: &TaskEntry,
 ) -> Result<Holder, NoMemory>
     requires { CanBegin script.now first entry.now }
-    ensures { IfOk result (λ holder. cell_of script.now holder
+    ensures cell { IfOk result (λ holder. cell_of script.now holder
         ≡ job_cell script.now inputs.now first entry.now) }
+    ensures fresh { IfOk result (λ holder. holder.node.log ≡ []) }
 {
     let node = job_node(alloc, &entry.clearance)?;
     match task(alloc, script, inputs, first, entry) {

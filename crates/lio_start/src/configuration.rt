@@ -2,6 +2,7 @@
 ghost use Rattle.std.specs.Prelude.{◌≡◌, IfOk};
 ghost use Rattle.lio_calculus_rounds.specs.WellFormed.{IsWellFormed};
 ghost use Rattle.lio_config.specs.Configuration.{configuration_of};
+ghost use Rattle.lio_config.specs.Logs.{AreFresh};
 ghost use Rattle.lio_start.specs.Job.{first_of};
 
 use crate::holders::{add_channels, add_free, add_jobs, cells_in_all};
@@ -12,12 +13,13 @@ use lio_config::Config;
 use std::alloc::Global;
 
 /// Makes the first configuration of a job: the channels, then the tasks, then the numbers that the
-/// tasks own.
+/// tasks own. No node has served a turn.
 pub fn start(alloc: Global, job: &Job) -> Result<Config, NoMemory>
     ensures config { IfOk result (λ config. configuration_of job.now.script config
         ≡ first_of job.now) }
     ensures well_formed { IfOk result (λ config.
         IsWellFormed (configuration_of job.now.script config)) }
+    ensures fresh { IfOk result AreFresh }
 {
     let policy = job.policy();
     let script = job.script();
@@ -33,7 +35,7 @@ pub fn start(alloc: Global, job: &Job) -> Result<Config, NoMemory>
     let mut holders = Vec::new(alloc);
     add_channels(alloc, channels, &mut holders)?;
     add_jobs(alloc, script, &inputs, first, tasks, &mut holders)?;
-    add_free(cells_in_all(tasks), &mut holders)?;
+    add_free(alloc, cells_in_all(tasks), &mut holders)?;
     Ok(Config {
         holders,
         longest: policy.longest,

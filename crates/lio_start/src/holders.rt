@@ -1,9 +1,10 @@
 //! Holders of a first configuration, put behind each other: those of the channels, of the tasks,
 //! and of the numbers that the tasks own.
-ghost use Rattle.std.specs.Prelude.{◌≡◌, ◌<◌, ◌^◌, IfOk, OnOk, List, map, replicate};
+ghost use Rattle.std.specs.Prelude.{◌≡◌, ◌<◌, ◌^◌, [], IfOk, OnOk, List, map, replicate};
 ghost use Rattle.lio_syntax.specs.Statements.{Procedure};
 ghost use Rattle.lio_calculus.specs.Step.{blank};
 ghost use Rattle.lio_config.specs.Configuration.{cell_of};
+ghost use Rattle.lio_config.specs.Logs.{HaveNoLogs};
 ghost use Rattle.lio_start.specs.Start.{cells_in_all, channel_cell, job_cells};
 ghost use Rattle.lio_start.specs.Making.{Adds, CanBeginAll};
 
@@ -18,19 +19,21 @@ use std::alloc::Global;
 
 /// A channel that has received nothing.
 fn channel(alloc: Global, channel: &FileEntry) -> Result<Holder, NoMemory>
-    ensures { IfOk result (λ holder. (script : List Procedure)
+    ensures cell { IfOk result (λ holder. (script : List Procedure)
         → cell_of script holder ≡ channel_cell channel.now) }
+    ensures fresh { IfOk result (λ holder. holder.node.log ≡ []) }
 {
     let label = channel.label.copy(alloc)?;
-    let node = Node::of(State::Chan(label, Bytes::new()));
+    let node = Node::of(alloc, State::Chan(label, Bytes::new()));
     Ok(Holder { node, task: None })
 }
 
 /// What stands at a number that holds nothing.
-fn free() -> Holder
-    ensures { (script : List Procedure) → cell_of script result ≡ blank }
+fn free(alloc: Global) -> Holder
+    ensures cell { (script : List Procedure) → cell_of script result ≡ blank }
+    ensures fresh { result.node.log ≡ [] }
 {
-    let node = Node::of(State::Absent);
+    let node = Node::of(alloc, State::Absent);
     Holder { node, task: None }
 }
 
@@ -40,8 +43,10 @@ pub(crate) fn add_channels(
     channels: &[FileEntry],
     holders: &mut Vec<Holder>,
 ) -> Result<(), NoMemory>
-    ensures { OnOk result ((script : List Procedure)
+    ensures adds { OnOk result ((script : List Procedure)
         → Adds script holders.old.items holders.new.items (map channel_cell channels.now)) }
+    ensures fresh { OnOk result
+        (HaveNoLogs holders.old.items → HaveNoLogs holders.new.items) }
 {
     for entry in channels {
         holders.push(channel(alloc, entry)?)?;
@@ -60,8 +65,10 @@ pub(crate) fn add_jobs(
     holders: &mut Vec<Holder>,
 ) -> Result<(), NoMemory>
     requires { CanBeginAll script.now first tasks.now }
-    ensures { OnOk result (Adds script.now holders.old.items holders.new.items
+    ensures adds { OnOk result (Adds script.now holders.old.items holders.new.items
         (job_cells script.now inputs.now first tasks.now)) }
+    ensures fresh { OnOk result
+        (HaveNoLogs holders.old.items → HaveNoLogs holders.new.items) }
 {
     let mut next = first;
     for entry in tasks {
@@ -72,12 +79,14 @@ pub(crate) fn add_jobs(
 }
 
 /// Puts so many numbers behind the holders that hold nothing.
-pub(crate) fn add_free(count: u32, holders: &mut Vec<Holder>) -> Result<(), NoMemory>
-    ensures { OnOk result ((script : List Procedure)
+pub(crate) fn add_free(alloc: Global, count: u32, holders: &mut Vec<Holder>) -> Result<(), NoMemory>
+    ensures adds { OnOk result ((script : List Procedure)
         → Adds script holders.old.items holders.new.items (replicate count blank)) }
+    ensures fresh { OnOk result
+        (HaveNoLogs holders.old.items → HaveNoLogs holders.new.items) }
 {
     for _n in 0..count {
-        holders.push(free())?;
+        holders.push(free(alloc))?;
     }
     Ok(())
 }

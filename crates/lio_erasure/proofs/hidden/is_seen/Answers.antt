@@ -19,5 +19,5 @@ returns-in-Some c = λ script.
 pub returns-in-None : goal.returns-in-None
 returns-in-None c = λ script.
     let observer = c.args.observer.now in
-    c.is_below.ensures ∙ ap (λ (state : State). option_map_or (λ (label : Label). flows label observer) (label_of state) false) c.state.ensures
+    c.is_below.ensures ∙ ap (λ (state : State). option_map_or (λ (label : Label). flows label observer) (label_of state) false) c.state.ensures.state
     ∙ sym (ap (λ (task : Option Task). let cell : Cell = record { state = c.args.holder.now.node.state; task = option_map (state_in script) task } in sees observer cell) c.in-None.is)

@@ -6,7 +6,7 @@ use Rattle.lio_cells.specs.State.{is_job}
 use Rattle.lio_erasure.proofs.ActLemmas.{made-ready}
 use Rattle.lio_erasure.proofs.made.made_node.Goals as goal
 
-pub serve-requires-clause-takes_part : goal.serve-requires-clause-takes_part
-serve-requires-clause-takes_part c =
+pub renew-requires-clause-takes_part : goal.renew-requires-clause-takes_part
+renew-requires-clause-takes_part c =
     ap (λ (s : State). takes_part s c.args.act.now) (ap (λ (node : NodeState). node.state) c.in-Ok.ensures.ok ∙ ap (λ (node : NodeState). node.state) c.of-node.ensures)
     ∙ ap (λ (b : Bool). b || is_job Absent) (made-ready c.args.act.now c.requires)

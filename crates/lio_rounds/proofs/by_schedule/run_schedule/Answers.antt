@@ -14,8 +14,8 @@ use Rattle.lio_rounds.specs.Schedule.{ScheduledRun, scheduled_of}
 use Rattle.lio_rounds.proofs.ScheduleLemmas.{IsSoFar, so_far-end, so_far-next, so_far-none}
 use Rattle.lio_rounds.proofs.by_schedule.run_schedule.Goals as goal
 
-pub new-requires : goal.new-requires
-new-requires c =
+pub new-requires-clause-well_formed : goal.new-requires-clause-well_formed
+new-requires-clause-well_formed c =
     let same = c.in_ok-script.ensures ∙ c.script.ensures.script in
     subst (λ (script : List Procedure). IsWellFormed (configuration_of script c.in_ok-config.config)) (sym same) c.in_ok-config.ensures.well_formed
 

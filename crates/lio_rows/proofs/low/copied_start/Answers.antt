@@ -12,4 +12,4 @@ returns c =
     let config = c.in_ok-config.config in
     IfOk-weaker c.copy-copy.result (λ (copy : Config). (s : List Procedure) → configuration_of s copy ≡ configuration_of s config)
     (λ (copy : Config). configuration_of job.script copy ≡ first_of job)
-    (λ copy e. e job.script ∙ c.in_ok-config.ensures.config) c.copy-copy.ensures
+    (λ copy e. e job.script ∙ c.in_ok-config.ensures.config) c.copy-copy.ensures.configuration

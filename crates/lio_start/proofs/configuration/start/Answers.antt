@@ -1,5 +1,8 @@
-use Rattle.std.proofs.Common.{◌∙◌, ◌+◌, List, ℕ, length, ap, sym, subst}
+use Rattle.std.proofs.Common.{◌≡◌, ◌∙◌, ◌+◌, List, [], ℕ, length, ap, sym, subst}
+use Rattle.std.proofs.lemmas.List.Elements.{All-nil}
 use Rattle.lio_syntax.specs.Statements.{Procedure}
+use Rattle.lio_config.specs.declared.config.Holder.{Holder}
+use Rattle.lio_config.specs.Logs.{HaveNoLogs}
 use Rattle.lio_calculus_rounds.specs.WellFormed.{IsWellFormed}
 use Rattle.lio_policy.specs.Policy.{PolicyParts}
 use Rattle.lio_policy.specs.declared.policy.FileEntry.{FileEntry}
@@ -32,7 +35,7 @@ returns c =
     let longest = c.policy.inside.longest in
     let jobs =
     subst (λ (script : List Procedure). Adds script c.add_channels.new.holders.items c.add_jobs.new.holders.items (job_cells script c.in_ok-inputs.inputs (length channels + length tasks) tasks)) c.script-script.ensures.script
-    c.in_ok-add_jobs.ensures in
+    c.in_ok-add_jobs.ensures.adds in
     let made =
     started job.policy job.script job.inputs longest c.cells_in_all.result channels tasks c.in_ok-inputs.inputs
     c.new-holders.result.items c.add_channels.new.holders.items c.add_jobs.new.holders.items c.add_free.new.holders.items
@@ -42,5 +45,5 @@ returns c =
     ∙ ap (λ (inputs : List FileEntry). sealed_inputs longest inputs c.inputs.result.now) c.as_slice.ensures
     ∙ ap (λ (texts : List (List ℕ)). sealed_inputs longest c.policy.inside.inputs texts) c.inputs.ensures.inputs
     ∙ ap (λ (p : PolicyParts). sealed_inputs p.longest p.inputs job.inputs) policy_is)
-    c.cells_in_all.ensures c.new-holders.ensures.items (c.in_ok-add_channels.ensures job.script) jobs (c.in_ok-add_free.ensures job.script) in
-    record { config = made; well_formed = subst IsWellFormed (sym made) (start_is_well_formed job.policy job.script job.inputs is.policy is.literals is.rules) }
+    c.cells_in_all.ensures c.new-holders.ensures.items (c.in_ok-add_channels.ensures.adds job.script) jobs (c.in_ok-add_free.ensures.adds job.script) in
+    record { config = made; well_formed = subst IsWellFormed (sym made) (start_is_well_formed job.policy job.script job.inputs is.policy is.literals is.rules); fresh = c.in_ok-add_free.ensures.fresh (c.in_ok-add_jobs.ensures.fresh (c.in_ok-add_channels.ensures.fresh (subst HaveNoLogs (sym c.new-holders.ensures.items) (All-nil (λ (h : Holder). h.node.log ≡ []))))) }

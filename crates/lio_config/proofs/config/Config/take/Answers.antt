@@ -59,14 +59,14 @@ full-requires-clause-plans c =
 pub returns-in-Short-clause-sound : goal.returns-in-Short-clause-sound
 returns-in-Short-clause-sound c =
     let script = c.args.script.now in
-    take-sound (configuration_of script c.args.self.now) (configuration_of script c.own_step.new.self) c.args.k c.args.ticket c.own_step.new.entry c.own_step.result c.requires c.own_step.ensures.ok
+    take-sound (configuration_of script c.args.self.now) (configuration_of script c.own_step.new.self) c.args.k c.args.ticket c.own_step.new.entry c.own_step.result c.requires.sound c.own_step.ensures.ok
 
 pub returns-in_ok-act-in-Ends-clause-sound : goal.returns-in_ok-act-in-Ends-clause-sound
 returns-in_ok-act-in-Ends-clause-sound c =
     let script = c.args.script.now in
-    take-sound (configuration_of script c.args.self.now) (configuration_of script c.own.new.self) c.args.k c.args.ticket c.own.new.entry c.own.result c.requires c.own.ensures.ok
+    take-sound (configuration_of script c.args.self.now) (configuration_of script c.own.new.self) c.args.k c.args.ticket c.own.new.entry c.own.result c.requires.sound c.own.ensures.ok
 
 pub returns-in-Full-clause-sound : goal.returns-in-Full-clause-sound
 returns-in-Full-clause-sound c =
     let script = c.args.script.now in
-    take-sound (configuration_of script c.args.self.now) (configuration_of script c.full.new.self) c.args.k c.args.ticket c.full.new.entry c.full.result c.requires c.full.ensures.ok
+    take-sound (configuration_of script c.args.self.now) (configuration_of script c.full.new.self) c.args.k c.args.ticket c.full.new.entry c.full.result c.requires.sound c.full.ensures.ok

@@ -1,7 +1,8 @@
 use Rattle.std.proofs.Common.{◌∙◌, sym}
-use Rattle.lio_config.specs.Configuration.{cell_of}
-use Rattle.lio_config.proofs.LentLemmas.{job-recorded}
+use Rattle.lio_config.proofs.LentLemmas.{nobody-waits, state-kept}
 use Rattle.lio_config.proofs.config.Holder.record.Goals as goal
 
-pub returns-else-ends : goal.returns-else-ends
-returns-else-ends c = λ script. job-recorded (cell_of script c.args.self.now) c.args.entry.now.act c.requires.job (sym c.ends.ensures ∙ c.if-ends.false)
+pub serve-requires-clause-nobody : goal.serve-requires-clause-nobody
+serve-requires-clause-nobody c =
+    let node = c.args.self.now.node in
+    nobody-waits node c.wake-woken.new.self.node c.args.entry.act c.ends.result c.wake-woken.ensures.node (λ still. state-kept node.state c.args.entry.act c.requires.job (sym c.ends.ensures ∙ still))

@@ -13,7 +13,7 @@ returns-then-has_label c = λ script longest kind meets.
     let state = c.in-Some.holder.now.node.state in
     let asked = c.args.act.now in
     let handle = c.args.handle.now in
-    c.ready.ensures ∙ ap (λ (b : Bool). b && ready state asked) (c.if-has_label.ensures ∙ ap (λ (s : State). has_label s handle.label) c.state.ensures)
+    c.ready.ensures ∙ ap (λ (b : Bool). b && ready state asked) (c.if-has_label.ensures ∙ ap (λ (s : State). has_label s handle.label) c.state.ensures.state)
     ∙ ready-named kind handle state asked meets
     ∙ sym (ap (λ (x : Cell). ready (met (Node kind handle) x.state) asked) (cell-low script longest c.args.self.now handle.number (Some c.in-Some.holder.now) (sym c.holder.ensures ∙ ap option_copied c.in-Some.is)))
 
@@ -22,7 +22,7 @@ returns-else-has_label c = λ script longest kind meets.
     let state = c.in-Some.holder.now.node.state in
     let asked = c.args.act.now in
     let handle = c.args.handle.now in
-    c.if-has_label.false ∙ ap (λ (b : Bool). b && ready state asked) (c.if-has_label.ensures ∙ ap (λ (s : State). has_label s handle.label) c.state.ensures)
+    c.if-has_label.false ∙ ap (λ (b : Bool). b && ready state asked) (c.if-has_label.ensures ∙ ap (λ (s : State). has_label s handle.label) c.state.ensures.state)
     ∙ ready-named kind handle state asked meets
     ∙ sym (ap (λ (x : Cell). ready (met (Node kind handle) x.state) asked) (cell-low script longest c.args.self.now handle.number (Some c.in-Some.holder.now) (sym c.holder.ensures ∙ ap option_copied c.in-Some.is)))
 

@@ -2,12 +2,15 @@ use Rattle.std.proofs.Common.{◌≡◌, ◌∙◌, ℕ, List, [], ◌∷◌, �
 use Rattle.lio_values.specs.declared.entry.Entry.{Entry}
 use Rattle.lio_calculus.specs.Step.{Configuration, Turn, step}
 use Rattle.lio_calculus_rounds.specs.Round.{born_in}
+use Rattle.lio_calculus_logs.specs.Journals.{of_cell}
 use Rattle.lio_config.specs.Configuration.{configuration_of}
+use Rattle.lio_config.specs.Logs.{log_in}
 use Rattle.lio_rounds.specs.Births.{listed as listed_by}
 use Rattle.lio_rounds.specs.Invariant.{IsMachine}
 use Rattle.lio_rounds.specs.MachineParts.{MachineParts, machine_of}
 use Rattle.lio_rounds.specs.MachineState.{HasTaken, MachineState}
-use Rattle.lio_rounds.proofs.MachineLemmas.{machine-took}
+use Rattle.lio_rounds.specs.Sleep.{SleepersMay}
+use Rattle.lio_rounds.proofs.MachineLemmas.{later-than-logs, machine-took, parts-push}
 use Rattle.lio_rounds.proofs.SleepLemmas.{KeepsNoted, Wakes, sleepers-kept}
 use Rattle.lio_rounds.proofs.machine.Machine.advance.Goals as goal
 use Rattle.lio_rounds.proofs.machine.Machine.advance.Goals.{in-Some, in_default}
@@ -39,6 +42,7 @@ invariant_of-self-in-Ok c =
             took,
             sleepers-kept (length before) here next c.args.k entry order listed (born_in entry) c.self.inside.awake c.wake_met.new.self c.self.invariant.0.well_formed.sound took.well_formed.sound
                 steps lists c.self.invariant.1 woken noted,
+            record { parts = parts-push (log_in c.self.inside.config) (log_in c.take.new.self) before entry now c.self.invariant.2.parts c.in-Ok.ensures.logs (pushed ∙ ap (λ (es : List Entry). es ++ entry ∷ []) c.try_reserve.ensures.items) },
           )
       | in_default w ↦
           let now : List Entry = c.push_reserved-in-Ok.new.self.items in
@@ -54,8 +58,25 @@ invariant_of-self-in-Ok c =
             took,
             sleepers-kept (length before) here next c.args.k entry order listed (born_in entry) c.self.inside.awake c.wake_met.new.self c.self.invariant.0.well_formed.sound took.well_formed.sound
                 steps lists c.self.invariant.1 woken noted,
+            record { parts = parts-push (log_in c.self.inside.config) (log_in c.take.new.self) before entry now c.self.invariant.2.parts c.in-Ok.ensures.logs (pushed ∙ ap (λ (es : List Entry). es ++ entry ∷ []) c.try_reserve.ensures.items) },
           )
     ]
+
+pub invariant_of-self-in-Err : goal.invariant_of-self-in-Err
+invariant_of-self-in-Err c =
+    let script = c.self.inside.script in
+    let here : Configuration = configuration_of script c.self.inside.config in
+    let next : Configuration = configuration_of script c.take.new.self in
+    let order : List ℕ = c.self.inside.order.items in
+    let before : List Entry = c.self.inside.entries.items in
+    let listed : List ℕ = c.try_reserve-else-is_err.new.self.items in
+    let same : here ≡ next = sym c.in-Err.ensures.err in (
+      subst (IsMachine next listed) (sym c.try_reserve.ensures.items)
+          (subst (λ (ks : List ℕ). IsMachine next ks before) (sym c.try_reserve-else-is_err.ensures.items) (subst (λ (d : Configuration). IsMachine d order before) same c.self.invariant.0)),
+      subst (λ (ks : List ℕ). SleepersMay next ks c.self.inside.awake) (sym c.try_reserve-else-is_err.ensures.items)
+          (subst (λ (d : Configuration). SleepersMay d order c.self.inside.awake) same c.self.invariant.1),
+      record { parts = λ n. c.in-Err.ensures.kept n ∙ c.self.invariant.2.parts n ∙ ap (of_cell n) (sym c.try_reserve.ensures.items) },
+    )
 
 pub returns-after-born_in-clause-ok : goal.returns-after-born_in-clause-ok
 returns-after-born_in-clause-ok c =
@@ -101,5 +122,10 @@ returns-after-born_in-clause-ok c =
           rw w.self-inside-is (entry, subst (λ (m : MachineParts). HasTaken (machine_of m) is c.args.k entry) c.self.view_is taken)
     ]
 
-pub take-requires : goal.take-requires
-take-requires c = c.self.invariant.0.well_formed.sound
+pub take-requires-clause-sound : goal.take-requires-clause-sound
+take-requires-clause-sound c = c.self.invariant.0.well_formed.sound
+
+pub take-requires-clause-later : goal.take-requires-clause-later
+take-requires-clause-later c = λ n.
+    later-than-logs (log_in c.self.inside.config) c.self.inside.entries.items c.ticket-ticket.result n c.self.invariant.2.parts c.self.invariant.0.numbered
+    (c.ticket-ticket.ensures ∙ ap (λ (es : List Entry). length es) c.try_reserve.ensures.items)

@@ -1,4 +1,7 @@
-use Rattle.std.proofs.Common.{subst}
+use Rattle.std.proofs.Common.{subst, sym}
+use Rattle.lio_calculus_logs.specs.Journals.{IsMerged}
+use Rattle.lio_calculus_logs.proofs.JournalLemmas.{numbered-rising, parts-mergeable, parts-merged}
+use Rattle.lio_config.specs.Logs.{log_in}
 use Rattle.lio_rounds.specs.MachineLaws.{HasRunSeen}
 use Rattle.lio_rounds.specs.MachineParts.{MachineParts, machine_of}
 use Rattle.lio_rounds.proofs.SeenLemmas.{has_run-seen, seen_as_erased}
@@ -11,3 +14,13 @@ returns-clause-seen c =
 
 pub returns-clause-since : goal.returns-clause-since
 returns-clause-since c = seen_as_erased (machine_of c.args.self)
+
+pub of-requires : goal.of-requires
+of-requires c = numbered-rising 0 c.self.inside.entries.items c.self.invariant.0.numbered
+
+pub returns-clause-mergeable : goal.returns-clause-mergeable
+returns-clause-mergeable c = parts-mergeable (log_in c.self.inside.config) c.self.inside.entries.items c.self.invariant.2.parts c.self.invariant.0.numbered
+
+pub returns-clause-merged : goal.returns-clause-merged
+returns-clause-merged c =
+    subst (IsMerged (log_in c.self.inside.config)) (sym c.of.ensures) (parts-merged (log_in c.self.inside.config) c.self.inside.entries.items c.self.invariant.2.parts c.self.invariant.0.numbered)

@@ -34,4 +34,5 @@ invariant_of-self c =
       c.self.invariant.0,
       sleepers-more here order c.self.inside.awake c.rest.new.self c.awaited-node.result i task.task c.self.invariant.0.well_formed.sound c.self.invariant.1 inside task.is still task.awaits
           c.rest.ensures.asleep c.rest.ensures.waiting,
+      c.self.invariant.2,
     )

@@ -1,0 +1,7 @@
+use Rattle.std.proofs.Common.{◌∙◌, sym, subst, All}
+use Rattle.lio_events.specs.Printable.{IsPrintable}
+use Rattle.lio_policy.specs.Policy.{PolicyParts}
+use Rattle.lio_rows.proofs.logs.merge_told.Goals as goal
+
+pub print_journal-text-requires : goal.print_journal-text-requires
+print_journal-text-requires c = subst (λ (p : PolicyParts). All (IsPrintable p.names) c.in_ok-journal.journal) (sym (c.policy.view_is ∙ c.policy-policy.ensures.policy)) c.in_ok-journal.ensures

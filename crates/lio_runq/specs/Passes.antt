@@ -1,0 +1,25 @@
+-- What contracts see of a pass.
+use Rattle.std.specs.Prelude.{ℕ}
+use Rattle.atomic_blocks.specs.declared.web.Seat.{Seat}
+use Rattle.crossbeam_queue.specs.declared.seg_queue.Going.{Going}
+use Rattle.crossbeam_queue.specs.SegTies.{SegId, IsSegPassOf}
+use Rattle.std.specs.Prelude.{Option}
+use Rattle.lio_runq.specs.declared.rule.PassView.{PassView}
+
+module _ {A : Type 0} where
+  -- what a pass has done
+  abbrev pub done_by : Seat (Option ℕ) (Going ℕ PassView) A → PassView
+  done_by seat = seat.me.view.client
+
+  abbrev pub made_of : Seat (Option ℕ) (Going ℕ PassView) A → ℕ
+  made_of seat = (done_by seat).made
+
+  abbrev pub left_of : Seat (Option ℕ) (Going ℕ PassView) A → ℕ
+  left_of seat = (done_by seat).left
+
+  abbrev pub pops_of : Seat (Option ℕ) (Going ℕ PassView) A → ℕ
+  pops_of seat = (done_by seat).pops
+
+  -- it is a pass of this queue
+  abbrev pub IsPassOf : SegId A → Seat (Option ℕ) (Going ℕ PassView) A → Type 0
+  IsPassOf queue seat = IsSegPassOf queue seat
