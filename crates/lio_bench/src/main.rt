@@ -8,7 +8,7 @@ mod policies;
 mod turns;
 
 use asked::Asked;
-use lio_outside::RealStore;
+use lio_system::RealStore;
 use std::process::ExitCode;
 use std::{env, io};
 
@@ -26,7 +26,7 @@ fn is_done(rt: &HostRuntime) -> bool {
     let Some(asked) = Asked::of_words(words.as_slice()) else {
         return false;
     };
-    asked.is_done(rt.alloc(), &mut RealStore::new(rt))
+    asked.is_done(rt.alloc(), &mut RealStore::new(rt.alloc(), rt))
 }
 
 fn main(rt: HostRuntime) -> ExitCode {

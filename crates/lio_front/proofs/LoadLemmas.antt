@@ -1,10 +1,10 @@
 -- The steps before a run: the texts that aren't read, and how the steps stand together.
-use Rattle.std.proofs.Common.{◌≡◌, ◌∙◌, sym, ap, refl, subst, ℕ, ◌≤◌, arith, List, Option, Some, None, Result, Ok, Err, inl, inr}
+use Rattle.std.proofs.Common.{◌≡◌, ◌∙◌, ap, refl, ℕ, ◌≤◌, arith, List, Option, Some, None, Ok, Err, inl, inr}
 use Rattle.std.specs.Prelude.{◌⊎◌}
 use Rattle.lio_outside.specs.FileMap.{FileMap}
-use Rattle.lio_outside.specs.Steps.{Steps, Over, ◌>>=◌, asked, told_as, unless}
+use Rattle.lio_outside.specs.Steps.{Steps, Over, ◌>>=◌, asked, unless}
 use Rattle.lio_outside.proofs.StepsLemmas.{give-then, refuse-behind, refuse-first}
-use Rattle.lio_outside.specs.Asking.{Give, Refuse}
+use Rattle.lio_outside.specs.Asking.{Give}
 use Rattle.lio_labels.specs.declared.label.Label.{Label}
 use Rattle.lio_policy.specs.declared.policy.Policy.{Policy}
 use Rattle.lio_policy_draft.specs.declared.fault.PolicyFault.{PolicyFault}
@@ -22,7 +22,7 @@ use Rattle.lio_start.specs.declared.fault.StartFault.{StartFault}
 use Rattle.lio_start.specs.declared.fault.StartFault.TheVariants as start_fault
 use Rattle.lio_start.specs.Fits.{fits}
 use Rattle.lio_front.specs.declared.fault.FrontFault.{FrontFault}
-use Rattle.lio_front.specs.declared.fault.FrontFault.TheVariants.{Missing, ReadFault, BadLabel, BadPolicy, BadScript, BadStart, NoMemory}
+use Rattle.lio_front.specs.declared.fault.FrontFault.TheVariants.{Missing, BadScript, NoMemory}
 use Rattle.lio_front.specs.declared.loading.Front.{Front}
 use Rattle.lio_front.specs.Causes.{Says, cause_of}
 use Rattle.lio_front.specs.Loading.{loading, of_policy, of_script, of_start, policy_from, policy_steps, script_from, script_steps, steps_under}

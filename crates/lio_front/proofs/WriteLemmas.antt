@@ -1,22 +1,20 @@
 -- What the files are that a run writes.
-use Rattle.std.proofs.Common.{◌≡◌, ◌≢◌, ◌∙◌, sym, ap, refl, subst, ℕ, zero, suc, ◌+◌, ◌<◌, ◌≤◌, arith, Bool, true, false, List, [], ◌∷◌, ◌++◌, map, length, get_or, take, drop, Option, Some, None, slice_get, append_assoc, inl, inr, Result, Ok, Err, OnOk, IfErr}
+use Rattle.std.proofs.Common.{◌≡◌, ◌≢◌, ◌∙◌, sym, ap, refl, subst, ℕ, zero, suc, ◌+◌, ◌<◌, ◌≤◌, arith, Bool, true, false, List, [], ◌∷◌, ◌++◌, map, length, get_or, take, drop, Option, Some, None, slice_get, inl, inr, Result, Ok, Err, OnOk, IfErr}
 use Rattle.std.proofs.lemmas.List.{length-take-le, take_all, map-append, take-append-drop}
-use Rattle.lio_outside.specs.FileMap.{FileMap, bytes_of}
-use Rattle.lio_outside.specs.Count.{Rose}
+use Rattle.lio_outside.specs.FileMap.{FileMap}
 use Rattle.lio_outside.specs.Keep.{PartlyKept}
-use Rattle.lio_outside.specs.Outputs.{Output, kept, KeepsFirst, StopsAt}
+use Rattle.lio_outside.specs.Outputs.{Output, kept, StopsAt}
 use Rattle.lio_outside.specs.Taken.{first_taken}
 use Rattle.lio_outside.proofs.CountLemmas.{Rose-in_part}
 use Rattle.lio_outside.proofs.OutputLemmas.{AreApart, AreOthers, IsOneOf, apart-free, each-holds, keeps-before, keeps-behind, kept-append, one-before, one-behind, others-append, others-stay, stops-before, stops-behind}
 use Rattle.lio_values.specs.declared.entry.Entry.{Entry}
-use Rattle.lio_events.specs.ChannelBytes.{channel_bytes}
 use Rattle.lio_events.specs.JournalText.{journal_text}
 use Rattle.lio_policy.specs.declared.policy.FileEntry.{FileEntry}
 use Rattle.lio_policy.specs.Policy.{PolicyParts}
 use Rattle.lio_front.specs.declared.fault.OutFault.{OutFault}
 use Rattle.lio_front.specs.declared.fault.OutFault.TheVariants.{WriteFault, NoMemory}
 use Rattle.lio_front.specs.Clash.{clash, is_read, names_written}
-use Rattle.lio_front.specs.Laws.{IsUnwritten, OutputsHoldEachFile, name_list}
+use Rattle.lio_front.specs.Laws.{OutputsHoldEachFile, name_list}
 use Rattle.lio_front.specs.Outputs.{journal_output, output_of, outputs, outputs_from, OutSays}
 use Rattle.lio_front.proofs.InputLemmas.{take-next}
 

@@ -10,7 +10,6 @@ ghost use Rattle.lio_front.specs.Loading.{loading, observer_from, policy_steps};
 ghost use Rattle.lio_front.specs.Loading.{script_steps, steps_under};
 ghost use Rattle.lio_outside.specs.Steps.{asked};
 ghost use Rattle.lio_front.specs.declared.fault.FrontFault.TheVariants.{Missing as missing};
-ghost use Rattle.lio_front.specs.declared.fault.FrontFault.TheVariants.{NoMemory as without_memory};
 
 use crate::fault::FrontFault;
 use lio_clauses::{Names, beside};

@@ -2,10 +2,11 @@
 
 use crate::respond;
 use lio_host_main::{HostStatus, Outcome, host_main};
-use lio_host_refusals::{detail_of, refusal_text};
-use lio_outside::{MemSay, MemStore};
+use lio_host_refusals::{detail_of, refusal_text, trouble_text};
+use lio_outside::{MemSay, MemStore, Trouble};
 use std::alloc::{AllocError, Global};
 use std::fs::Files;
+use std::io;
 use std::process::ExitCode;
 use std::test::Fail;
 
@@ -202,6 +203,21 @@ fn is_expected(alloc: Global, expected: &Part, answer: &HostStatus) -> Result<bo
     Ok(status.as_str() == expected.about.as_str())
 }
 
+/// Why a call of the store failed, where a case says it.
+fn why(alloc: Global, case: &Case) -> Result<Option<String>, Fail> {
+    if let Some(part) = case.part("trouble") {
+        let error = io::Error::from_raw_os_error(part.about.as_str().parse::<i32>()?);
+        return Ok(Some(trouble_text(alloc, Trouble::System(error))?));
+    }
+    match case.part("same") {
+        Some(part) => {
+            let trouble = Trouble::SameFile(part.about.as_bytes());
+            Ok(Some(trouble_text(alloc, trouble)?))
+        }
+        None => Ok(None),
+    }
+}
+
 /// Whether what is printed of an answer begins as a case says.
 fn begins_as_said(
     alloc: Global,
@@ -211,7 +227,8 @@ fn begins_as_said(
     policy: &str,
     script: &str,
 ) -> Result<bool, Fail> {
-    let found = detail_of(alloc, answer, policy.as_bytes(), script.as_bytes())?;
+    let why = why(alloc, case)?;
+    let found = detail_of(alloc, answer, why, policy.as_bytes(), script.as_bytes())?;
     let said = refusal_text(alloc, answer, words, &found);
     drop(found);
     Ok(said?.as_str().starts_with(case.text("says").unwrap_or("")))
@@ -316,7 +333,10 @@ fn holds_wherever<R: AllocGlobal + Files + Eprint>(
     if case.part("cut_each").is_none() {
         return holds(rt, case, policy, script);
     }
-    for end in 0..policy.rfind('}').unwrap_or(0) {
+    let Some(last) = policy.rfind('}') else {
+        return Ok(false);
+    };
+    for end in 0..=last {
         if !holds(rt, case, policy.get(..end).unwrap_or(policy), script)? {
             return Ok(false);
         }

@@ -14,6 +14,10 @@ mod cases;
 #[cfg(test)]
 mod cut;
 #[cfg(test)]
+mod examples;
+#[cfg(test)]
+mod examples_of_tasks;
+#[cfg(test)]
 mod limits;
 #[cfg(test)]
 mod outputs;
@@ -26,7 +30,8 @@ mod worked;
 
 use lio_host_main::{HostStatus, Outcome, host_main};
 use lio_host_refusals::{print_refusal, refusal_detail};
-use lio_outside::{RealSay, RealStore, Say, Store};
+use lio_outside::{Say, Store};
+use lio_system::{RealSay, RealStore};
 use std::fs::Files;
 use std::process::ExitCode;
 use std::{env, io, mem};
@@ -82,7 +87,7 @@ fn respond<R: AllocGlobal + Files + Eprint, S: Store, W: Say>(
 fn main(rt: HostRuntime) -> ExitCode {
     // Words that can't be had as text are wrong words.
     let words = words(&rt).unwrap_or(Vec::new(rt.alloc()));
-    let mut store = RealStore::new(&rt);
+    let mut store = RealStore::new(rt.alloc(), &rt);
     let mut say = RealSay::new(&rt);
     respond(&rt, words.as_slice(), &mut store, &mut say)
 }

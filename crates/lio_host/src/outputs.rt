@@ -114,6 +114,34 @@ file v
 |2 - <True %% True> raise unlabel <alice %% True> : ok
 absent h
 entries 10
+case a child whose turns are used up, and the history
+input a.txt
+|x~
+words
+|--history
+|h
+|p.json
+|s.lio
+status Done
+file out.txt
+file h
+|0 1 2 <True %% True> fork 1 <alice %% True> <alice %% True> 5 3 0 sealed<alice %% True>("x") : ok
+|1 1 - <True %% True> raise wait <alice %% True> : ok
+|2 2 - <True %% True> raise unlabel <alice %% True> : ok
+|3 2 - <alice %% True> step : ok
+|4 2 - <alice %% True> step : ok
+|5 2 - <alice %% True> step : ok
+|6 2 - <alice %% True> step : ok
+|7 2 - <alice %% True> ended fault(no_turns at <alice %% True>) : ok
+|8 1 2 <alice %% True> wait : told fault(no_turns at <alice %% True>)
+|9 1 - <alice %% True> ended fault(no_turns at <alice %% True>) : ok
+absent v
+said
+|tasks 2
+|ended 2
+|turns 10
+|channel out 0
+entries 10
 case a secret that its owner releases, and the history
 policy
 |{"version":1,"longest":4096,"principals":["alice","bob"],~
@@ -165,7 +193,7 @@ file h
 |0 1 - <True %% True> release <alice %% True> <True %% True> power<bob> hidden : no flow_privilege power<bob> <alice %% True> <True %% True> at <True %% True>
 |1 1 - <True %% True> ended fault(flow_privilege power<bob> <alice %% True> <True %% True> at <True %% True>) : ok
 entries 2
-case two calendars, and the summary
+case two calendars, the summary, and what anyone sees of them
 policy
 |{"version":1,"longest":4096,"principals":["alice","bob"],~
 |"channels":[{"name":"out","label":"True %% True","file":"out.txt"},~
@@ -216,11 +244,29 @@ input b.txt
 |1011~
 input note_in.txt
 |lunch~
+words
+|p.json
+|s.lio
+|--view
+|v
+|--observer
+|True %% True
 status Done
 file out.txt
 |lunch~
 file both.txt
 |2~
+file v
+|2 3 <True %% True> fork 1 <alice %% True> <alice %% True> 20 4 0 sealed<alice %% True>(hidden) : ok
+|2 4 <True %% True> fork 1 <bob %% True> <bob %% True> 20 5 0 sealed<bob %% True>(hidden) : ok
+|3 - <True %% True> raise unlabel <alice %% True> : ok
+|2 5 <True %% True> spawn 2 <alice /\ bob %% True> <alice /\ bob %% True> 60 6 0 chan#1<alice /\ bob %% True> result#3<alice %% True> result#4<bob %% True> : ok
+|4 - <True %% True> raise unlabel <bob %% True> : ok
+|2 - <True %% True> release <alice %% True> <True %% True> power<alice> "lunch" : ok
+|5 - <True %% True> raise wait <alice %% True> : ok
+|2 - <True %% True> raise unlabel <True %% True> : ok
+|2 0 <True %% True> send "lunch" : ok
+|2 - <True %% True> ended unit : ok
 said
 |tasks 4
 |ended 4
@@ -310,6 +356,8 @@ words
 |--workers
 |65
 status BadWords
+says
+|lio_host: BadWords: "--workers" is no option, and no name~
 absent out.txt
 case a view without an observer
 input a.txt
@@ -321,7 +369,7 @@ words
 |v
 status BadWords
 says
-|lio_host: BadWords: there are to be two names~
+|lio_host: BadWords: `--view` needs `--observer` beside it~
 absent out.txt
 case an observer without a view
 input a.txt
@@ -332,6 +380,8 @@ words
 |--observer
 |True %% True
 status BadWords
+says
+|lio_host: BadWords: `--observer` needs `--view` beside it~
 absent out.txt
 case an unknown option
 input a.txt
@@ -353,6 +403,8 @@ words
 |--hist
 |h
 status BadWords
+says
+|lio_host: BadWords: "--hist" is no option, and no name~
 absent out.txt
 case help is no option
 input a.txt
@@ -360,6 +412,8 @@ input a.txt
 words
 |--help
 status BadWords
+says
+|lio_host: BadWords: "--help" is no option, and no name~
 absent out.txt
 case an option comes twice
 input a.txt
@@ -371,6 +425,8 @@ words
 |h
 |--history=g
 status BadWords
+says
+|lio_host: BadWords: `--history` comes twice; each option comes once~
 absent out.txt
 case a value is missing
 input a.txt
@@ -391,6 +447,8 @@ words
 |s.lio
 |--history=
 status BadWords
+says
+|lio_host: BadWords: the value of `--history` may not be "": a value isn't empty and doesn't begin with `-`~
 absent out.txt
 case a value begins with a dash
 input a.txt
@@ -429,6 +487,8 @@ words
 |s.lio
 |--history=h
 status BadWords
+says
+|lio_host: BadWords: "--history=h" is no option, and no name~
 absent out.txt
 case two dashes are dropped once
 input a.txt
@@ -439,6 +499,8 @@ words
 |--
 |s.lio
 status BadWords
+says
+|lio_host: BadWords: "--" is no option, and no name~
 absent out.txt
 case options stand before, between and behind the names
 input a.txt
@@ -481,6 +543,8 @@ words
 |--observer
 |alice
 status BadWords
+says
+|lio_host: BadWords: "alice" is no label over the policy's principals~
 absent out.txt
 case a label is read after the policy
 input a.txt
@@ -505,6 +569,8 @@ words
 |--observer
 |alice
 status BadWords
+says
+|lio_host: BadWords: "alice" is no label over the policy's principals~
 absent out.txt
 case a history that a channel writes
 input a.txt
@@ -558,6 +624,8 @@ words
 |1
 |p.json
 status BadWords
+says
+|lio_host: BadWords: "p.json" is a name, and with `--make` there is to be none~
 absent out.txt
 case a workload of none
 input a.txt
@@ -566,6 +634,8 @@ words
 |--make
 |0
 status BadWords
+says
+|lio_host: BadWords: the value of `--make` may not be "0": it is a number from 1 to 256~
 absent out.txt
 case a workload of too many
 input a.txt
@@ -574,6 +644,8 @@ words
 |--make
 |257
 status BadWords
+says
+|lio_host: BadWords: the value of `--make` may not be "257": it is a number from 1 to 256~
 absent out.txt
 case a workload with a sign
 input a.txt
@@ -582,6 +654,8 @@ words
 |--make
 |+1
 status BadWords
+says
+|lio_host: BadWords: the value of `--make` may not be "+1"~
 absent out.txt
 case a workload with a zero in front
 input a.txt
@@ -590,5 +664,7 @@ words
 |--make
 |01
 status BadWords
+says
+|lio_host: BadWords: the value of `--make` may not be "01"~
 absent out.txt
 "#;

@@ -11,6 +11,7 @@
 //! | `cut NAME N`, `byte NAME PLACE` | a file has its first N bytes alone, or the byte 0xFF at a place |
 //! | `cut_each` | the case holds wherever the policy is cut before its last brace |
 //! | `fail N`, `failsay N` | call N of the store fails, or of the output |
+//! | `trouble N`, `same NAME` | why that call fails: an error of the system, or that the file has another name |
 //! | `status STATUS`, `exit N` | the answer, and the exit status of the program |
 //! | `file NAME`, `absent NAME` | what a file holds afterwards, or that it isn't there |
 //! | `says` | how the words begin that are printed of the answer |
@@ -115,6 +116,42 @@ file log of today.txt
 |hi~
 absent out.txt
 entries 2
+case a line end is no part of a number
+policy
+|{"version":1,"longest":4096,"principals":[],~
+|"channels":[{"name":"out","label":"True %% True","file":"out.txt"}],~
+|"inputs":[{"name":"a","label":"True %% True","file":"a.txt"}],~
+|"tasks":[{"name":"main","proc":"main","label":"True %% True","clearance":"True %% True","turns":20,"cells":0,"args":[{"channel":"out"},{"input":"a"}]}]}~
+script
+|proc main c a
+|unlabel t a
+|try
+|  let n = num t
+|catch code what
+|  let s = str code
+|  send c s
+|end
+|let t = t + "\n"
+|let end_of_line = t find "\n"
+|let t = t upto end_of_line
+|let n = num t
+|let n = n + 2
+|let s = str n
+|send c s
+|end
+input a.txt
+|40
+status Done
+file out.txt
+|542~
+entries 13
+case a number without a line end
+input a.txt
+|40~
+status Done
+file out.txt
+|42~
+entries 12
 "#;
 
 /// Policies that are refused.
@@ -472,6 +509,54 @@ status WriteFault(out\n\x1b.txt)
 says
 |lio_host: WriteFault(out\n\x1b.txt): the file couldn't be written~
 entries 2
+case the system says why a file isn't read
+fail 0
+trouble 21
+status ReadFault(p.json)
+says
+|lio_host: ReadFault(p.json): the policy's file couldn't be read: Is a directory (os error 21)~
+case the second of two channels finds no room
+policy
+|{"version":1,"longest":4096,"principals":[],~
+|"channels":[{"name":"out","label":"True %% True","file":"out.txt"},{"name":"log","label":"True %% True","file":"log.txt"}],~
+|"inputs":[],~
+|"tasks":[{"name":"main","proc":"main","label":"True %% True","clearance":"True %% True","turns":20,"cells":0,"args":[{"channel":"out"}]}]}~
+fail 3
+trouble 28
+status WriteFault(log.txt)
+says
+|lio_host: WriteFault(log.txt): the file couldn't be written: No space left on device (os error 28); channels written before it: 1 of 2~
+file out.txt
+|hi~
+absent log.txt
+entries 2
+case the first of two channels may not be written
+fail 2
+trouble 13
+status WriteFault(out.txt)
+says
+|lio_host: WriteFault(out.txt): the file couldn't be written: Permission denied (os error 13); channels written before it: 0 of 2~
+absent out.txt
+absent log.txt
+entries 2
+case a channel's file is that of another channel
+fail 3
+same ./out.txt
+status WriteFault(log.txt)
+says
+|lio_host: WriteFault(log.txt): the file couldn't be written: it is the same file as ./out.txt, which was read or written before; give it a file of its own; channels written before it: 1 of 2~
+entries 2
+case a history isn't written behind two channels
+words
+|p.json
+|s.lio
+|--history=h
+fail 4
+status WriteFault(h)
+says
+|lio_host: WriteFault(h): the file couldn't be written; see that it and its folder may be written, and that there is room; channels written before it: 2 of 2~
+file log.txt
+entries 2
 "#;
 
 /// Words that give no command, and what the options write.
@@ -480,30 +565,38 @@ words
 status BadWords
 exit 1
 says
-|lio_host: BadWords: there are to be two names~
+|lio_host: BadWords: the names of the policy and of the script are missing~
 absent out.txt
 case one word
 words
 |p.json
 status BadWords
+says
+|lio_host: BadWords: the name of the script is missing behind "p.json", the policy's~
 absent out.txt
 case an empty name
 words
 |p.json
 |
 status BadWords
+says
+|lio_host: BadWords: "" is no option, and no name: a name isn't empty and doesn't begin with `-`~
 absent out.txt
 case a policy that begins with a dash
 words
 |-a
 |s.lio
 status BadWords
+says
+|lio_host: BadWords: "-a" is no option, and no name~
 absent out.txt
 case a script that is a dash
 words
 |p.json
 |-
 status BadWords
+says
+|lio_host: BadWords: "-" is no option, and no name~
 absent out.txt
 case three words
 words
@@ -511,5 +604,7 @@ words
 |s.lio
 |c
 status BadWords
+says
+|lio_host: BadWords: "c" is a third name; there are to be two, the policy's and the script's~
 absent out.txt
 "#;

@@ -2,6 +2,8 @@
 
 use crate::cases::first_failing;
 use crate::cut::CUT;
+use crate::examples::EXAMPLES;
+use crate::examples_of_tasks::EXAMPLES_OF_TASKS;
 use crate::limits::{FULL_POLICY, written_out};
 use crate::outputs::{OPTIONS, OUTPUTS};
 use crate::rows::{CLASHES, FAULTS, REFUSED_POLICIES, REFUSED_SCRIPTS, RUNS, WRONG_WORDS};
@@ -69,6 +71,16 @@ fn words_are_two_names(rt: HostRuntime) -> Result<(), Fail> {
 #[test]
 fn tasks_run_over_labelled_inputs(rt: HostRuntime) -> Result<(), Fail> {
     assert_all_hold(&rt, WORKED_RUNS)
+}
+
+#[test]
+fn examples_run(rt: HostRuntime) -> Result<(), Fail> {
+    assert_all_hold(&rt, EXAMPLES)
+}
+
+#[test]
+fn examples_of_tasks_run(rt: HostRuntime) -> Result<(), Fail> {
+    assert_all_hold(&rt, EXAMPLES_OF_TASKS)
 }
 
 #[test]

@@ -1,5 +1,5 @@
 -- What is written and said of a run, as far as it comes.
-use Rattle.std.proofs.Common.{◌≡◌, ◌∙◌, ap, refl, subst, sym, arith, ℕ, ◌≤◌, List, [], ◌++◌, Option, Some, None, All}
+use Rattle.std.proofs.Common.{◌≡◌, ◌∙◌, ap, refl, subst, sym, arith, ℕ, ◌≤◌, List, [], Option, Some, None, All}
 use Rattle.std.proofs.lemmas.List.{append-nil}
 use Rattle.std.proofs.lemmas.List.Elements.{All-nil}
 use Rattle.lio_labels.specs.declared.label.Label.{Label}

@@ -1,8 +1,8 @@
 -- How the steps of a command stand together.
-use Rattle.std.proofs.Common.{◌≡◌, ◌∙◌, refl, sym, ap, subst, ℕ, ◌≤◌, arith, List, [], Option, Some, None, Result, Ok, Err, inl, inr}
-use Rattle.std.specs.Prelude.{◌⊎◌, IfOk, IfErr}
+use Rattle.std.proofs.Common.{◌≡◌, refl, sym, ap, subst, ℕ, ◌≤◌, arith, List, [], Option, Some, None, Result, Ok, Err}
+use Rattle.std.specs.Prelude.{IfOk, IfErr}
 use Rattle.lio_outside.specs.FileMap.{FileMap}
-use Rattle.lio_outside.specs.Count.{Rose, greatest_count}
+use Rattle.lio_outside.specs.Count.{Rose}
 use Rattle.lio_outside.specs.Steps.{Steps, Over, Ask, ◌>>=◌, steps_told_as, unless}
 use Rattle.lio_outside.specs.Asking.{Cause, IsNotThere, IsNotRead, IsWanting, IsSaid, IsNever, Give, Refuse}
 use Rattle.lio_outside.proofs.StepsLemmas.{give-refused, give-then, give-told, refuse-behind, refuse-first, refuse-told}

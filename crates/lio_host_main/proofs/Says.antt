@@ -3,7 +3,6 @@ use Rattle.std.proofs.Common.{◌≡◌, ◌≤◌, ◌∙◌, sym, ap, subst, a
 use Rattle.std.specs.Prelude.{IfSome, ◌⊎◌}
 use Rattle.lio_outside.specs.FileMap.{FileMap}
 use Rattle.lio_outside.specs.Fetch.{given}
-use Rattle.lio_outside.specs.Count.{Rose}
 use Rattle.lio_outside.specs.Steps.{Steps, outcome}
 use Rattle.lio_outside.specs.Asking.{Cause, IsNotThere, IsNotRead, IsWanting, IsSaid, IsNever, Give, Refuse}
 use Rattle.lio_outside.proofs.CountLemmas.{Rose-in_part, IsMissing-in_part}
@@ -23,7 +22,7 @@ use Rattle.lio_host_main.specs.Order.{Order, seen_by, view_file, written}
 use Rattle.lio_host_main.specs.StatusOf.{cause_of}
 use Rattle.lio_host_main.specs.Workload.{made_files}
 use Rattle.lio_host_main.specs.Verdict.{files_of, names_read, told_of, IsVerdict, IsVerdictBy, prepared, verdict, verdict_by}
-use Rattle.lio_host_main.specs.Answers.{Outside, Call, NothingDone, Refused, RunsOrder, Finishes, Ends, SaysBadWords, SaysDone, SaysNoMemory, Says, Follows, answer_of, journal_with}
+use Rattle.lio_host_main.specs.Answers.{Call, NothingDone, Refused, RunsOrder, Finishes, Ends, SaysBadWords, SaysDone, SaysNoMemory, Says, Follows, answer_of, journal_with}
 use Rattle.lio_host_main.proofs.Prepares.{none-taken}
 
 -- the verdict over the files of a store that tells

@@ -1,15 +1,11 @@
 -- Two views that are the same.
-use Rattle.std.proofs.Common.{◌≡◌, ◌∙◌, sym, ap, subst, ℕ, false, List, Option, Some}
-use Rattle.lio_labels.specs.declared.label.Label.{Label}
-use Rattle.lio_values.specs.declared.entry.Entry.{Entry}
-use Rattle.lio_values.specs.declared.value.Content.{Content}
+use Rattle.std.proofs.Common.{◌≡◌, ◌∙◌, sym, ap, false, Some}
 use Rattle.lio_events.specs.JournalText.{journal_text}
-use Rattle.lio_events.specs.Views.{releases, view}
+use Rattle.lio_events.specs.Views.{releases}
 use Rattle.lio_calculus.specs.Erased.{erase}
-use Rattle.lio_calculus.specs.Run.{LowRan, Ran}
+use Rattle.lio_calculus.specs.Run.{LowRan}
 use Rattle.lio_calculus.specs.Step.{Configuration}
 use Rattle.lio_calculus_rounds.specs.LowRounds.{low_run_by_rounds}
-use Rattle.lio_rounds.specs.Runs.{IsByRounds}
 use Rattle.lio_host_main.specs.Laws.{ViewFilesAreAlike}
 
 same_Some : {A : Type 0} (x y : A) → Some x ≡ Some y → x ≡ y

@@ -11,7 +11,6 @@ use Rattle.lio_front.specs.Summary.{summary_text}
 use Rattle.lio_calculus.specs.Run.{Ran}
 use Rattle.lio_calculus.specs.Step.{Configuration}
 use Rattle.lio_start.specs.Job.{first_of}
-use Rattle.lio_start.specs.declared.job.Job.{Job}
 use Rattle.lio_rounds.specs.Headline.{IsRunOf}
 use Rattle.lio_rounds.specs.Runs.{IsByRounds}
 use Rattle.lio_host_words.specs.Command.{Command, command_of}

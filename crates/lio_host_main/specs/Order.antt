@@ -8,7 +8,7 @@ use Rattle.lio_outside.specs.Outputs.{Output}
 use Rattle.lio_front.specs.Laws.{name_list}
 use Rattle.lio_front.specs.Outputs.{outputs}
 use Rattle.lio_start.specs.declared.job.Job.{Job}
-use Rattle.lio_host_words.specs.Command.{Command, Watch}
+use Rattle.lio_host_words.specs.Command.{Command}
 use Rattle.lio_host_words.specs.Sorted.{named}
 use Rattle.lio_host_main.specs.declared.order.Order as declared
 

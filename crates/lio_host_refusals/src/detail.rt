@@ -2,17 +2,17 @@
 
 ghost use Rattle.std.specs.Prelude.{◌≡◌, ◌≤◌};
 
-use crate::words::{FileNames, file_names};
+use crate::words::{FileNames, file_names, names_files};
 use lio_clauses::NoMemory;
 use lio_front::{MOST_POLICY_BYTES, MOST_SCRIPT_BYTES};
-use lio_hints::{Mistake, PolicyMistake, policy_mistake, script_mistake};
+use lio_hints::{Bytes, Mistake, PolicyMistake, policy_mistake, script_mistake};
 use lio_host_main::HostStatus;
-use lio_outside::Store;
+use lio_outside::{Store, Trouble};
 use lio_policy::{Policy, read_policy};
 use lio_policy_draft::{EntryAt, PolicyFault, entry_at};
 use lio_syntax::{line_at, parameter_count};
 use lio_values::Text;
-use std::alloc::Global;
+use std::alloc::{AllocError, Global};
 use std::fs;
 use std::fs::Files;
 
@@ -27,6 +27,23 @@ pub enum Detail {
     Task(TaskAt),
     /// The line of the script that breaks a rule.
     Line(LineAt),
+    /// What stood in the way of a file.
+    Fault(FaultAt),
+}
+
+/// What stood in the way of a file that couldn't be read or written, and the channels that were
+/// written before it, where that is known.
+#[derive(Drop)]
+pub struct FaultAt {
+    pub why: Option<String>,
+    pub channels: Option<Channels>,
+}
+
+/// How many channels were written, and how many there are.
+#[derive(Clone, Copy)]
+pub struct Channels {
+    pub written: usize,
+    pub all: usize,
 }
 
 /// An entry of a policy that breaks a rule, where there is one with its number, and what is wrong
@@ -124,14 +141,65 @@ fn task_detail(
     }
 }
 
-/// What the texts of the policy and the script say of a refusal.
+/// What is told of a trouble with a file.
+pub fn trouble_text(alloc: Global, trouble: Trouble<'_>) -> Result<String, AllocError> {
+    match trouble {
+        Trouble::System(error) => format!(in alloc; "{error}"),
+        Trouble::NotText => String::from_str(alloc, "its name isn't UTF-8"),
+        Trouble::SameFile(name) => {
+            let name = Bytes(name);
+            format!(in alloc;
+                "it is the same file as {name}, which was read or written before; give it a file of its own"
+            )
+        }
+    }
+}
+
+/// The channels that are written before the file with a name, in a policy.
+fn channels_before(policy: &Policy, name: &Text) -> Channels {
+    let channels = policy.channels.as_slice();
+    let place = channels
+        .iter()
+        .position(|channel| channel.file.bytes() == name.bytes());
+    Channels {
+        written: place.unwrap_or(channels.len()),
+        all: channels.len(),
+    }
+}
+
+/// The same, of the policy that a text is.
+fn channels_of(alloc: Global, policy: &[u8], name: &Text) -> Result<Option<Channels>, NoMemory> {
+    match read_policy(alloc, policy) {
+        Ok(policy) => {
+            let channels = channels_before(&policy, name);
+            drop(policy);
+            Ok(Some(channels))
+        }
+        Err(PolicyFault::Bad { .. }) => Ok(None),
+        Err(PolicyFault::NoMemory) => Err(NoMemory),
+    }
+}
+
+/// What the trouble with a file, and the texts of the policy and the script say of a refusal.
 pub fn detail_of(
     alloc: Global,
     status: &HostStatus,
+    why: Option<String>,
     policy: &[u8],
     script: &[u8],
 ) -> Result<Detail, NoMemory> {
     match status {
+        HostStatus::ReadFault(_) => Ok(Detail::Fault(FaultAt {
+            why,
+            channels: None,
+        })),
+        HostStatus::WriteFault(name) => match channels_of(alloc, policy, name) {
+            Ok(channels) => Ok(Detail::Fault(FaultAt { why, channels })),
+            Err(NoMemory) => {
+                drop(why);
+                Err(NoMemory)
+            }
+        },
         HostStatus::BadPolicy(rule, entry) => entry_detail(alloc, policy, *rule, *entry),
         HostStatus::BadScript(line, rule) => line_detail(alloc, policy, script, *line, *rule),
         HostStatus::BadStart(place, _) => task_detail(alloc, policy, script, *place),
@@ -139,12 +207,13 @@ pub fn detail_of(
     }
 }
 
-/// The text of the file with a name, where it is a plain file, which can be read once more;
-/// else no bytes. The files stay as they are.
+/// The text of the file with a name, where it is asked for and is a plain file, which can be read
+/// once more; else no bytes. The files stay as they are.
 fn text_again<S: Store>(
     alloc: Global,
     files: &impl Files,
     store: &mut S,
+    is_asked: bool,
     name: &str,
     limit: u32,
 ) -> Vec<u8>
@@ -152,11 +221,34 @@ fn text_again<S: Store>(
     ensures count { S.faults store.old ≤ S.faults store.new }
 {
     match fs::metadata(files, name) {
-        Ok(about) if about.is_file() => store
+        Ok(about) if is_asked && about.is_file() => store
             .fetch(alloc, name.as_bytes(), limit)
             .unwrap_or(Vec::new(alloc)),
         _ => Vec::new(alloc),
     }
+}
+
+/// The texts of the policy and of the script, where they say something of an answer; else no bytes.
+fn texts_again<S: Store>(
+    alloc: Global,
+    files: &impl Files,
+    store: &mut S,
+    status: &HostStatus,
+    words: &[String],
+) -> (Vec<u8>, Vec<u8>)
+    ensures files { S.holds store.new ≡ S.holds store.old }
+    ensures count { S.faults store.old ≤ S.faults store.new }
+{
+    let (with_policy, with_script) = match status {
+        HostStatus::BadPolicy(_, _) => (true, false),
+        HostStatus::BadScript(_, _) | HostStatus::BadStart(_, _) => (true, true),
+        HostStatus::WriteFault(_) => (names_files(words), false),
+        _ => (false, false),
+    };
+    let FileNames { policy, script } = file_names(words);
+    let policy = text_again(alloc, files, store, with_policy, policy, MOST_POLICY_BYTES);
+    let script = text_again(alloc, files, store, with_script, script, MOST_SCRIPT_BYTES);
+    (policy, script)
 }
 
 /// What the files that the words name say of a refusal. They are read once more, and stay as they
@@ -171,12 +263,12 @@ pub fn refusal_detail<S: Store>(
     ensures files { S.holds store.new ≡ S.holds store.old }
     ensures count { S.faults store.old ≤ S.faults store.new }
 {
-    match status {
-        HostStatus::BadPolicy(_, _) | HostStatus::BadScript(_, _) | HostStatus::BadStart(_, _) => {}
-        _ => return Detail::Nothing,
-    }
-    let FileNames { policy, script } = file_names(words);
-    let policy = text_again(alloc, files, store, policy, MOST_POLICY_BYTES);
-    let script = text_again(alloc, files, store, script, MOST_SCRIPT_BYTES);
-    detail_of(alloc, status, policy.as_slice(), script.as_slice()).unwrap_or(Detail::Nothing)
+    let why = match (status, store.trouble()) {
+        (HostStatus::ReadFault(_) | HostStatus::WriteFault(_), Some(trouble)) => {
+            trouble_text(alloc, trouble).ok()
+        }
+        _ => None,
+    };
+    let (policy, script) = texts_again(alloc, files, store, status, words);
+    detail_of(alloc, status, why, policy.as_slice(), script.as_slice()).unwrap_or(Detail::Nothing)
 }

@@ -6,5 +6,7 @@ mod detail;
 mod refusal;
 mod words;
 
-pub use detail::{Detail, LineAt, TaskAt, WrongEntry, detail_of, refusal_detail};
+pub use detail::{
+    Channels, Detail, FaultAt, LineAt, TaskAt, WrongEntry, detail_of, refusal_detail, trouble_text,
+};
 pub use refusal::{print_refusal, refusal_text};

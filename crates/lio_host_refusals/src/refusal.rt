@@ -1,7 +1,7 @@
 //! What is printed of a refusal: the answer as its type writes it, what was refused and where, and
 //! how to mend it.
 
-use crate::detail::{Detail, LineAt};
+use crate::detail::{Channels, Detail, FaultAt, LineAt};
 use crate::words::{FileNames, USAGE, file_names, words_text};
 use lio_hints::{Bytes, Mistake};
 use lio_host_main::{HostStatus, Shown};
@@ -239,6 +239,50 @@ fn start_text(
     }
 }
 
+/// What is printed of a file that couldn't be read.
+fn read_fault_text(
+    alloc: Global,
+    status: &HostStatus,
+    read: &str,
+    detail: &Detail,
+) -> Result<String, AllocError> {
+    match detail {
+        Detail::Fault(FaultAt { why: Some(why), .. }) => {
+            let why = why.as_str();
+            format!(in alloc; "lio_host: {status}: {read} couldn't be read: {why}")
+        }
+        _ => format!(in alloc;
+            "lio_host: {status}: {read} couldn't be read; see that it is a file, and that it may be read"
+        ),
+    }
+}
+
+/// What is printed of a file that couldn't be written.
+fn write_fault_text(
+    alloc: Global,
+    status: &HostStatus,
+    detail: &Detail,
+) -> Result<String, AllocError> {
+    let mut text = format!(in alloc; "lio_host: {status}: the file couldn't be written")?;
+    let Detail::Fault(FaultAt { why, channels }) = detail else {
+        return Ok(text);
+    };
+    match why {
+        Some(why) => {
+            text.push_str(": ")?;
+            text.push_str(why.as_str())?;
+        }
+        None => {
+            text.push_str("; see that it and its folder may be written, and that there is room")?;
+        }
+    }
+    if let Some(Channels { written, all }) = channels {
+        let before = format!(in alloc; "; channels written before it: {written} of {all}")?;
+        text.push_str(before.as_str())?;
+    }
+    Ok(text)
+}
+
 /// What is printed of a refusal: what was refused, where, and how to mend it. Nothing where the
 /// script ran.
 pub fn refusal_text(
@@ -261,12 +305,7 @@ pub fn refusal_text(
                 "lio_host: {status}: {read} isn't there; names are looked up from the folder in which the command is given\n{USAGE}"
             )
         }
-        HostStatus::ReadFault(name) => {
-            let read = read_as(name, names);
-            format!(in alloc;
-                "lio_host: {status}: {read} couldn't be read; see that it is a file, and that it may be read"
-            )
-        }
+        HostStatus::ReadFault(name) => read_fault_text(alloc, status, read_as(name, names), detail),
         HostStatus::BadPolicy(rule, entry) => {
             policy_text(alloc, status, policy, *entry, *rule, detail)
         }
@@ -274,9 +313,7 @@ pub fn refusal_text(
             script_text(alloc, status, script, *line, *rule, detail)
         }
         HostStatus::BadStart(_, _) => start_text(alloc, status, policy, script, detail),
-        HostStatus::WriteFault(_) => format!(in alloc;
-            "lio_host: {status}: the file couldn't be written; see that it and its folder may be written, and that there is room"
-        ),
+        HostStatus::WriteFault(_) => write_fault_text(alloc, status, detail),
         HostStatus::SayFault => format!(in alloc;
             "lio_host: {status}: the files are written, and the summary couldn't be written to standard output"
         ),

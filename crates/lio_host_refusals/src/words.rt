@@ -2,7 +2,7 @@
 
 use lio_host_words::{Command, Source, Watch, read_command};
 use std::alloc::{AllocError, Global};
-use std::str;
+use std::{fmt, str};
 
 /// What the words are to be.
 pub(crate) const USAGE: &str =
@@ -18,6 +18,17 @@ pub(crate) struct FileNames<'a> {
 /// Bytes as they are shown.
 fn text_of(bytes: &[u8]) -> &str {
     str::from_utf8(bytes).unwrap_or("..")
+}
+
+/// Whether the words name the files of a policy and of a script.
+pub(crate) fn names_files(words: &[String]) -> bool {
+    matches!(
+        read_command(words),
+        Some(Command {
+            source: Source::Files(_, _),
+            ..
+        })
+    )
 }
 
 /// The names of the policy's and of the script's file; those of a workload where it is generated.
@@ -39,26 +50,129 @@ pub(crate) fn file_names(words: &[String]) -> FileNames<'_> {
     }
 }
 
+/// An option.
+#[derive(Clone, Copy, PartialEq, Eq)]
+enum Flag {
+    History,
+    View,
+    Observer,
+    Make,
+}
+
+impl Flag {
+    /// Its word.
+    fn word(self) -> &'static str {
+        match self {
+            Flag::History => "--history",
+            Flag::View => "--view",
+            Flag::Observer => "--observer",
+            Flag::Make => "--make",
+        }
+    }
+}
+
 /// What a word is, as the walk over the words takes it.
 #[derive(Clone, Copy)]
-enum Kind {
+enum Kind<'a> {
     Dashes,
-    Option,
-    OptionAndValue,
+    Option(Flag),
+    OptionAndValue(Flag, &'a str),
     Plain,
 }
 
 /// What a word is among options and plain words.
-fn kind_of(word: &str) -> Kind {
-    match word {
-        "--" => Kind::Dashes,
-        "--history" | "--view" | "--observer" | "--make" => Kind::Option,
-        _
-            if word.starts_with("--history=")
-                || word.starts_with("--view=")
-                || word.starts_with("--observer=")
-                || word.starts_with("--make=") => { Kind::OptionAndValue }
-        _ => Kind::Plain,
+fn kind_of(word: &str) -> Kind<'_> {
+    if word == "--" {
+        return Kind::Dashes;
+    }
+    for flag in [Flag::History, Flag::View, Flag::Observer, Flag::Make] {
+        if let Some(rest) = word.strip_prefix(flag.word()) {
+            if rest.is_empty() {
+                return Kind::Option(flag);
+            }
+            if let Some(value) = rest.strip_prefix("=") {
+                return Kind::OptionAndValue(flag, value);
+            }
+        }
+    }
+    Kind::Plain
+}
+
+/// What is wrong with the words.
+#[derive(Clone, Copy)]
+enum WrongWords<'a> {
+    /// A word that is no option and no name.
+    NoOption(&'a str),
+    /// A value that may not stand behind an option.
+    Value(Flag, &'a str),
+    /// A value of `--make` that is no size of a workload.
+    Size(&'a str),
+    /// An option that comes twice.
+    Twice(Flag),
+    /// An option without a value.
+    NoValue(Flag),
+    /// A name behind two others.
+    ThirdName(&'a str),
+    /// A name beside `--make`.
+    NameOfWorkload(&'a str),
+    /// No names.
+    NoNames,
+    /// One name alone.
+    NoScript(&'a str),
+    /// An option that comes without the one that it needs.
+    Without(Flag, Flag),
+}
+
+impl fmt::Display for WrongWords<'_> {
+    fn fmt<W: fmt::Write>(&self, f: &mut fmt::Formatter<W>) -> fmt::Result {
+        match *self {
+            WrongWords::NoOption(word) => write!(
+                f,
+                "\"{word}\" is no option, and no name: a name isn't empty and doesn't begin with `-`"
+            ),
+            WrongWords::Value(flag, word) => {
+                let option = flag.word();
+                write!(
+                    f,
+                    "the value of `{option}` may not be \"{word}\": a value isn't empty and doesn't begin with `-`"
+                )
+            }
+            WrongWords::Size(word) => write!(
+                f,
+                "the value of `--make` may not be \"{word}\": it is a number from 1 to 256, without a sign or a zero in front"
+            ),
+            WrongWords::Twice(flag) => {
+                let option = flag.word();
+                write!(f, "`{option}` comes twice; each option comes once")
+            }
+            WrongWords::NoValue(flag) => {
+                let option = flag.word();
+                write!(f, "`{option}` has no value behind it")
+            }
+            WrongWords::ThirdName(word) => write!(
+                f,
+                "\"{word}\" is a third name; there are to be two, the policy's and the script's"
+            ),
+            WrongWords::NameOfWorkload(word) => {
+                write!(
+                    f,
+                    "\"{word}\" is a name, and with `--make` there is to be none"
+                )
+            }
+            WrongWords::NoNames => f.write_str(
+                "the names of the policy and of the script are missing",
+            ),
+            WrongWords::NoScript(policy) => {
+                write!(
+                    f,
+                    "the name of the script is missing behind \"{policy}\", the policy's"
+                )
+            }
+            WrongWords::Without(flag, other) => {
+                let (option, needed) = (flag.word(), other.word());
+                write!(f, "`{option}` needs `{needed}` beside it")
+            }
+        }
     }
 }
 
@@ -67,37 +181,119 @@ fn may_stand(word: &str) -> bool {
     !word.is_empty() && !word.starts_with("-")
 }
 
-/// The first word that may not stand at its place, if there is one: a message.
-fn wrong_word(alloc: Global, words: &[String]) -> Result<Option<String>, AllocError> {
-    let mut option = "";
+/// Whether a word is the size of a workload.
+fn is_size(word: &str) -> bool {
+    let is_number = word.bytes().all(|byte| byte.is_ascii_digit()) && !word.starts_with("0");
+    is_number
+        && word
+            .parse::<u16>()
+            .is_ok_and(|size| (1..=256).contains(&size))
+}
+
+/// The names and the options so far.
+#[derive(Clone, Copy)]
+struct Seen<'a> {
+    policy: Option<&'a str>,
+    script: Option<&'a str>,
+    history: bool,
+    view: bool,
+    observer: bool,
+    make: bool,
+}
+
+impl<'a> Seen<'a> {
+    /// Nothing.
+    fn nothing() -> Seen<'a> {
+        Seen {
+            policy: None,
+            script: None,
+            history: false,
+            view: false,
+            observer: false,
+            make: false,
+        }
+    }
+
+    /// Whether an option has come.
+    fn has(&mut self, flag: Flag) -> &mut bool {
+        match flag {
+            Flag::History => &mut self.history,
+            Flag::View => &mut self.view,
+            Flag::Observer => &mut self.observer,
+            Flag::Make => &mut self.make,
+        }
+    }
+
+    /// Takes a plain word.
+    fn take_name(&mut self, word: &'a str) -> Result<(), WrongWords<'a>> {
+        if !may_stand(word) {
+            return Err(WrongWords::NoOption(word));
+        }
+        match (self.policy, self.script) {
+            (None, _) => self.policy = Some(word),
+            (_, None) => self.script = Some(word),
+            _ => return Err(WrongWords::ThirdName(word)),
+        }
+        Ok(())
+    }
+
+    /// Takes an option and its value.
+    fn take_value(&mut self, flag: Flag, value: &'a str) -> Result<(), WrongWords<'a>> {
+        if !may_stand(value) {
+            return Err(WrongWords::Value(flag, value));
+        }
+        if flag == Flag::Make && !is_size(value) {
+            return Err(WrongWords::Size(value));
+        }
+        let has = self.has(flag);
+        if *has {
+            return Err(WrongWords::Twice(flag));
+        }
+        *has = true;
+        Ok(())
+    }
+
+    /// Whether what has come is a command.
+    fn finish(self) -> Result<(), WrongWords<'a>> {
+        match (self.view, self.observer) {
+            (true, false) => return Err(WrongWords::Without(Flag::View, Flag::Observer)),
+            (false, true) => return Err(WrongWords::Without(Flag::Observer, Flag::View)),
+            _ => {}
+        }
+        match (self.policy, self.script) {
+            (None, _) if self.make => Ok(()),
+            (Some(name), _) if self.make => Err(WrongWords::NameOfWorkload(name)),
+            (None, _) => Err(WrongWords::NoNames),
+            (Some(policy), None) => Err(WrongWords::NoScript(policy)),
+            (Some(_), Some(_)) => Ok(()),
+        }
+    }
+}
+
+/// Walks over the words, to the first that may not stand at its place.
+fn check_words(words: &[String]) -> Result<(), WrongWords<'_>> {
+    let mut seen = Seen::nothing();
+    let mut behind = None;
     let mut only_plain = false;
     for word in words {
         let word = word.as_str();
-        if !option.is_empty() {
-            if !may_stand(word) {
-                return Ok(Some(format!(in alloc;
-                    "the value of `{option}` may not be \"{word}\": a value isn't empty and doesn't begin with `-`"
-                )?));
-            }
-            option = "";
+        if let Some(flag) = behind {
+            seen.take_value(flag, word)?;
+            behind = None;
             continue;
         }
         match kind_of(word) {
-            Kind::Dashes if !only_plain => only_plain = true,
-            Kind::Option if !only_plain => option = word,
-            Kind::OptionAndValue if !only_plain => {}
-            _ if may_stand(word) => {}
-            _ => {
-                return Ok(Some(format!(in alloc;
-                    "\"{word}\" is no option, and no name: a name isn't empty and doesn't begin with `-`"
-                )?));
-            }
+            _ if only_plain => seen.take_name(word)?,
+            Kind::Dashes => only_plain = true,
+            Kind::Option(flag) => behind = Some(flag),
+            Kind::OptionAndValue(flag, value) => seen.take_value(flag, value)?,
+            Kind::Plain => seen.take_name(word)?,
         }
     }
-    if option.is_empty() {
-        return Ok(None);
+    match behind {
+        Some(flag) => Err(WrongWords::NoValue(flag)),
+        None => seen.finish(),
     }
-    Ok(Some(format!(in alloc; "`{option}` has no value behind it")?))
 }
 
 /// What is printed of words that give no command, or whose label isn't read.
@@ -114,11 +310,8 @@ pub(crate) fn words_text(alloc: Global, words: &[String]) -> Result<String, Allo
             "\"{label}\" is no label over the policy's principals: two formulas with `%%` between them, each of principals with `/\\`, `\\/` and parentheses, or `True` or `False`"
         );
     }
-    match wrong_word(alloc, words)? {
-        Some(text) => Ok(text),
-        None => String::from_str(
-            alloc,
-            "there are to be two names, or `--make` with 1 to 256 and none; each option comes once, and `--view` with `--observer`",
-        ),
+    match check_words(words) {
+        Err(wrong) => format!(in alloc; "{wrong}"),
+        Ok(()) => String::from_str(alloc, "the words give no command"),
     }
 }

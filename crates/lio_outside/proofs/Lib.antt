@@ -4,4 +4,3 @@ pub mod KeepLemmas
 pub mod StepsLemmas
 pub mod OutputLemmas
 mod EntriesLemmas
-mod PiecesLemmas

@@ -6,9 +6,6 @@ mod files;
 pub mod laws;
 mod mem_say;
 mod mem_store;
-mod pieces;
-mod real_say;
-mod real_store;
 mod say;
 mod store;
 mod sure_say;
@@ -16,10 +13,8 @@ mod sure_store;
 
 pub use mem_say::MemSay;
 pub use mem_store::MemStore;
-pub use real_say::RealSay;
-pub use real_store::RealStore;
 pub use say::{Say, SayFault};
-pub use store::{FetchFault, KeepFault, Store};
+pub use store::{FetchFault, KeepFault, Store, Trouble};
 pub use sure_say::SureSay;
 pub use sure_store::SureStore;
 

@@ -1,13 +1,8 @@
-//! The outputs on their happy paths, and the real one over a runtime that prints by pieces and fails
-//! in mid-stream.
+//! The outputs in memory on their happy paths.
 
 use crate::tests::check_same;
-use crate::{MemSay, RealSay, Say, SayFault, SureSay};
+use crate::{MemSay, Say, SayFault, SureSay};
 use std::alloc::{AllocError, Global};
-use std::cell::Cell;
-use std::fmt::Display;
-use std::io;
-use std::io::ErrorKind;
 use std::process::Abort;
 
 /// Says to any output and compares the answer.
@@ -39,54 +34,4 @@ fn sure_say_says(rt: HostRuntime) {
     check_say(&rt, &mut output, rt.alloc(), b"one ", Ok(()));
     check_say(&rt, &mut output, rt.alloc(), b"two", Ok(()));
     check_same(&rt, &output.said(), &b"one two".as_slice());
-}
-
-/// A runtime that prints at most two bytes in a call, and fails once it has printed those that are
-/// left.
-#[derive(Drop)]
-struct FakePrint {
-    left: Cell<usize>,
-}
-
-impl FakePrint {
-    /// The error of an output that is full.
-    fn full<T>() -> io::Result<T> {
-        Err(io::Error::from(ErrorKind::Other))
-    }
-}
-
-impl Print for FakePrint {
-    fn print<D: Display + Drop>(&self, _value: D) -> io::Result<()> {
-        FakePrint::full()
-    }
-
-    fn println<D: Display + Drop>(&self, _value: D) -> io::Result<()> {
-        FakePrint::full()
-    }
-
-    fn write_all(&self, _bytes: &[u8]) -> io::Result<()> {
-        FakePrint::full()
-    }
-
-    fn write_some(&self, bytes: &[u8]) -> io::Result<usize> {
-        let left = self.left.get();
-        let count = bytes.len().min(left).min(2);
-        if count == 0 {
-            return Err(io::Error::from(ErrorKind::Other));
-        }
-        self.left.set(left - count);
-        Ok(count)
-    }
-}
-
-#[test]
-fn real_say_over_a_failing_output(rt: HostRuntime) {
-    let print = FakePrint { left: Cell::new(5) };
-    let mut output = RealSay::new(&print);
-    check_say(&rt, &mut output, rt.alloc(), b"abc", Ok(()));
-    check_say(&rt, &mut output, rt.alloc(), b"defg", Err(SayFault::Failed));
-    check_say(&rt, &mut output, rt.alloc(), b"", Ok(()));
-    check_same(&rt, &output.fault_count(), &1);
-    drop(output);
-    check_same(&rt, &print.left.get(), &0);
 }

@@ -6,6 +6,7 @@ ghost use Rattle.lio_outside.specs.Fetch.{IsGiven, IsMissing};
 ghost use Rattle.lio_outside.specs.Keep.{told_with, PartlyKept};
 
 use std::alloc::Global;
+use std::io;
 use thiserror::Error;
 
 /// Why a file was not fetched.
@@ -31,6 +32,17 @@ pub enum KeepFault {
     /// No memory was left. The store is as before the call.
     #[error("out of memory")]
     NoMemory,
+}
+
+/// Why the last call of a store failed, in words for people.
+#[derive(Clone, Copy, Debug)]
+pub enum Trouble<'a> {
+    /// What the system said.
+    System(io::Error),
+    /// The name isn't UTF-8.
+    NotText,
+    /// The file is one that was fetched or kept under this other name.
+    SameFile(&'a [u8]),
 }
 
 /// A store of named bytes. Its meanings are `holds`, the files that it tells of, or `None` where it
@@ -70,4 +82,9 @@ pub trait Store {
         ensures no_memory { IsErrOf result KeepFault.NoMemory → holds self.new ≡ holds self.old }
         ensures no_memory_count { IsErrOf result KeepFault.NoMemory
             → faults self.new ≡ faults self.old };
+
+    /// Why the last call failed, where that is known: for messages.
+    fn trouble(&self) -> Option<Trouble<'_>> {
+        None
+    }
 }

@@ -1,4 +1,4 @@
-use Rattle.std.proofs.Common.{◌≡◌, subst, List, ℕ, Option, Ok}
+use Rattle.std.proofs.Common.{subst, List, ℕ, Option, Ok}
 use Rattle.std.specs.Option.{option_map}
 use Rattle.lio_outside.specs.FileMap.{FileMap}
 use Rattle.lio_outside.specs.Asking.{Give}

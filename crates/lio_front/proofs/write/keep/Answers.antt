@@ -1,7 +1,6 @@
-use Rattle.std.proofs.Common.{◌≡◌, ap, Err, subst, sym, List, [], ◌∷◌, ℕ}
+use Rattle.std.proofs.Common.{ap, Err, subst, sym, List, [], ◌∷◌, ℕ}
 use Rattle.lio_outside.specs.Outputs.{Output, StopsAt}
 use Rattle.lio_front.proofs.WriteLemmas.{stops-one}
-use Rattle.lio_front.specs.Outputs.{OutSays}
 use Rattle.lio_front.proofs.write.keep.Goals as goal
 
 pub returns-in-Err-Failed-clause-err : goal.returns-in-Err-Failed-clause-err

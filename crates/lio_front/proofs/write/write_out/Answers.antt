@@ -1,10 +1,8 @@
-use Rattle.std.proofs.Common.{◌≡◌, ◌∙◌, ap, subst, arith, ℕ, Bool, true, false, List, Option, IfErr, OnOk}
+use Rattle.std.proofs.Common.{◌≡◌, subst, true, false, List, IfErr, OnOk}
 use Rattle.std.specs.Option.{option_map}
 use Rattle.std.proofs.lemmas.Result.{err_from_is_err_and}
-use Rattle.lio_outside.specs.FileMap.{FileMap}
 use Rattle.lio_outside.specs.Outputs.{Output, kept}
 use Rattle.lio_policy.specs.declared.policy.Policy.{Policy}
-use Rattle.lio_front.specs.declared.fault.OutFault.{OutFault}
 use Rattle.lio_front.specs.Outputs.{journal_output, outputs_from, OutSays}
 use Rattle.lio_front.proofs.WriteLemmas.{if_err, kept-both, on_ok, out-history, out-view}
 use Rattle.lio_front.proofs.write.write_out.Goals as goal

@@ -1,7 +1,7 @@
 -- The bytes so far are those that were read, and no more than were asked for.
 use Rattle.std.proofs.Common.{◌-◌, ◌≤◌, vec_len}
 use Rattle.std.specs.Io.KnownBytes.{Consumes}
-use Rattle.lio_outside.proofs.pieces.read_up_to.Given as goal
+use Rattle.lio_system.proofs.pieces.read_up_to.Given as goal
 
 abbrev pub invariant-loop-piece : goal.invariant-loop-piece
 invariant-loop-piece g l = (vec_len l.bytes ≤ l.most) × Consumes (g.F.Read.remaining l.initial.file) (g.F.Read.remaining l.file) l.bytes.items

@@ -1,7 +1,7 @@
 -- Interrupted reads consume nothing, and the buffer keeps its length.
 use Rattle.std.proofs.Common.{◌≡◌, length}
 use Rattle.std.specs.Io.KnownBytes.{Keeps}
-use Rattle.lio_outside.proofs.pieces.read_piece.Given as goal
+use Rattle.lio_system.proofs.pieces.read_piece.Given as goal
 
 abbrev pub invariant-loop : goal.invariant-loop
 invariant-loop g l = (length l.buf ≡ length l.initial.buf) × Keeps (g.F.Read.remaining l.initial.file) (g.F.Read.remaining l.file)

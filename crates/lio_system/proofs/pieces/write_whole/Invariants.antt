@@ -1,7 +1,7 @@
 -- What is gone from the rest was appended.
 use Rattle.std.proofs.Common.{◌≡◌, ℕ, List, ◌++◌, length}
 use Rattle.std.specs.Io.KnownBytes.{Appends}
-use Rattle.lio_outside.proofs.pieces.write_whole.Given as goal
+use Rattle.lio_system.proofs.pieces.write_whole.Given as goal
 
 abbrev pub invariant-loop-rest : goal.invariant-loop-rest
 invariant-loop-rest g l = (done : List ℕ) × (l.initial.rest ≡ done ++ l.rest) × Appends (g.F.Write.contents l.initial.file) (g.F.Write.contents l.file) done

@@ -3,7 +3,7 @@ ghost use Rattle.std.specs.Prelude.{◌≡◌, ◌≢◌, ◌≤◌, None, IsErr
 ghost use Rattle.lio_outside.specs.Count.{counted};
 
 use crate::pieces::write_whole;
-use crate::say::{Say, SayFault};
+use lio_outside::{Say, SayFault};
 use std::alloc::Global;
 use std::io;
 use std::marker::Model;

@@ -1,5 +1,5 @@
-use Rattle.lio_outside.proofs.PiecesLemmas.{Appends-more}
-use Rattle.lio_outside.proofs.pieces.write_whole.Goals as goal
+use Rattle.lio_system.proofs.PiecesLemmas.{Appends-more}
+use Rattle.lio_system.proofs.pieces.write_whole.Goals as goal
 
 pub loop-rest-preserved : goal.loop-rest-preserved
 loop-rest-preserved g c =
