@@ -1,9 +1,13 @@
 //! Reads the worked runs of `rows.rt`, runs each over a store in memory, and compares.
 
 use crate::respond;
+use lio_clauses::NoMemory;
+use lio_events::Journal;
 use lio_host_main::{HostStatus, Outcome, host_main};
+use lio_host_notes::{Source, notes_text, troubles_of};
 use lio_host_refusals::{detail_of, refusal_text, trouble_text};
 use lio_outside::{MemSay, MemStore, Trouble};
+use lio_start::Job;
 use std::alloc::{AllocError, Global};
 use std::fs::Files;
 use std::io;
@@ -250,6 +254,26 @@ fn answers_as_said(
     )
 }
 
+/// Whether the notes on a run are those of a case, where it has them.
+fn notes_as_said(
+    alloc: Global,
+    case: &Case,
+    job: &Option<Job>,
+    journal: &Journal,
+    script: &str,
+) -> Result<bool, NoMemory> {
+    let (Some(expected), Some(job)) = (case.text("notes"), job) else {
+        return Ok(true);
+    };
+    let troubles = troubles_of(alloc, job, journal)?;
+    let source = Source {
+        name: "s.lio",
+        text: script.as_bytes(),
+    };
+    let notes = notes_text(alloc, job, journal, &troubles, source)?;
+    Ok(notes.as_str() == expected)
+}
+
 /// Whether the host does as a case says, over a store with its files.
 fn does_as_said(
     alloc: Global,
@@ -262,8 +286,14 @@ fn does_as_said(
 ) -> Result<bool, Fail> {
     let entries = case.number("entries")?.unwrap_or(0);
     let mut say = MemSay::new(alloc, failing(alloc, case, "failsay")?);
-    let Outcome { status, journal } = host_main(alloc, words, store, &mut say);
+    let Outcome {
+        status,
+        journal,
+        job,
+    } = host_main(alloc, words, store, &mut say);
     let count = journal.entries().len();
+    let noted = notes_as_said(alloc, case, &job, &journal, script);
+    drop(job);
     drop(journal);
     let as_said = answers_as_said(alloc, case, expected, &status, words, policy, script);
     let said = was_said(case, &status, say.said());
@@ -271,6 +301,7 @@ fn does_as_said(
     drop(say);
     Ok(
         as_said?
+            && noted?
             && said
             && count == entries
             && case.parts.iter().all(|part| is_true_of(part, store)),

@@ -2,7 +2,7 @@
 //! summary.
 #![tactic(auto)]
 
-ghost use Rattle.std.specs.Prelude.{◌≡◌, List};
+ghost use Rattle.std.specs.Prelude.{◌≡◌, ◌≤◌, List};
 ghost use Rattle.std.specs.Process.{exit_status};
 ghost use Rattle.lio_values.specs.declared.entry.Entry.{Entry};
 ghost use Rattle.lio_host_main.specs.ExitStatus.{exit_status as status_number};
@@ -20,6 +20,8 @@ mod examples_of_tasks;
 #[cfg(test)]
 mod limits;
 #[cfg(test)]
+mod noted;
+#[cfg(test)]
 mod outputs;
 #[cfg(test)]
 mod rows;
@@ -28,9 +30,13 @@ mod tests;
 #[cfg(test)]
 mod worked;
 
+use lio_clauses::NoMemory;
+use lio_events::Journal;
 use lio_host_main::{HostStatus, Outcome, host_main};
-use lio_host_refusals::{print_refusal, refusal_detail};
+use lio_host_notes::{Source, notes_text, troubles_of};
+use lio_host_refusals::{print_refusal, refusal_detail, script_name, script_text};
 use lio_outside::{Say, Store};
+use lio_start::Job;
 use lio_system::{RealSay, RealStore};
 use std::fs::Files;
 use std::process::ExitCode;
@@ -49,8 +55,73 @@ fn exit_code(status: &HostStatus) -> ExitCode
     ExitCode::from(status.number())
 }
 
-/// Runs the script that the words name, says on standard error what was refused, if anything was,
-/// and gives the exit status of the answer.
+/// The notes on a run whose script's file has this name. Where something went wrong in it, that
+/// file is read once more; the store's files stay.
+fn notes<R: AllocGlobal + Files, S: Store>(
+    rt: &R,
+    store: &mut S,
+    name: &str,
+    job: &Job,
+    journal: &Journal,
+) -> Result<String, NoMemory>
+    ensures files { S.holds store.new ≡ S.holds store.old }
+    ensures count { S.faults store.old ≤ S.faults store.new }
+{
+    let alloc = rt.alloc();
+    let troubles = troubles_of(alloc, job, journal)?;
+    if troubles.is_empty() {
+        return Ok(String::new(alloc));
+    }
+    let text = script_text(alloc, rt, store, name);
+    let source = Source {
+        name,
+        text: text.as_slice(),
+    };
+    notes_text(alloc, job, journal, &troubles, source)
+}
+
+/// Says on standard error what went wrong in a run of files, if anything did; nothing where no
+/// memory is left for it. The store's files stay.
+fn print_notes<R: AllocGlobal + Files + Eprint, S: Store>(
+    rt: &R,
+    words: &[String],
+    store: &mut S,
+    job: &Option<Job>,
+    journal: &Journal,
+)
+    ensures files { S.holds store.new ≡ S.holds store.old }
+    ensures count { S.faults store.old ≤ S.faults store.new }
+{
+    let (Some(job), Some(name)) = (job, script_name(words)) else {
+        return;
+    };
+    if let Ok(notes) = notes(rt, store, name, job, journal) {
+        let _ = eprint!(rt; "{notes}");
+    }
+}
+
+/// Says on standard error what was refused, or what went wrong in the run, if anything was or did.
+/// The store's files stay.
+fn report<R: AllocGlobal + Files + Eprint, S: Store>(
+    rt: &R,
+    words: &[String],
+    store: &mut S,
+    status: &HostStatus,
+    job: &Option<Job>,
+    journal: &Journal,
+)
+    ensures files { S.holds store.new ≡ S.holds store.old }
+    ensures count { S.faults store.old ≤ S.faults store.new }
+{
+    let alloc = rt.alloc();
+    let detail = refusal_detail(alloc, rt, store, status, words);
+    // A refusal that can't be printed still has its exit status.
+    let _ = print_refusal(rt, alloc, status, words, &detail);
+    print_notes(rt, words, store, job, journal);
+}
+
+/// Runs the script that the words name, says on standard error what was refused or went wrong, if
+/// anything was or did, and gives the exit status of the answer.
 fn respond<R: AllocGlobal + Files + Eprint, S: Store, W: Say>(
     rt: &R,
     words: &[String],
@@ -74,13 +145,14 @@ fn respond<R: AllocGlobal + Files + Eprint, S: Store, W: Say>(
       journal = journal;
     }) (exit_status result) }
 {
-    let alloc = rt.alloc();
-    let Outcome { status, journal } = host_main(alloc, words, store, say);
+    let Outcome {
+        status,
+        journal,
+        job,
+    } = host_main(rt.alloc(), words, store, say);
+    report(rt, words, store, &status, &job, &journal);
     // Giving back a long journal piece by piece would take a good part of the run.
     mem::forget(journal);
-    let detail = refusal_detail(alloc, rt, store, &status, words);
-    // A refusal that can't be printed still has its exit status.
-    let _ = print_refusal(rt, alloc, &status, words, &detail);
     exit_code(&status)
 }
 

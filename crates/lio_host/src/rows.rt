@@ -15,6 +15,7 @@
 //! | `status STATUS`, `exit N` | the answer, and the exit status of the program |
 //! | `file NAME`, `absent NAME` | what a file holds afterwards, or that it isn't there |
 //! | `says` | how the words begin that are printed of the answer |
+//! | `notes` | the notes on the run |
 //! | `said` | what was said; where there is none, nothing unless the answer is Done |
 //! | `entries N` | how many turns were taken; none where there is none |
 

@@ -5,6 +5,7 @@ use crate::cut::CUT;
 use crate::examples::EXAMPLES;
 use crate::examples_of_tasks::EXAMPLES_OF_TASKS;
 use crate::limits::{FULL_POLICY, written_out};
+use crate::noted::{NOTED_FAULTS, NOTED_TASKS};
 use crate::outputs::{OPTIONS, OUTPUTS};
 use crate::rows::{CLASHES, FAULTS, REFUSED_POLICIES, REFUSED_SCRIPTS, RUNS, WRONG_WORDS};
 use crate::worked::WORKED_RUNS;
@@ -81,6 +82,16 @@ fn examples_run(rt: HostRuntime) -> Result<(), Fail> {
 #[test]
 fn examples_of_tasks_run(rt: HostRuntime) -> Result<(), Fail> {
     assert_all_hold(&rt, EXAMPLES_OF_TASKS)
+}
+
+#[test]
+fn faults_are_noted(rt: HostRuntime) -> Result<(), Fail> {
+    assert_all_hold(&rt, NOTED_FAULTS)
+}
+
+#[test]
+fn tasks_are_noted(rt: HostRuntime) -> Result<(), Fail> {
+    assert_all_hold(&rt, NOTED_TASKS)
 }
 
 #[test]

@@ -6,6 +6,7 @@ ghost use Rattle.lio_host_words.specs.Sorted.{bytes_of_words};
 ghost use Rattle.lio_host_main.specs.Answers.{Says, Follows, journal_with};
 
 use crate::finish::finish_run;
+use crate::order::Order;
 use crate::prepare::prepare_order;
 use crate::status::HostStatus;
 use lio_clauses::NoMemory;
@@ -13,13 +14,16 @@ use lio_events::Journal;
 use lio_host_words::read_command;
 use lio_outside::{Say, Store};
 use lio_rounds::{Ran, run};
+use lio_start::Job;
 use std::alloc::Global;
 
-/// How a call of the host ended, and the journal of what it ran.
+/// How a call of the host ended, the journal of what it ran, and where it is done, what it ran.
 #[derive(Drop)]
 pub struct Outcome {
     pub status: HostStatus,
     pub journal: Journal,
+    /// What was run, where the answer is Done.
+    pub job: Option<Job>,
 }
 
 /// The outcome of a call that gives no journal.
@@ -30,6 +34,7 @@ fn refused(alloc: Global, status: HostStatus) -> Outcome
     Outcome {
         status,
         journal: Journal::new(alloc),
+        job: None,
     }
 }
 
@@ -43,7 +48,11 @@ fn unfinished(alloc: Global, status: HostStatus, journal: Journal) -> Outcome
             drop(journal);
             refused(alloc, HostStatus::NoMemory)
         }
-        status => Outcome { status, journal },
+        status => Outcome {
+            status,
+            journal,
+            job: None,
+        },
     }
 }
 
@@ -83,15 +92,20 @@ fn answer<S: Store, W: Say>(alloc: Global, words: &[String], store: &mut S, say:
         }
     };
     let finished = finish_run(alloc, store, say, &order, &ran);
-    drop(order);
+    let Order { job, observer, .. } = order;
+    drop(observer);
     let Ran { journal, config } = ran;
     drop(config);
     match finished {
         Ok(()) => Outcome {
             status: HostStatus::Done,
             journal,
+            job: Some(job),
         },
-        Err(status) => unfinished(alloc, status, journal),
+        Err(status) => {
+            drop(job);
+            unfinished(alloc, status, journal)
+        }
     }
 }
 

@@ -251,6 +251,20 @@ fn texts_again<S: Store>(
     (policy, script)
 }
 
+/// The text of the script's file, for messages. It is read once more where it is a plain file, and
+/// the files stay as they are; else there are no bytes.
+pub fn script_text<S: Store>(
+    alloc: Global,
+    files: &impl Files,
+    store: &mut S,
+    name: &str,
+) -> Vec<u8>
+    ensures files { S.holds store.new ≡ S.holds store.old }
+    ensures count { S.faults store.old ≤ S.faults store.new }
+{
+    text_again(alloc, files, store, true, name, MOST_SCRIPT_BYTES)
+}
+
 /// What the files that the words name say of a refusal. They are read once more, and stay as they
 /// are; where they can't be, nothing beyond the answer is known.
 pub fn refusal_detail<S: Store>(

@@ -31,6 +31,14 @@ pub(crate) fn names_files(words: &[String]) -> bool {
     )
 }
 
+/// The name of the script's file, where the words name one.
+pub fn script_name(words: &[String]) -> Option<&str> {
+    match read_command(words)?.source {
+        Source::Files(_, script) => Some(text_of(script)),
+        Source::Made(_) => None,
+    }
+}
+
 /// The names of the policy's and of the script's file; those of a workload where it is generated.
 pub(crate) fn file_names(words: &[String]) -> FileNames<'_> {
     match read_command(words) {

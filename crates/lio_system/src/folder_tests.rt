@@ -1,7 +1,7 @@
 //! Files of the system under two names, and what the system says of those that can't be written.
 
-use crate::tests::{check_fetch, check_keep, check_same, new_folder};
 use crate::RealStore;
+use crate::tests::{check_fetch, check_keep, check_same, new_folder};
 use lio_outside::{FetchFault, KeepFault, Store, Trouble};
 use std::alloc::{AllocError, Global};
 use std::fs::Files;

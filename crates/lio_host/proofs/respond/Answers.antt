@@ -26,6 +26,6 @@ returns g c =
     } in record {
       status = c.host_main-status.result.status;
       journal = journal;
-      says = says-at_last call c.host_main-status.result.status (g.S.Store.holds c.refusal_detail-detail.new.store) (g.S.Store.faults c.refusal_detail-detail.new.store) c.refusal_detail-detail.ensures.files c.host_main-status.ensures.count c.refusal_detail-detail.ensures.count c.host_main-status.ensures.says;
+      says = says-at_last call c.host_main-status.result.status (g.S.Store.holds c.report.new.store) (g.S.Store.faults c.report.new.store) c.report.ensures.files c.host_main-status.ensures.count c.report.ensures.count c.host_main-status.ensures.says;
       exit_is = c.exit_code.ensures;
     }

@@ -1,0 +1,17 @@
+//! Notes on how a run ended: which task ended by a fault, where and why, which waits for ever, and
+//! which channel received nothing. What a note says has no contract; rows show it.
+#![tactic(auto)]
+
+mod notes;
+mod printer;
+mod reason;
+mod replay;
+mod seen;
+mod source;
+mod trace;
+mod troubles;
+mod wrong;
+
+pub use notes::notes_text;
+pub use source::Source;
+pub use troubles::{Troubles, troubles_of};

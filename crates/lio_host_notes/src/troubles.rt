@@ -1,0 +1,143 @@
+//! What went wrong in a run, by its journal.
+
+use crate::trace::{Trace, fault_of, fault_source, traces_of};
+use lio_clauses::NoMemory;
+use lio_events::Journal;
+use lio_policy::Policy;
+use lio_start::Job;
+use lio_values::Entry;
+use std::alloc::Global;
+
+/// How many notes there are at most.
+const MOST: usize = 10;
+
+/// A task that ended by a fault. A turn is named by its place in the journal.
+#[derive(Clone, Copy)]
+pub(crate) struct Ending {
+    /// The number of the task.
+    pub task: u32,
+    /// The turn in which it ended.
+    pub end: usize,
+    /// Its turn before that one, where it took one.
+    pub before: Option<usize>,
+    /// The turn that gave birth to it, where it is a child.
+    pub born: Option<usize>,
+    /// How many turns it took before it ended.
+    pub turns: usize,
+    /// The task whose fault it was told in its turn before, where it waited for one.
+    pub source: Option<u32>,
+}
+
+/// What went wrong.
+#[derive(Clone, Copy)]
+pub(crate) enum Trouble {
+    /// A task ended by a fault that nobody caught.
+    Ended(Ending),
+    /// The task with this number stands still for ever.
+    Waits(u32),
+    /// The channel with this number received nothing.
+    Silent(u32),
+}
+
+/// What went wrong in a run: the first of it, and how much more there is.
+#[derive(Drop)]
+pub struct Troubles {
+    pub(crate) first: Vec<Trouble>,
+    pub(crate) more: usize,
+}
+
+impl Troubles {
+    /// Whether all went well.
+    pub fn is_empty(&self) -> bool {
+        self.first.is_empty()
+    }
+
+    /// Adds a trouble.
+    fn add(&mut self, trouble: Trouble) -> Result<(), NoMemory> {
+        if self.first.len() < MOST {
+            self.first.push(trouble)?;
+        } else {
+            self.more = self.more.saturating_add(1);
+        }
+        Ok(())
+    }
+
+    /// Adds the tasks that ended by a fault which nobody caught, in the order of their ends.
+    fn add_endings(&mut self, traces: &[Trace], entries: &[Entry]) -> Result<(), NoMemory> {
+        for (place, entry) in entries.iter().enumerate() {
+            if fault_of(entry).is_some()
+                && let Some(trace) = traces.get(entry.actor as usize)
+                && trace.handlers == 0
+            {
+                self.add(Trouble::Ended(ending_of(trace, entries, place, entry.actor)))?;
+            }
+        }
+        Ok(())
+    }
+
+    /// Adds the tasks that haven't ended, by number.
+    fn add_waiting(&mut self, policy: &Policy, traces: &[Trace]) -> Result<(), NoMemory> {
+        for (number, trace) in traces.iter().enumerate() {
+            if !trace.has_ended && (trace.born.is_some() || is_of_policy(policy, number)) {
+                self.add(Trouble::Waits(number_of(number)))?;
+            }
+        }
+        Ok(())
+    }
+
+    /// Adds the channels that received nothing, in the policy's order.
+    fn add_silent(&mut self, policy: &Policy, traces: &[Trace]) -> Result<(), NoMemory> {
+        let channels = policy.channels.as_slice().len();
+        for (number, trace) in traces.iter().take(channels).enumerate() {
+            if !trace.has_received {
+                self.add(Trouble::Silent(number_of(number)))?;
+            }
+        }
+        Ok(())
+    }
+}
+
+/// A task's end by a fault, in the turn at a place.
+fn ending_of(trace: &Trace, entries: &[Entry], place: usize, task: u32) -> Ending {
+    let before = match trace.before {
+        Some(before) => entries.get(before),
+        None => None,
+    };
+    Ending {
+        task,
+        end: place,
+        before: trace.before,
+        born: trace.born,
+        turns: trace.turns.saturating_sub(1),
+        source: match before {
+            Some(entry) => fault_source(entry),
+            None => None,
+        },
+    }
+}
+
+/// The number of the node at a place.
+fn number_of(place: usize) -> u32 {
+    u32::try_from(place).unwrap_or(u32::MAX)
+}
+
+/// Whether a node is a task of the policy, which stand behind the channels.
+fn is_of_policy(policy: &Policy, number: usize) -> bool {
+    let channels = policy.channels.as_slice().len();
+    number >= channels && number - channels < policy.tasks.as_slice().len()
+}
+
+/// What went wrong in the run of a job with this journal.
+pub fn troubles_of(alloc: Global, job: &Job, journal: &Journal) -> Result<Troubles, NoMemory> {
+    let policy = job.policy();
+    let entries = journal.entries();
+    let traces = traces_of(alloc, policy, entries)?;
+    let mut troubles = Troubles {
+        first: Vec::new(alloc),
+        more: 0,
+    };
+    troubles.add_endings(traces.as_slice(), entries)?;
+    troubles.add_waiting(policy, traces.as_slice())?;
+    troubles.add_silent(policy, traces.as_slice())?;
+    Ok(troubles)
+}
