@@ -15,7 +15,6 @@ use lio_clauses::{NoMemory, assign, beside};
 use lio_values::{Act, Entry, Reply};
 use std::alloc::Global;
 use std::marker::Model;
-use std::mem;
 
 /// A node: what it holds, the entries that it has served, who waits at it, and what it keeps ready
 /// for an act, so that the act takes no memory. Its state is what its entries make of the state that
@@ -137,6 +136,16 @@ impl Node {
         reply::answer(alloc, &self.state, act)
     }
 
+    /// Keeps nothing ready for the state.
+    #[inline(always)]
+    fn clear_room(&mut self)
+        ensures { self.new ≡ record self.old { room = Room.Nothing } }
+    {
+        if !matches!(self.room, Room::Nothing) {
+            assign(&mut self.room, Room::Nothing);
+        }
+    }
+
     /// Takes the memory that the state needs for the act. After a refusal nothing is kept ready for
     /// the state; all else is as before.
     pub fn reserve_state(&mut self, alloc: Global, act: &Act) -> Result<(), NoMemory>
@@ -144,7 +153,10 @@ impl Node {
             (self.new ≡ record self.old { room = room_for self.old.state act.now }) }
         ensures err { OnErr result (self.new ≡ record self.old { room = Room.Nothing }) }
     {
-        assign(&mut self.room, Room::Nothing);
+        self.clear_room();
+        if reserve::needs_no_room(act) {
+            return Ok(());
+        }
         match reserve::room_for(alloc, &self.state, act)? {
             Room::Nothing => {}
             room => assign(&mut self.room, room),
@@ -167,7 +179,7 @@ impl Node {
                 Ok(())
             }
             Err(error) => {
-                assign(&mut self.room, Room::Nothing);
+                self.clear_room();
                 Err(error)
             }
         }
@@ -188,8 +200,7 @@ impl Node {
         } }
     {
         self.place = false;
-        let room = mem::replace(&mut self.room, Room::Nothing);
-        served::serve(&mut self.state, room);
+        served::serve(&mut self.state, &mut self.room);
         self.log.push(entry);
     }
 
@@ -201,10 +212,9 @@ impl Node {
         ensures { self.new ≡ node_of (state_after self.old.state act.now) }
     {
         self.place = false;
-        let held = mem::replace(&mut self.room, Room::Nothing);
         self.log.clear();
         self.waiters.clear();
-        served::serve(&mut self.state, held);
+        served::serve(&mut self.state, &mut self.room);
     }
 
     /// Lets a task wait at it for what it doesn't grant, unless the task does already. After a

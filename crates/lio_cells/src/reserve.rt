@@ -1,7 +1,8 @@
 //! What is taken of memory for an act.
 #![tactic(auto, unfolding(crate::specs::Room::room_for))]
 
-ghost use Rattle.std.specs.Prelude.{◌≡◌, IfOk, if◌then◌else◌};
+ghost use Rattle.std.specs.Prelude.{◌≡◌, IfOk, IsTrue, if◌then◌else◌};
+ghost use Rattle.lio_cells.specs.declared.state.State.{State};
 ghost use Rattle.lio_cells.specs.State.{is_absent, is_job, is_reference, is_variable};
 ghost use Rattle.lio_cells.specs.Room.{room_for, room_to_send};
 
@@ -127,6 +128,23 @@ fn room_to_end(alloc: Global, state: &State, content: &Content) -> Result<Room, 
     } else {
         Ok(Room::Nothing)
     }
+}
+
+/// Whether an act needs no room, whatever the node's state: it changes nothing.
+#[inline(always)]
+pub fn needs_no_room(act: &Act) -> bool
+    ensures { IsTrue result → (state : State) → room_for state act.now ≡ Room.Nothing }
+{
+    matches!(
+        act,
+        Act::Step
+            | Act::Seal(_)
+            | Act::Raise(_, _)
+            | Act::Lower(_)
+            | Act::Release(_, _, _, _)
+            | Act::Read
+            | Act::Wait
+    )
 }
 
 /// The room for an act in a node of this state.

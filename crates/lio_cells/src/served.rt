@@ -8,6 +8,7 @@ use crate::room::Room;
 use crate::state::State;
 use lio_clauses::assign;
 use lio_values::{Content, Value};
+use std::mem;
 
 /// Puts a value into a reference or a variable.
 fn hold(state: &mut State, value: Value)
@@ -51,7 +52,7 @@ fn receive(state: &mut State, bytes: Bytes)
 }
 
 /// Makes of a state what the room makes of it.
-pub fn serve(state: &mut State, room: Room)
+fn fill(state: &mut State, room: Room)
     ensures { state.new ≡ state_with state.old room }
 {
     match room {
@@ -61,5 +62,17 @@ pub fn serve(state: &mut State, room: Room)
         Room::Receives(bytes) => receive(state, bytes),
         Room::Becomes(new) => assign(state, new),
         Room::Ends(content) => end(state, content),
+    }
+}
+
+/// Makes of a state what its room makes of it, and leaves no room.
+#[inline(always)]
+pub fn serve(state: &mut State, room: &mut Room)
+    ensures state { state.new ≡ state_with state.old room.old }
+    ensures room { room.new ≡ Room.Nothing }
+{
+    if !matches!(room, Room::Nothing) {
+        let kept = mem::replace(room, Room::Nothing);
+        fill(state, kept);
     }
 }

@@ -41,6 +41,23 @@ pub fn blank_entry(alloc: Global) -> Result<Entry, NoMemory>
     })
 }
 
+/// An equal entry of a step. It takes no memory but for the label.
+#[inline(always)]
+fn copy_step(alloc: Global, entry: &Entry) -> Result<Entry, NoMemory>
+    requires act { entry.now.act ≡ Act.Step }
+    requires reply { entry.now.reply ≡ Reply.Done }
+    ensures { IfOk result (λ copy. copy ≡ entry.now) }
+{
+    Ok(Entry {
+        ticket: entry.ticket,
+        actor: entry.actor,
+        target: entry.target,
+        at: entry.at.copy(alloc)?,
+        act: Act::Step,
+        reply: Reply::Done,
+    })
+}
+
 /// Fills an entry with a step that concerns its task alone, but for its ticket and its label.
 #[inline(always)]
 fn fill_step(entry: &mut Entry, k: u32)
@@ -223,6 +240,40 @@ impl Holder {
         }
     }
 
+    /// The same of the entry of a step.
+    #[inline(always)]
+    fn prepare_own_step(
+        &mut self,
+        alloc: Global,
+        script: &Script,
+        way: Way,
+        entry: &Entry,
+    ) -> Result<Entry, NoMemory>
+        requires turns { CanTurn script.now self.old way }
+        requires act { entry.now.act ≡ stepping }
+        requires reply { entry.now.reply ≡ done }
+        ensures own { IfOk result (λ own. own ≡ entry.now) }
+        ensures gone { OnOk result
+            (Gone script.now self.old self.new way.entry entry.now.act entry.now.reply) }
+        ensures err { OnErr result (cell_of script.now self.new ≡ cell_of script.now self.old) }
+        ensures node { self.new.node ≡ self.old.node }
+    {
+        let own = match copy_step(alloc, entry) {
+            Ok(own) => own,
+            Err(error) => {
+                drop(way);
+                return Err(error);
+            }
+        };
+        match self.go(alloc, script, way, &entry.act, &entry.reply) {
+            Ok(()) => Ok(own),
+            Err(error) => {
+                drop(own);
+                Err(error)
+            }
+        }
+    }
+
     /// Does all that may fail of a turn of its task, which has number `k`, where the turn meets no
     /// other node; fills the entry, but for its ticket, and gives an equal one for its node's log.
     /// The task has gone on. After a refusal of memory it stands for the same cell, and its node has
@@ -278,7 +329,7 @@ impl Holder {
         match self.get_ready(alloc, &Act::Step, entry) {
             Ok(()) => {
                 fill_step(entry, k);
-                self.prepare(alloc, script, way, entry)
+                self.prepare_own_step(alloc, script, way, entry)
             }
             Err(error) => {
                 drop(way);

@@ -12,19 +12,19 @@ use Rattle.lio_config.proofs.config.Holder.prepare_step.Goals as goal
 
 pub returns-in-Ok-clause-ok : goal.returns-in-Ok-clause-ok
 returns-in-Ok-clause-ok c =
-    let script = c.args.script.now in let old = c.args.self.now in let mid = c.get_ready.new.self in let new = c.prepare.new.self in let told = c.get_ready.new.entry in
-    subst (λ (entry : Entry). OnOk c.prepare.result (PreparesAlone script old new c.args.k Step Done c.args.way entry)) (sym c.fill_step.ensures)
-    (on_ok_weaker c.prepare.result
+    let script = c.args.script.now in let old = c.args.self.now in let mid = c.get_ready.new.self in let new = c.prepare_own_step.new.self in let told = c.get_ready.new.entry in
+    subst (λ (entry : Entry). OnOk c.prepare_own_step.result (PreparesAlone script old new c.args.k Step Done c.args.way entry)) (sym c.fill_step.ensures)
+    (on_ok_weaker c.prepare_own_step.result
     (λ goes. alone-prepared script old new c.args.k told.ticket Step Done c.args.way told.at c.in-Ok.ensures.label
     (gone-from script old mid new Step Done c.args.way c.get_ready.ensures.task (c.get_ready.ensures.same script).cell goes)
-    (ap (λ (node : NodeState). node.state) c.prepare.ensures.node ∙ ap (λ (cell : Cell). cell.state) (c.get_ready.ensures.same script).cell)
-    (ap (λ (node : NodeState). node.log) c.prepare.ensures.node ∙ (c.get_ready.ensures.same script).log)
-    (ap (λ (node : NodeState). node.waiters) c.prepare.ensures.node ∙ (c.get_ready.ensures.same script).waiters)
-    (subst (λ (node : NodeState). HasRoom node Step) (sym c.prepare.ensures.node) c.in-Ok.ensures.room))
-    (subst (λ (entry : Entry). OnOk c.prepare.result (Gone script mid new c.args.way entry.act entry.reply)) c.fill_step.ensures c.prepare.ensures.gone))
+    (ap (λ (node : NodeState). node.state) c.prepare_own_step.ensures.node ∙ ap (λ (cell : Cell). cell.state) (c.get_ready.ensures.same script).cell)
+    (ap (λ (node : NodeState). node.log) c.prepare_own_step.ensures.node ∙ (c.get_ready.ensures.same script).log)
+    (ap (λ (node : NodeState). node.waiters) c.prepare_own_step.ensures.node ∙ (c.get_ready.ensures.same script).waiters)
+    (subst (λ (node : NodeState). HasRoom node Step) (sym c.prepare_own_step.ensures.node) c.in-Ok.ensures.room))
+    (subst (λ (entry : Entry). OnOk c.prepare_own_step.result (Gone script mid new c.args.way entry.act entry.reply)) c.fill_step.ensures c.prepare_own_step.ensures.gone))
 
 pub returns-in-Err-clause-err : goal.returns-in-Err-clause-err
 returns-in-Err-clause-err c = c.get_ready.ensures.same c.args.script.now
 
-pub prepare-requires : goal.prepare-requires
-prepare-requires c = record { task = c.requires.task; is = c.get_ready.ensures.task ∙ c.requires.is; can_go = c.requires.can_go }
+pub prepare_own_step-requires-clause-turns : goal.prepare_own_step-requires-clause-turns
+prepare_own_step-requires-clause-turns c = record { task = c.requires.task; is = c.get_ready.ensures.task ∙ c.requires.is; can_go = c.requires.can_go }
