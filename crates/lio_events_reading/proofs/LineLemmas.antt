@@ -1,6 +1,9 @@
 -- Lines are found.
-use Rattle.std.proofs.Common.{◌≡◌, ℕ, ◌^◌, ◌<◌, List, ◌++◌, drop, refl, ap, sym, ◌∙◌, append_assoc, codes, Option, true, false}
+use Rattle.std.proofs.Common.{◌≡◌, ℕ, ◌^◌, ◌<◌, arith, List, ◌++◌, take, drop, refl, ap, sym, ◌∙◌, append_assoc, codes, Option, true, false}
 use Rattle.std.specs.Prelude.{decimal}
+use Rattle.std.specs.List.{prefix_len}
+use Rattle.std.proofs.lemmas.Fmt.{decimal_injective}
+use Rattle.std.proofs.lemmas.List.{append_cancel_left}
 use Rattle.lio_labels.specs.declared.label.Label.{Label}
 use Rattle.lio_values.specs.declared.act.Act.{Act}
 use Rattle.lio_values.specs.declared.act.Reply.{Reply}
@@ -9,10 +12,13 @@ use Rattle.lio_values.specs.PlainText.{label_in_brackets}
 use Rattle.lio_events.specs.EntryText.{act_text, reply_text, target_text, line_text}
 use Rattle.lio_events.specs.JournalText.{entry_text}
 use Rattle.lio_events_reading.specs.Fits.{TargetFits}
-use Rattle.lio_events_reading.specs.Lines.{turn_text, IsTurnOver}
+use Rattle.lio_events_reading.specs.Lines.{turn_text, IsActorOf, IsTurnOver}
+use Rattle.lio_events_reading.specs.Cut.{IsWord}
 use Rattle.lio_events_reading.specs.Over.{IsLabelOver, IsEntryOver}
-use Rattle.lio_events_reading.specs.Reading.{Finds}
+use Rattle.lio_events_reading.specs.Reading.{Finds, is_word_byte}
 use Rattle.lio_events_reading.proofs.ActLemmas.{colon}
+use Rattle.lio_events_reading.proofs.CutLemmas.{finds_word}
+use Rattle.lio_events_reading.proofs.NumberLemmas.{digits_word}
 
 regroup : (d s t l a c r n : List ℕ) → ((((((((d ++ s) ++ t) ++ s) ++ l) ++ s) ++ a) ++ c) ++ r) ++ n ≡ d ++ (s ++ (t ++ (s ++ (l ++ (s ++ (((a ++ c) ++ r) ++ n))))))
 regroup d s t l a c r n = simp append_assoc
@@ -60,3 +66,38 @@ pub is_seen : (names : List (List ℕ)) (line start : List ℕ) (ticket : ℕ) (
     → (entry : Entry) → IsEntryOver names entry → entry.ticket ≡ ticket → entry_text names false entry ≡ line → found ≡ entry
 unfolding entry_text
 is_seen names line start ticket found all gives entry o same is = gives entry o same (all ∙ sym is)
+
+-- a line's ticket and actor in front of what stands behind the line
+behind_ticket : (d s l r : List ℕ) → ((d ++ s) ++ l) ++ r ≡ d ++ (s ++ (l ++ r))
+behind_ticket d s l r = simp append_assoc
+
+behind_actor : (d s t l a c r n e : List ℕ) → (((((((((d ++ s) ++ t) ++ s) ++ l) ++ s) ++ a) ++ c) ++ r) ++ n) ++ e ≡ d ++ (s ++ (t ++ (s ++ (l ++ (s ++ ((((a ++ c) ++ r) ++ n) ++ e))))))
+behind_actor d s t l a c r n e = simp append_assoc
+
+pub finds_actor : (bytes word mid next : List ℕ) (actor : ℕ) (left : List ℕ) → Finds (λ word. word) IsWord bytes word mid → next ≡ drop 1 mid → Finds decimal (λ n. n < 2 ^ 32) next actor left → IsActorOf bytes actor
+unfolding entry_text line_text
+finds_actor bytes word mid next actor left finds d number names entry rest wide short is =
+    let blank : List ℕ = codes " " in
+    let end : List ℕ = codes "\n" in
+    let w = finds (decimal entry.ticket) (blank ++ (line_text names entry ++ rest)) (digits_word entry.ticket wide) refl (is ∙ behind_ticket (decimal entry.ticket) blank (line_text names entry) rest) in
+    (number entry.actor _ short refl (d ∙ ap (λ bytes. drop 1 bytes) w.1
+    ∙ behind_actor (decimal entry.actor) blank (target_text entry.target) (label_in_brackets names entry.at) (act_text names entry.act) colon (reply_text names entry.reply) end rest)).0
+
+-- so lines with the same ticket at the front of the same bytes are of one actor
+pub same_actor : (names : List (List ℕ)) (one two : Entry) (r s : List ℕ) → one.ticket ≡ two.ticket → one.actor < 2 ^ 32 → two.actor < 2 ^ 32 → entry_text names true one ++ r ≡ entry_text names true two ++ s → one.actor ≡ two.actor
+unfolding entry_text line_text
+same_actor names one two r s tickets near far is =
+    let blank : List ℕ = codes " " in
+    let end : List ℕ = codes "\n" in
+    let tail : Entry → List ℕ → List ℕ = λ e q. blank ++ (target_text e.target ++ (blank ++ (label_in_brackets names e.at ++ (blank ++ ((((act_text names e.act ++ colon) ++ reply_text names e.reply) ++ end) ++ q))))) in
+    let front : (e : Entry) (q : List ℕ) → entry_text names true e ++ q ≡ decimal e.ticket ++ (blank ++ (line_text names e ++ q)) = λ e q. behind_ticket (decimal e.ticket) blank (line_text names e) q in
+    let behind : (e : Entry) (q : List ℕ) → line_text names e ++ q ≡ decimal e.actor ++ tail e q =
+    λ e q. behind_actor (decimal e.actor) blank (target_text e.target) (label_in_brackets names e.at) (act_text names e.act) colon (reply_text names e.reply) end q in
+    let whole : decimal one.ticket ++ (blank ++ (line_text names one ++ r)) ≡ decimal one.ticket ++ (blank ++ (line_text names two ++ s)) =
+    sym (front one r) ∙ is ∙ front two s ∙ ap (λ (n : ℕ). decimal n ++ (blank ++ (line_text names two ++ s))) (sym tickets) in
+    let lines : line_text names one ++ r ≡ line_text names two ++ s = append_cancel_left blank _ _ (append_cancel_left (decimal one.ticket) _ _ whole) in
+    let bytes : List ℕ = line_text names one ++ r in
+    let words = finds_word bytes (take (prefix_len is_word_byte bytes) bytes) (drop (prefix_len is_word_byte bytes) bytes) refl refl in
+    let a = words (decimal one.actor) (tail one r) (digits_word one.actor (omega arith)) refl (behind one r) in
+    let b = words (decimal two.actor) (tail two s) (digits_word two.actor (omega arith)) refl (lines ∙ behind two s) in
+    decimal_injective one.actor two.actor (omega arith) (omega arith) (sym a.0 ∙ b.0)

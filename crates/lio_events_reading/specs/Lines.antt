@@ -1,5 +1,5 @@
 -- Lines as texts of entries.
-use Rattle.std.specs.Prelude.{◌≡◌, ℕ, true, false, List, ◌++◌, codes}
+use Rattle.std.specs.Prelude.{◌≡◌, ℕ, ◌<◌, ◌^◌, true, false, List, ◌++◌, codes}
 use Rattle.lio_values.specs.declared.act.Act.{Act}
 use Rattle.lio_values.specs.declared.act.Reply.{Reply}
 use Rattle.lio_values.specs.declared.entry.Entry.{Entry}
@@ -29,3 +29,7 @@ turn_text names turn = act_text names turn.0 ++ codes " : " ++ reply_text names 
 
 abbrev pub IsTurnOver : List (List ℕ) → Act × Reply → Type 0
 IsTurnOver names turn = IsActOver names turn.0 × IsReplyOver names turn.1
+
+-- wherever the line of an entry stands at the front of bytes, with its ticket, this is the number of its actor
+abbrev pub IsActorOf : List ℕ → ℕ → Type 0
+IsActorOf bytes actor = (names : List (List ℕ)) (entry : Entry) (rest : List ℕ) → entry.ticket < 2 ^ 64 → entry.actor < 2 ^ 32 → bytes ≡ entry_text names true entry ++ rest → actor ≡ entry.actor

@@ -5,7 +5,7 @@ ghost use Rattle.lio_events.specs.EntryText.{line_text};
 ghost use Rattle.lio_events.specs.JournalText.{entry_text};
 ghost use Rattle.lio_events.specs.Printable.{IsPrintable};
 ghost use Rattle.lio_events_reading.specs.Over.{IsEntryOver};
-ghost use Rattle.lio_events_reading.specs.Lines.{HasNone, HasNoneSeen, IsOnly, IsOnlySeen};
+ghost use Rattle.lio_events_reading.specs.Lines.{HasNone, HasNoneSeen, IsActorOf, IsOnly, IsOnlySeen};
 ghost use Rattle.lio_events_reading.specs.Lines.{turn_text, IsTurnOver};
 ghost use Rattle.lio_events_reading.specs.Reading.{Finds};
 
@@ -117,4 +117,15 @@ pub fn read_seen(
     let mut text = Cursor::new(line);
     let entry = line_behind(&mut text, alloc, names, ticket)?;
     confirmed(alloc, entry, line, false, names)
+}
+
+/// The number of the task whose turn the line shows that stands at the front of these bytes, with
+/// its ticket; some number where no line stands there.
+pub fn actor_of(bytes: &[u8]) -> u32
+    ensures { IsActorOf bytes.now result }
+{
+    let mut text = Cursor::new(bytes);
+    text.word();
+    text.skip(1);
+    number(&mut text)
 }

@@ -21,5 +21,5 @@ mod start;
 mod values;
 mod words;
 
-pub use entry::{read_entry, read_seen};
+pub use entry::{actor_of, read_entry, read_seen};
 pub use fault::EntryFault;

@@ -1,6 +1,7 @@
 //! Answers commands of one line, one line each: the worked examples of the libraries, as data.
 #![tactic(auto)]
 
+mod audits;
 mod hints;
 mod logs;
 mod low;

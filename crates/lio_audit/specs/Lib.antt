@@ -1,0 +1,5 @@
+pub mod History
+pub mod Expected
+pub mod Replay
+pub mod Laws
+pub mod View

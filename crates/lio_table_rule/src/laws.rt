@@ -1,0 +1,57 @@
+//! The laws of the rule. Each function does nothing: its contract is the law.
+ghost use Rattle.lio_table_rule.specs.Laws.{ClaimKeepsTheRule, TicketKeepsTheRule};
+ghost use Rattle.lio_table_rule.specs.Laws.{GiveKeepsTheRule, SplitKeepsTheRule};
+ghost use Rattle.lio_table_rule.specs.Laws.{JoinKeepsTheRule, FreshTableMeetsTheRule};
+ghost use Rattle.lio_table_rule.specs.Laws.{ClosedTableHasRun, LookKeepsTheRule};
+ghost use Rattle.lio_table_rule.specs.Laws.{LogsAreLogged, SeatsNodesStand};
+
+/// A claim keeps the rule.
+pub fn claim_keeps_the_rule()
+    ensures { ClaimKeepsTheRule }
+{}
+
+/// A ticket that is drawn for a turn keeps the rule.
+pub fn ticket_keeps_the_rule()
+    ensures { TicketKeepsTheRule }
+{}
+
+/// A node that is given back keeps the rule.
+pub fn give_keeps_the_rule()
+    ensures { GiveKeepsTheRule }
+{}
+
+/// A look at word 0 keeps the rule.
+pub fn look_keeps_the_rule()
+    ensures { LookKeepsTheRule }
+{}
+
+/// A seat that is cut in two keeps the rule.
+pub fn split_keeps_the_rule()
+    ensures { SplitKeepsTheRule }
+{}
+
+/// Two seats that are made one keep the rule.
+pub fn join_keeps_the_rule()
+    ensures { JoinKeepsTheRule }
+{}
+
+/// At each moment the logs of all nodes, at home and with seats, are logs of turns from where the
+/// table began.
+pub fn logs_are_logged()
+    ensures { LogsAreLogged }
+{}
+
+/// At each moment the nodes that a seat holds are cells of a sound configuration.
+pub fn seats_nodes_stand()
+    ensures { SeatsNodesStand }
+{}
+
+/// A table that begins with a sound configuration and empty logs meets the rule.
+pub fn fresh_table_meets_the_rule()
+    ensures { FreshTableMeetsTheRule }
+{}
+
+/// A table that is closed by the seat with all tickets has run from where it began.
+pub fn closed_table_has_run()
+    ensures { ClosedTableHasRun }
+{}
