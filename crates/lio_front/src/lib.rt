@@ -13,6 +13,6 @@ mod write;
 pub use clashes::clash;
 pub use fault::{FrontFault, OutFault};
 pub use inputs::load_inputs;
-pub use loading::{Front, MOST_POLICY_BYTES, MOST_SCRIPT_BYTES, load};
+pub use loading::{Front, MOST_POLICY_BYTES, MOST_SCRIPT_BYTES, fetch, load};
 pub use summing::summary;
 pub use write::write_out;

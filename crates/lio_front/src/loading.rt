@@ -36,7 +36,7 @@ pub struct Front {
 }
 
 /// Fetches a file, and names it where it can't be had. The store's files stay.
-pub(crate) fn fetch<S: Store>(
+pub fn fetch<S: Store>(
     alloc: Global,
     store: &mut S,
     name: &[u8],

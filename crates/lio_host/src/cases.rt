@@ -5,14 +5,17 @@ use lio_clauses::NoMemory;
 use lio_events::Journal;
 use lio_host_main::{HostStatus, Outcome, host_main};
 use lio_host_notes::{Source, notes_text, troubles_of};
-use lio_host_refusals::{detail_of, refusal_text, trouble_text};
+use lio_host_refusals::{Texts, detail_of, refusal_text, trouble_text};
 use lio_outside::{MemSay, MemStore, Trouble};
 use lio_start::Job;
+use lio_workers::OpenGate;
 use std::alloc::{AllocError, Global};
 use std::fs::Files;
 use std::io;
 use std::process::ExitCode;
+use std::sync::Wait;
 use std::test::Fail;
+use std::thread::Threads;
 
 /// A part of a case: its word, what it is about, and its text.
 #[derive(Drop)]
@@ -228,11 +231,10 @@ fn begins_as_said(
     case: &Case,
     answer: &HostStatus,
     words: &[String],
-    policy: &str,
-    script: &str,
+    texts: Texts<'_>,
 ) -> Result<bool, Fail> {
     let why = why(alloc, case)?;
-    let found = detail_of(alloc, answer, why, policy.as_bytes(), script.as_bytes())?;
+    let found = detail_of(alloc, answer, why, texts)?;
     let said = refusal_text(alloc, answer, words, &found);
     drop(found);
     Ok(said?.as_str().starts_with(case.text("says").unwrap_or("")))
@@ -245,13 +247,9 @@ fn answers_as_said(
     expected: &Part,
     answer: &HostStatus,
     words: &[String],
-    policy: &str,
-    script: &str,
+    texts: Texts<'_>,
 ) -> Result<bool, Fail> {
-    Ok(
-        is_expected(alloc, expected, answer)?
-            && begins_as_said(alloc, case, answer, words, policy, script)?,
-    )
+    Ok(is_expected(alloc, expected, answer)? && begins_as_said(alloc, case, answer, words, texts)?)
 }
 
 /// Whether the notes on a run are those of a case, where it has them.
@@ -274,9 +272,17 @@ fn notes_as_said(
     Ok(notes.as_str() == expected)
 }
 
+/// The bytes of a file, if it is there.
+fn file_of(alloc: Global, store: &MemStore, name: &[u8]) -> Result<Option<Vec<u8>>, Fail> {
+    match store.get(name) {
+        Some(bytes) => Ok(Some(Vec::from_slice(alloc, bytes)?)),
+        None => Ok(None),
+    }
+}
+
 /// Whether the host does as a case says, over a store with its files.
-fn does_as_said(
-    alloc: Global,
+fn does_as_said<R: AllocGlobal + Threads + Wait + Sync>(
+    rt: &R,
     case: &Case,
     expected: &Part,
     store: &mut MemStore,
@@ -284,18 +290,26 @@ fn does_as_said(
     policy: &str,
     script: &str,
 ) -> Result<bool, Fail> {
+    let alloc = rt.alloc();
     let entries = case.number("entries")?.unwrap_or(0);
+    let history = file_of(alloc, store, b"h")?;
     let mut say = MemSay::new(alloc, failing(alloc, case, "failsay")?);
     let Outcome {
         status,
         journal,
         job,
-    } = host_main(alloc, words, store, &mut say);
+    } = host_main(rt, alloc, words, store, &mut say, &OpenGate);
     let count = journal.entries().len();
     let noted = notes_as_said(alloc, case, &job, &journal, script);
-    drop(job);
     drop(journal);
-    let as_said = answers_as_said(alloc, case, expected, &status, words, policy, script);
+    let texts = Texts {
+        policy: policy.as_bytes(),
+        script: script.as_bytes(),
+        history: &history,
+        job: &job,
+    };
+    let as_said = answers_as_said(alloc, case, expected, &status, words, texts);
+    drop(job);
     let said = was_said(case, &status, say.said());
     drop(status);
     drop(say);
@@ -309,7 +323,7 @@ fn does_as_said(
 }
 
 /// Whether the program ends with the exit status that a case says, over a store with its files.
-fn ends_as_said<R: AllocGlobal + Files + Eprint>(
+fn ends_as_said<R: AllocGlobal + Files + Eprint + Threads + Wait + Sync>(
     rt: &R,
     case: &Case,
     words: &[String],
@@ -322,14 +336,14 @@ fn ends_as_said<R: AllocGlobal + Files + Eprint>(
     let number = expected.about.as_str().parse::<u8>()?;
     let mut store = store(rt.alloc(), case, policy, script)?;
     let mut say = MemSay::new(rt.alloc(), failing(rt.alloc(), case, "failsay")?);
-    let exit = respond(rt, words, &mut store, &mut say);
+    let exit = respond(rt, words, &mut store, &mut say, &OpenGate);
     drop(store);
     drop(say);
     Ok(exit == ExitCode::from(number))
 }
 
 /// Whether a case holds, under this policy and script.
-fn holds<R: AllocGlobal + Files + Eprint>(
+fn holds<R: AllocGlobal + Files + Eprint + Threads + Wait + Sync>(
     rt: &R,
     case: &Case,
     policy: &str,
@@ -342,7 +356,7 @@ fn holds<R: AllocGlobal + Files + Eprint>(
     let words = words(alloc, case)?;
     let mut store = store(alloc, case, policy, script)?;
     let holds = does_as_said(
-        alloc,
+        rt,
         case,
         expected,
         &mut store,
@@ -355,7 +369,7 @@ fn holds<R: AllocGlobal + Files + Eprint>(
 }
 
 /// Whether a case holds, also where it cuts the policy at each place before its last brace.
-fn holds_wherever<R: AllocGlobal + Files + Eprint>(
+fn holds_wherever<R: AllocGlobal + Files + Eprint + Threads + Wait + Sync>(
     rt: &R,
     case: &Case,
     policy: &str,
@@ -376,7 +390,7 @@ fn holds_wherever<R: AllocGlobal + Files + Eprint>(
 }
 
 /// The name of the first case of a text that doesn't hold, or nothing where all do.
-pub fn first_failing<R: AllocGlobal + Files + Eprint>(
+pub fn first_failing<R: AllocGlobal + Files + Eprint + Threads + Wait + Sync>(
     rt: &R,
     rows: &str,
 ) -> Result<Option<String>, Fail> {

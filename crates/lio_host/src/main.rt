@@ -12,6 +12,8 @@ ghost use Rattle.lio_host_words.specs.Sorted.{bytes_of_words};
 #[cfg(test)]
 mod cases;
 #[cfg(test)]
+mod checked;
+#[cfg(test)]
 mod cut;
 #[cfg(test)]
 mod examples;
@@ -28,7 +30,11 @@ mod rows;
 #[cfg(test)]
 mod tests;
 #[cfg(test)]
+mod threads;
+#[cfg(test)]
 mod worked;
+#[cfg(test)]
+mod workers;
 
 use lio_clauses::NoMemory;
 use lio_events::Journal;
@@ -38,8 +44,11 @@ use lio_host_refusals::{print_refusal, refusal_detail, script_name, script_text}
 use lio_outside::{Say, Store};
 use lio_start::Job;
 use lio_system::{RealSay, RealStore};
+use lio_workers::{Gate, OpenGate};
 use std::fs::Files;
 use std::process::ExitCode;
+use std::sync::Wait;
+use std::thread::Threads;
 use std::{env, io, mem};
 
 /// The words after the program's name.
@@ -113,21 +122,27 @@ fn report<R: AllocGlobal + Files + Eprint, S: Store>(
     ensures files { S.holds store.new ≡ S.holds store.old }
     ensures count { S.faults store.old ≤ S.faults store.new }
 {
+    if let HostStatus::Done = status {
+        print_notes(rt, words, store, job, journal);
+        return;
+    }
     let alloc = rt.alloc();
-    let detail = refusal_detail(alloc, rt, store, status, words);
+    let detail = refusal_detail(alloc, rt, store, status, words, job);
     // A refusal that can't be printed still has its exit status.
     let _ = print_refusal(rt, alloc, status, words, &detail);
-    print_notes(rt, words, store, job, journal);
 }
 
 /// Runs the script that the words name, says on standard error what was refused or went wrong, if
 /// anything was or did, and gives the exit status of the answer.
-fn respond<R: AllocGlobal + Files + Eprint, S: Store, W: Say>(
+fn respond<R, S: Store, W: Say, G: Gate + Sync>(
     rt: &R,
     words: &[String],
     store: &mut S,
     say: &mut W,
+    gate: &G,
 ) -> ExitCode
+where
+    R: AllocGlobal + Files + Eprint + Threads + Wait + Sync,
     ensures { EndsWith (λ (journal : List Entry). record {
       words = bytes_of_words words.now;
       before = record {
@@ -149,7 +164,7 @@ fn respond<R: AllocGlobal + Files + Eprint, S: Store, W: Say>(
         status,
         journal,
         job,
-    } = host_main(rt.alloc(), words, store, say);
+    } = host_main(rt, rt.alloc(), words, store, say, gate);
     report(rt, words, store, &status, &job, &journal);
     // Giving back a long journal piece by piece would take a good part of the run.
     mem::forget(journal);
@@ -161,5 +176,5 @@ fn main(rt: HostRuntime) -> ExitCode {
     let words = words(&rt).unwrap_or(Vec::new(rt.alloc()));
     let mut store = RealStore::new(rt.alloc(), &rt);
     let mut say = RealSay::new(&rt);
-    respond(&rt, words.as_slice(), &mut store, &mut say)
+    respond(&rt, words.as_slice(), &mut store, &mut say, &OpenGate)
 }

@@ -336,29 +336,6 @@ said
 |turns 2
 |channel out 2
 entries 2
-case how many workers there are is no option so far
-input a.txt
-|x~
-words
-|p.json
-|s.lio
-|--workers=4
-status BadWords
-says
-|lio_host: BadWords: "--workers=4" is no option, and no name~
-absent out.txt
-case too many workers
-input a.txt
-|x~
-words
-|p.json
-|s.lio
-|--workers
-|65
-status BadWords
-says
-|lio_host: BadWords: "--workers" is no option, and no name~
-absent out.txt
 case a view without an observer
 input a.txt
 |x~

@@ -1,6 +1,7 @@
 //! The worked runs of the host: each case of `rows.rt` holds.
 
 use crate::cases::first_failing;
+use crate::checked::CHECKED;
 use crate::cut::CUT;
 use crate::examples::EXAMPLES;
 use crate::examples_of_tasks::EXAMPLES_OF_TASKS;
@@ -9,13 +10,16 @@ use crate::noted::{NOTED_FAULTS, NOTED_TASKS};
 use crate::outputs::{OPTIONS, OUTPUTS};
 use crate::rows::{CLASHES, FAULTS, REFUSED_POLICIES, REFUSED_SCRIPTS, RUNS, WRONG_WORDS};
 use crate::worked::WORKED_RUNS;
+use crate::workers::BY_WORKERS;
 use std::fs::Files;
 use std::process::Abort;
+use std::sync::Wait;
 use std::test::Fail;
+use std::thread::Threads;
 
 /// Asserts that each case of a text holds, and else names the first that doesn't.
-fn assert_all_hold(
-    rt: &(impl Abort + AllocGlobal + Files + Eprint),
+fn assert_all_hold<R: Abort + AllocGlobal + Files + Eprint + Threads + Wait + Sync>(
+    rt: &R,
     rows: &str,
 ) -> Result<(), Fail> {
     if let Some(name) = first_failing(rt, rows)? {
@@ -52,6 +56,16 @@ fn faults_name_their_file(rt: HostRuntime) -> Result<(), Fail> {
 #[test]
 fn words_give_commands(rt: HostRuntime) -> Result<(), Fail> {
     assert_all_hold(&rt, OPTIONS)
+}
+
+#[test]
+fn workers_run_tasks(rt: HostRuntime) -> Result<(), Fail> {
+    assert_all_hold(&rt, BY_WORKERS)
+}
+
+#[test]
+fn histories_are_taken_again(rt: HostRuntime) -> Result<(), Fail> {
+    assert_all_hold(&rt, CHECKED)
 }
 
 #[test]

@@ -20,7 +20,7 @@ use Rattle.lio_front.specs.Summary.{summary_text}
 use Rattle.lio_front.specs.declared.fault.OutFault.{OutFault}
 use Rattle.lio_front.specs.declared.fault.OutFault.TheVariants as out_fault
 use Rattle.lio_host_main.specs.declared.status.HostStatus.{HostStatus}
-use Rattle.lio_host_main.specs.declared.status.HostStatus.TheVariants.{Done, BadWords, Missing, ReadFault, BadPolicy, BadScript, BadStart, WriteFault, SayFault, NoMemory, Clash}
+use Rattle.lio_host_main.specs.declared.status.HostStatus.TheVariants.{Done, BadWords, Missing, ReadFault, BadPolicy, BadScript, BadStart, WriteFault, SayFault, NoMemory, NotARun, Clash}
 use Rattle.lio_host_main.specs.Order.{Order, seen_by, view_file, written}
 use Rattle.lio_host_main.specs.StatusOf.{status_of_out, status_of_say}
 use Rattle.lio_host_main.specs.Answers.{Outside, Finishes, summary_of}
@@ -72,4 +72,5 @@ finishes-from order ran before after told faults (WriteFault name) same first se
     (subst (λ (t : Option FileMap). StopsAt t after.told (written order ran.entries) name) same says.0, Rose-in_part before.faults faults after.faults after.faults first second (omega arith) says.1, says.2)
 finishes-from order ran before after told faults SayFault same first second says = (subst (λ (t : Option FileMap). after.told ≡ kept t (written order ran.entries)) same says.0, says.1, says.2)
 finishes-from order ran before after told faults NoMemory same first second says = (subst (λ (t : Option FileMap). KeepsFirst t after.told (written order ran.entries)) same says.0, says.1)
+finishes-from order ran before after told faults (NotARun line) same first second says = absurd says
 finishes-from order ran before after told faults (Clash name) same first second says = absurd says

@@ -2,3 +2,4 @@ pub mod Prepares
 pub mod Finishes
 pub mod Says
 mod ViewLemmas
+pub mod HistoryLemmas

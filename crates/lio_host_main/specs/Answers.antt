@@ -4,7 +4,6 @@ use Rattle.lio_values.specs.declared.entry.Entry.{Entry}
 use Rattle.lio_outside.specs.FileMap.{FileMap}
 use Rattle.lio_outside.specs.Count.{Rose}
 use Rattle.lio_outside.specs.Said.{said_with, SaidPartly}
-use Rattle.lio_outside.specs.Asking.{Refuse}
 use Rattle.lio_outside.specs.Outputs.{kept, KeepsFirst, StopsAt}
 use Rattle.lio_front.specs.Laws.{HoldsEachFile}
 use Rattle.lio_front.specs.Summary.{summary_text}
@@ -15,11 +14,13 @@ use Rattle.lio_rounds.specs.Headline.{IsRunOf}
 use Rattle.lio_rounds.specs.Runs.{IsByRounds}
 use Rattle.lio_host_words.specs.Command.{Command, command_of}
 use Rattle.lio_host_main.specs.declared.status.HostStatus.{HostStatus}
-use Rattle.lio_host_main.specs.declared.status.HostStatus.TheVariants.{Done, BadWords, Missing, ReadFault, BadPolicy, BadScript, BadStart, WriteFault, SayFault, NoMemory, Clash}
+use Rattle.lio_host_main.specs.declared.status.HostStatus.TheVariants.{Done, BadWords, Missing, ReadFault, BadPolicy, BadScript, BadStart, WriteFault, SayFault, NoMemory, NotARun, Clash}
 use Rattle.lio_host_main.specs.ExitStatus.{exit_status}
-use Rattle.lio_host_main.specs.Order.{Order, seen_by, view_file, written}
-use Rattle.lio_host_main.specs.StatusOf.{cause_of}
-use Rattle.lio_host_main.specs.Verdict.{IsVerdict, prepared, told_of, verdict}
+use Rattle.lio_audit.specs.History.{IsHistoryOf, Says as StopsRun}
+use Rattle.lio_audit.specs.declared.fault.AuditFault.{AuditFault}
+use Rattle.lio_audit.specs.declared.fault.AuditFault.TheVariants as audit_fault
+use Rattle.lio_host_main.specs.Order.{Order, Way, InRounds, ByWorkers, AsTold, seen_by, view_file, written}
+use Rattle.lio_host_main.specs.Verdict.{IsRefusedBy, IsVerdict, verdict}
 
 -- the outside at a moment: what the store tells of its files, what the output tells was said to it, and how many faults each had counted
 pub record Outside : Type 0 where
@@ -45,22 +46,55 @@ pub record NothingDone (call : Call) : Type 0 where
 pub record Refused (call : Call) (status : HostStatus) : Type 0 where
   pub command : Command
   pub words : command_of call.words ≡ Some command
-  pub refuse : Refuse (cause_of status) (told_of command.source call.before.told) (prepared command) call.before.faults call.after.faults status
+  pub refuse : IsRefusedBy command call.before.told call.before.faults call.after.faults status
   pub nothing : NothingDone call
 
 -- BadWords: the words give no command; or the observer's label is none over the policy's principals, and that is the verdict
 abbrev pub SaysBadWords : Call → Type 0
 SaysBadWords call = ((command_of call.words ≡ None) × NothingDone call) ⊎ Refused call BadWords
 
--- how a run was made: in rounds
+-- how a run was made: in rounds; in the order in which workers came to take turns, which is theirs; or as the bytes of a history tell, which are that of the run
+abbrev pub RanBy : Way → Order → Ran → Type 0
+RanBy InRounds order ran = IsByRounds (first_of order.job) ran
+RanBy (ByWorkers count) order ran = Unit {0}
+RanBy (AsTold bytes) order ran = IsHistoryOf order.job.policy.names (first_of order.job) bytes ran
+
 abbrev pub RanAs : Order → Ran → Type 0
-RanAs order ran = IsByRounds (first_of order.job) ran
+RanAs order ran = RanBy order.way order ran
 
 -- the journal is a complete run of what the verdict says, of which each observer sees what the erased calculus gives; and how it was made
 pub record RunsOrder (call : Call) (order : Order) (ran : Ran) : Type 0 where
-  pub verdict : IsVerdict call.before.told call.words (Ok order)
+  pub verdict : IsVerdict call.before.told call.words order
   pub is_run : IsRunOf order.job ran
   pub ran_as : RanAs order ran
+
+-- where a history is refused, its bytes are that of no complete run
+abbrev pub IsNone : List (List ℕ) → Configuration → List ℕ → AuditFault → Type 0
+IsNone names first bytes (audit_fault.NotARun line) = (ran : Ran) → IsHistoryOf names first bytes ran → ⊥
+IsNone names first bytes audit_fault.NoMemory = Unit {0}
+
+-- Bytes aren't the history of a complete run from a configuration, from a line on.
+pub record StopsAtLine (names : List (List ℕ)) (first : Configuration) (bytes : List ℕ) (line : ℕ) : Type 0 where
+  pub stops : StopsRun names first bytes (audit_fault.NotARun line)
+  pub none : (ran : Ran) → IsHistoryOf names first bytes ran → ⊥
+
+-- the bytes that a run was to follow aren't the history of one, from a line on
+abbrev pub StopsBy : Way → Order → ℕ → Type 0
+StopsBy (AsTold bytes) order line = StopsAtLine order.job.policy.names (first_of order.job) bytes line
+StopsBy other order line = ⊥
+
+-- why no run was made of an order: its history isn't that of one, or memory was wanting
+abbrev pub StopsTheRun : Order → HostStatus → Type 0
+StopsTheRun order (NotARun line) = StopsBy order.way order line
+StopsTheRun order NoMemory = Unit {0}
+StopsTheRun order other = ⊥
+
+-- NotARun: the verdict is to run as the bytes of a history tell, and they aren't that of a complete run, from the line on; nothing was done
+pub record SaysNotARun (call : Call) (line : ℕ) : Type 0 where
+  pub order : Order
+  pub verdict : IsVerdict call.before.told call.words order
+  pub stops : StopsBy order.way order line
+  pub nothing : NothingDone call
 
 -- the summary of a run
 abbrev pub summary_of : Order → Ran → List ℕ
@@ -114,6 +148,7 @@ Says call (BadStart place cause) = Refused call (BadStart place cause)
 Says call (WriteFault name) = Ends call call.journal (WriteFault name)
 Says call SayFault = Ends call call.journal SayFault
 Says call NoMemory = SaysNoMemory call
+Says call (NotARun line) = SaysNotARun call line
 Says call (Clash name) = Refused call (Clash name)
 
 -- the answer of a call whose verdict is this
@@ -121,14 +156,15 @@ abbrev pub answer_of : Result Order HostStatus → HostStatus
 answer_of (Ok order) = Done
 answer_of (Err status) = status
 
--- an answer of a file or an output that failed, for which its count of faults rose
+-- an answer of a file or an output that failed, for which its count of faults rose, or of a history that isn't that of a run
 abbrev pub IsFault : Call → HostStatus → Type 0
 IsFault call (ReadFault name) = Rose call.before.faults call.after.faults
 IsFault call (WriteFault name) = Rose call.before.faults call.after.faults
 IsFault call SayFault = Rose call.before.say_faults call.after.say_faults
+IsFault call (NotARun line) = SaysNotARun call line
 IsFault call other = ⊥
 
--- a call over these files is answered by its verdict, unless memory is wanting, or a file or the output failed
+-- a call over these files is answered by its verdict, unless memory is wanting, a file or the output failed, or the history to be followed isn't that of a run
 pub record Follows (call : Call) (status : HostStatus) (files : FileMap) : Type 0 where
   pub answer : (status ≡ answer_of (verdict files call.words)) ⊎ ((status ≡ NoMemory) ⊎ IsFault call status)
 

@@ -4,10 +4,12 @@ use Rattle.lio_front.specs.declared.fault.FrontFault.{FrontFault}
 use Rattle.lio_front.specs.declared.fault.FrontFault.TheVariants as front_fault
 use Rattle.lio_front.specs.declared.fault.OutFault.{OutFault}
 use Rattle.lio_front.specs.declared.fault.OutFault.TheVariants as out_fault
+use Rattle.lio_audit.specs.declared.fault.AuditFault.{AuditFault}
+use Rattle.lio_audit.specs.declared.fault.AuditFault.TheVariants as audit_fault
 use Rattle.lio_outside.specs.declared.say.SayFault as say
 use Rattle.lio_outside.specs.declared.say.SayFault.TheVariants as say_fault
 use Rattle.lio_host_main.specs.declared.status.HostStatus.{HostStatus}
-use Rattle.lio_host_main.specs.declared.status.HostStatus.TheVariants.{Done, BadWords, Missing, ReadFault, BadPolicy, BadScript, BadStart, WriteFault, SayFault, NoMemory, Clash}
+use Rattle.lio_host_main.specs.declared.status.HostStatus.TheVariants.{Done, BadWords, Missing, ReadFault, BadPolicy, BadScript, BadStart, WriteFault, SayFault, NoMemory, NotARun, Clash}
 
 -- the answer that a fault of a step before the run is
 abbrev pub status_of : FrontFault → HostStatus
@@ -18,6 +20,11 @@ status_of (front_fault.BadPolicy rule entry) = BadPolicy rule entry
 status_of (front_fault.BadScript line rule) = BadScript line rule
 status_of (front_fault.BadStart place cause) = BadStart place cause
 status_of front_fault.NoMemory = NoMemory
+
+-- the answer that a fault of a history is
+abbrev pub status_of_audit : AuditFault → HostStatus
+status_of_audit (audit_fault.NotARun line) = NotARun line
+status_of_audit audit_fault.NoMemory = NoMemory
 
 -- the answer that a fault of writing is
 abbrev pub status_of_out : OutFault → HostStatus
@@ -41,4 +48,5 @@ cause_of (BadStart place cause) = IsSaid
 cause_of (WriteFault name) = IsNever
 cause_of SayFault = IsNever
 cause_of NoMemory = IsWanting
+cause_of (NotARun line) = IsNever
 cause_of (Clash name) = IsSaid

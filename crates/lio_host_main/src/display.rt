@@ -52,6 +52,7 @@ impl fmt::Display for HostStatus {
             }
             HostStatus::SayFault => f.write_str("SayFault"),
             HostStatus::NoMemory => f.write_str("NoMemory"),
+            HostStatus::NotARun(line) => write!(f, "NotARun({line})"),
             HostStatus::Clash(name) => {
                 let name = Shown(name);
                 write!(f, "Clash({name})")

@@ -8,21 +8,24 @@ ghost use Rattle.lio_host_main.specs.Answers.{Says, Follows, journal_with};
 use crate::finish::finish_run;
 use crate::order::Order;
 use crate::prepare::prepare_order;
+use crate::running::run_order;
 use crate::status::HostStatus;
-use lio_clauses::NoMemory;
 use lio_events::Journal;
 use lio_host_words::read_command;
 use lio_outside::{Say, Store};
-use lio_rounds::{Ran, run};
+use lio_rounds::Ran;
 use lio_start::Job;
+use lio_workers::Gate;
 use std::alloc::Global;
+use std::sync::Wait;
+use std::thread::Threads;
 
-/// How a call of the host ended, the journal of what it ran, and where it is done, what it ran.
+/// How a call of the host ended, the journal of what it ran, and what that was.
 #[derive(Drop)]
 pub struct Outcome {
     pub status: HostStatus,
     pub journal: Journal,
-    /// What was run, where the answer is Done.
+    /// What was run, where the answer is Done, or was to be run, where no run was made of it.
     pub job: Option<Job>,
 }
 
@@ -35,6 +38,26 @@ fn refused(alloc: Global, status: HostStatus) -> Outcome
         status,
         journal: Journal::new(alloc),
         job: None,
+    }
+}
+
+/// The outcome of an order of which no run was made.
+fn stopped(alloc: Global, status: HostStatus, order: Order<'_>) -> Outcome
+    ensures status { result.status ≡ status }
+    ensures journal { result.journal ≡ [] }
+{
+    let Order {
+        job,
+        observer,
+        way,
+        ..
+    } = order;
+    drop(observer);
+    drop(way);
+    Outcome {
+        status,
+        journal: Journal::new(alloc),
+        job: Some(job),
     }
 }
 
@@ -57,7 +80,14 @@ fn unfinished(alloc: Global, status: HostStatus, journal: Journal) -> Outcome
 }
 
 /// What `host_main` answers.
-fn answer<S: Store, W: Say>(alloc: Global, words: &[String], store: &mut S, say: &mut W) -> Outcome
+fn answer<R: Threads + Wait + Sync, S: Store, W: Say, G: Gate + Sync>(
+    rt: &R,
+    alloc: Global,
+    words: &[String],
+    store: &mut S,
+    say: &mut W,
+    gate: &G,
+) -> Outcome
     ensures count { S.faults store.old ≤ S.faults store.new }
     ensures say_count { W.faults say.old ≤ W.faults say.new }
     ensures says { Says (record {
@@ -84,16 +114,19 @@ fn answer<S: Store, W: Say>(alloc: Global, words: &[String], store: &mut S, say:
         Ok(order) => order,
         Err(status) => return refused(alloc, status),
     };
-    let ran = match run(alloc, &order.job) {
+    let ran = match run_order(rt, alloc, &order, gate) {
         Ok(ran) => ran,
-        Err(NoMemory) => {
-            drop(order);
-            return refused(alloc, HostStatus::NoMemory);
-        }
+        Err(status) => return stopped(alloc, status, order),
     };
     let finished = finish_run(alloc, store, say, &order, &ran);
-    let Order { job, observer, .. } = order;
+    let Order {
+        job,
+        observer,
+        way,
+        ..
+    } = order;
     drop(observer);
+    drop(way);
     let Ran { journal, config } = ran;
     drop(config);
     match finished {
@@ -109,13 +142,15 @@ fn answer<S: Store, W: Say>(alloc: Global, words: &[String], store: &mut S, say:
     }
 }
 
-/// Does what the words ask for: runs the script under the policy, writes the files, and says the
-/// summary.
-pub fn host_main<S: Store, W: Say>(
+/// Does what the words ask for: runs the script under the policy, in rounds, by workers or as a
+/// history tells, writes the files, and says the summary. The gate is told of each turn of a worker.
+pub fn host_main<R: Threads + Wait + Sync, S: Store, W: Say, G: Gate + Sync>(
+    rt: &R,
     alloc: Global,
     words: &[String],
     store: &mut S,
     say: &mut W,
+    gate: &G,
 ) -> Outcome
     ensures count { S.faults store.old ≤ S.faults store.new }
     ensures say_count { W.faults say.old ≤ W.faults say.new }
@@ -154,5 +189,5 @@ pub fn host_main<S: Store, W: Say>(
     ensures bad_words { command_of (bytes_of_words words.now) ≡ None
         → result.status ≡ HostStatus.BadWords }
 {
-    answer(alloc, words, store, say)
+    answer(rt, alloc, words, store, say, gate)
 }

@@ -8,12 +8,14 @@ mod host;
 pub mod laws;
 mod order;
 mod prepare;
+mod running;
 mod status;
 mod workload_files;
 
 pub use display::Shown;
 pub use finish::finish_run;
 pub use host::{Outcome, host_main};
-pub use order::Order;
+pub use order::{Loaded, Order, Way};
 pub use prepare::prepare_order;
+pub use running::expected_line;
 pub use status::HostStatus;

@@ -2,6 +2,7 @@
 
 ghost use Rattle.std.specs.Prelude.{◌≡◌};
 
+use lio_audit::AuditFault;
 use lio_clauses::NoMemory;
 use lio_front::{FrontFault, OutFault};
 use lio_outside::SayFault;
@@ -33,6 +34,9 @@ pub enum HostStatus {
     SayFault,
     /// No memory was left.
     NoMemory,
+    /// The first line, from 1, at which the history that is to be taken again isn't that of a run;
+    /// line 0 where it is too long.
+    NotARun(u32),
     /// The first file to be written whose name is that of a file that is read, or of one that is
     /// written before.
     Clash(Text),
@@ -62,6 +66,19 @@ impl From<FrontFault> for HostStatus {
             FrontFault::BadScript(line, rule) => HostStatus::BadScript(line, rule),
             FrontFault::BadStart(place, cause) => HostStatus::BadStart(place, cause),
             FrontFault::NoMemory => HostStatus::NoMemory,
+        }
+    }
+}
+
+impl From<AuditFault> for HostStatus {
+    ghost use Rattle.lio_host_main.specs.StatusOf.{status_of_audit};
+
+    ghost from_gives = { λ fault status. status ≡ status_of_audit fault };
+
+    fn from(fault: AuditFault) -> HostStatus {
+        match fault {
+            AuditFault::NotARun(line) => HostStatus::NotARun(line),
+            AuditFault::NoMemory => HostStatus::NoMemory,
         }
     }
 }
@@ -111,6 +128,7 @@ impl HostStatus {
             HostStatus::WriteFault(_) => 7,
             HostStatus::SayFault => 8,
             HostStatus::NoMemory => 9,
+            HostStatus::NotARun(_) => 10,
             HostStatus::Clash(_) => 11,
         }
     }

@@ -2,14 +2,16 @@
 
 ghost use Rattle.std.specs.Prelude.{◌≡◌, ◌≤◌};
 
-use crate::words::{FileNames, file_names, names_files};
+use crate::words::{FileNames, file_names, history_name, names_files};
+use lio_audit::MOST_HISTORY_BYTES;
 use lio_clauses::NoMemory;
 use lio_front::{MOST_POLICY_BYTES, MOST_SCRIPT_BYTES};
 use lio_hints::{Bytes, Mistake, PolicyMistake, policy_mistake, script_mistake};
-use lio_host_main::HostStatus;
+use lio_host_main::{HostStatus, expected_line};
 use lio_outside::{Store, Trouble};
 use lio_policy::{Policy, read_policy};
 use lio_policy_draft::{EntryAt, PolicyFault, entry_at};
+use lio_start::Job;
 use lio_syntax::{line_at, parameter_count};
 use lio_values::Text;
 use std::alloc::{AllocError, Global};
@@ -29,6 +31,8 @@ pub enum Detail {
     Line(LineAt),
     /// What stood in the way of a file.
     Fault(FaultAt),
+    /// The line at which a history stops.
+    History(HistoryAt),
 }
 
 /// What stood in the way of a file that couldn't be read or written, and the channels that were
@@ -37,6 +41,14 @@ pub enum Detail {
 pub struct FaultAt {
     pub why: Option<String>,
     pub channels: Option<Channels>,
+}
+
+/// A line at which a history stops, with its end: what stands there, where it isn't missing, and what
+/// should, where that is known.
+#[derive(Drop)]
+pub struct HistoryAt {
+    pub found: Option<Vec<u8>>,
+    pub expected: Option<Vec<u8>>,
 }
 
 /// How many channels were written, and how many there are.
@@ -180,14 +192,59 @@ fn channels_of(alloc: Global, policy: &[u8], name: &Text) -> Result<Option<Chann
     }
 }
 
-/// What the trouble with a file, and the texts of the policy and the script say of a refusal.
+/// The line of a history with a number, from 1, with its line end, if it is there.
+fn history_line(history: &[u8], number: u32) -> Option<&[u8]> {
+    let mut line = 1u32;
+    let mut from = 0;
+    for (at, byte) in history.iter().enumerate() {
+        if *byte != b'\n' {
+            continue;
+        }
+        if line == number {
+            return history.get(from..=at);
+        }
+        line = line.saturating_add(1);
+        from = at + 1;
+    }
+    match history.get(from..) {
+        Some([]) => None,
+        rest if line == number => rest,
+        _ => None,
+    }
+}
+
+/// The line at which the history of a job's run stops.
+fn history_detail(alloc: Global, job: &Job, history: &[u8], line: u32) -> Result<Detail, NoMemory> {
+    let found = match history_line(history, line) {
+        Some(found) => Some(Vec::from_slice(alloc, found)?),
+        None => None,
+    };
+    let expected = expected_line(alloc, job, history, line)?;
+    Ok(Detail::History(HistoryAt { found, expected }))
+}
+
+/// The texts of a refusal, and what was to be run, where a history that is taken again stops.
+#[derive(Clone, Copy)]
+pub struct Texts<'a> {
+    pub policy: &'a [u8],
+    pub script: &'a [u8],
+    pub history: &'a Option<Vec<u8>>,
+    pub job: &'a Option<Job>,
+}
+
+/// What the trouble with a file, and the texts that were read say of a refusal.
 pub fn detail_of(
     alloc: Global,
     status: &HostStatus,
     why: Option<String>,
-    policy: &[u8],
-    script: &[u8],
+    texts: Texts<'_>,
 ) -> Result<Detail, NoMemory> {
+    let Texts {
+        policy,
+        script,
+        history,
+        job,
+    } = texts;
     match status {
         HostStatus::ReadFault(_) => Ok(Detail::Fault(FaultAt {
             why,
@@ -203,6 +260,10 @@ pub fn detail_of(
         HostStatus::BadPolicy(rule, entry) => entry_detail(alloc, policy, *rule, *entry),
         HostStatus::BadScript(line, rule) => line_detail(alloc, policy, script, *line, *rule),
         HostStatus::BadStart(place, _) => task_detail(alloc, policy, script, *place),
+        HostStatus::NotARun(line) if *line > 0 => match (job, history) {
+            (Some(job), Some(history)) => history_detail(alloc, job, history.as_slice(), *line),
+            _ => Ok(Detail::Nothing),
+        },
         _ => Ok(Detail::Nothing),
     }
 }
@@ -225,6 +286,29 @@ fn text_again<S: Store>(
             .fetch(alloc, name.as_bytes(), limit)
             .unwrap_or(Vec::new(alloc)),
         _ => Vec::new(alloc),
+    }
+}
+
+/// The text of the history that is taken again, where it says something of an answer and is a plain
+/// file, which can be read once more. The files stay as they are.
+fn history_again<S: Store>(
+    alloc: Global,
+    files: &impl Files,
+    store: &mut S,
+    status: &HostStatus,
+    words: &[String],
+) -> Option<Vec<u8>>
+    ensures files { S.holds store.new ≡ S.holds store.old }
+    ensures count { S.faults store.old ≤ S.faults store.new }
+{
+    let (HostStatus::NotARun(_), Some(name)) = (status, history_name(words)) else {
+        return None;
+    };
+    match fs::metadata(files, name) {
+        Ok(about) if about.is_file() => store
+            .fetch(alloc, name.as_bytes(), MOST_HISTORY_BYTES as u32)
+            .ok(),
+        _ => None,
     }
 }
 
@@ -265,14 +349,16 @@ pub fn script_text<S: Store>(
     text_again(alloc, files, store, true, name, MOST_SCRIPT_BYTES)
 }
 
-/// What the files that the words name say of a refusal. They are read once more, and stay as they
-/// are; where they can't be, nothing beyond the answer is known.
+/// What the files that the words name say of a refusal, and, where a history stops, what was to be
+/// run. They are read once more, and stay as they are; where they can't be, nothing beyond the answer
+/// is known.
 pub fn refusal_detail<S: Store>(
     alloc: Global,
     files: &impl Files,
     store: &mut S,
     status: &HostStatus,
     words: &[String],
+    job: &Option<Job>,
 ) -> Detail
     ensures files { S.holds store.new ≡ S.holds store.old }
     ensures count { S.faults store.old ≤ S.faults store.new }
@@ -284,5 +370,12 @@ pub fn refusal_detail<S: Store>(
         _ => None,
     };
     let (policy, script) = texts_again(alloc, files, store, status, words);
-    detail_of(alloc, status, why, policy.as_slice(), script.as_slice()).unwrap_or(Detail::Nothing)
+    let history = history_again(alloc, files, store, status, words);
+    let texts = Texts {
+        policy: policy.as_slice(),
+        script: script.as_slice(),
+        history: &history,
+        job,
+    };
+    detail_of(alloc, status, why, texts).unwrap_or(Detail::Nothing)
 }

@@ -7,8 +7,8 @@ mod refusal;
 mod words;
 
 pub use detail::{
-    Channels, Detail, FaultAt, LineAt, TaskAt, WrongEntry, detail_of, refusal_detail, script_text,
-    trouble_text,
+    Channels, Detail, FaultAt, HistoryAt, LineAt, TaskAt, Texts, WrongEntry, detail_of,
+    refusal_detail, script_text, trouble_text,
 };
 pub use refusal::{print_refusal, refusal_text};
 pub use words::script_name;

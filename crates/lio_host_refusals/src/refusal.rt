@@ -1,8 +1,9 @@
 //! What is printed of a refusal: the answer as its type writes it, what was refused and where, and
 //! how to mend it.
 
-use crate::detail::{Channels, Detail, FaultAt, LineAt};
-use crate::words::{FileNames, USAGE, file_names, words_text};
+use crate::detail::{Channels, Detail, FaultAt, HistoryAt, LineAt};
+use crate::words::{FileNames, USAGE, file_names, history_name, names_files, words_text};
+use lio_audit::MOST_HISTORY_BYTES;
 use lio_hints::{Bytes, Mistake};
 use lio_host_main::{HostStatus, Shown};
 use lio_policy_draft::{EntryAt, EntryKind};
@@ -91,25 +92,47 @@ fn script_rule_text(rule: u32) -> &'static str {
     }
 }
 
-/// As what a file is read.
-fn read_as(name: &Text, names: FileNames<'_>) -> &'static str {
-    if name.bytes() == names.policy.as_bytes() {
-        "the policy's file"
-    } else if name.bytes() == names.script.as_bytes() {
-        "the script's file"
+/// As what the words name a file.
+#[derive(Clone, Copy, PartialEq, Eq)]
+enum Role {
+    Policy,
+    Script,
+    History,
+    Another,
+}
+
+/// As what the words name the file with a name.
+fn role_of(name: &Text, words: &[String]) -> Role {
+    let FileNames { policy, script } = file_names(words);
+    let has_files = names_files(words);
+    if has_files && name.bytes() == policy.as_bytes() {
+        Role::Policy
+    } else if has_files && name.bytes() == script.as_bytes() {
+        Role::Script
+    } else if history_name(words).is_some_and(|file| name.bytes() == file.as_bytes()) {
+        Role::History
     } else {
-        "an input's file"
+        Role::Another
+    }
+}
+
+/// As what a file is read.
+fn read_as(name: &Text, words: &[String]) -> &'static str {
+    match role_of(name, words) {
+        Role::Policy => "the policy's file",
+        Role::Script => "the script's file",
+        Role::History => "the history's file",
+        Role::Another => "an input's file",
     }
 }
 
 /// With what the name of a file that is written clashes.
-fn taken_by(name: &Text, names: FileNames<'_>) -> &'static str {
-    if name.bytes() == names.policy.as_bytes() {
-        "it is the policy's own file"
-    } else if name.bytes() == names.script.as_bytes() {
-        "it is the script's file"
-    } else {
-        "it is an input's file, or written before"
+fn taken_by(name: &Text, words: &[String]) -> &'static str {
+    match role_of(name, words) {
+        Role::Policy => "it is the policy's own file",
+        Role::Script => "it is the script's file",
+        Role::History => "it is the history that is taken again",
+        Role::Another => "it is an input's file, or written before",
     }
 }
 
@@ -283,6 +306,79 @@ fn write_fault_text(
     Ok(text)
 }
 
+/// How many bytes of a line stand before a difference that is shown.
+const BEFORE_DIFFERENCE: usize = 60;
+
+/// A line without its end, and whether it has one.
+fn without_end(line: &[u8]) -> (&[u8], bool) {
+    match line {
+        [before @ .., b'\n'] => (before, true),
+        _ => (line, false),
+    }
+}
+
+/// From where two lines are shown, so that their first difference is.
+fn shown_from(found: &[u8], expected: &[u8]) -> usize {
+    let same = found
+        .iter()
+        .zip(expected.iter())
+        .take_while(|(one, other)| one == other)
+        .count();
+    same.saturating_sub(BEFORE_DIFFERENCE)
+}
+
+/// A part of a line that is shown behind a word.
+fn push_line(
+    alloc: Global,
+    text: &mut String,
+    word: &str,
+    line: &[u8],
+    from: usize,
+) -> Result<(), AllocError> {
+    let dots = if from > 0 { ".." } else { "" };
+    let shown = Bytes(line.get(from..).unwrap_or(b""));
+    let line = format!(in alloc; "\n  {word} | {dots}{shown}")?;
+    text.push_str(line.as_str())
+}
+
+/// What is printed of a history that stops at a line: what stands there, and what should.
+fn history_text(
+    alloc: Global,
+    status: &HostStatus,
+    file: &str,
+    line: u32,
+    detail: &Detail,
+) -> Result<String, AllocError> {
+    let Detail::History(HistoryAt { found, expected }) = detail else {
+        return format!(in alloc;
+            "lio_host: {status}: {file}: a history has a line for each turn of the run, and at most {MOST_HISTORY_BYTES} bytes"
+        );
+    };
+    let (found, has_end) = match found {
+        Some(found) => without_end(found.as_slice()),
+        None => (b"".as_slice(), true),
+    };
+    let expected = match expected {
+        Some(expected) => Some(without_end(expected.as_slice()).0),
+        None => None,
+    };
+    let mistake = if found.is_empty() && has_end {
+        "a line is missing, or is empty"
+    } else if has_end {
+        "this isn't the line of the run's next turn; give the policy, the script and the inputs of the run that it records"
+    } else {
+        "the line has no line end"
+    };
+    let mut text = format!(in alloc; "lio_host: {status}: {file}:{line}: {mistake}")?;
+    let from = shown_from(found, expected.unwrap_or(b""));
+    push_line(alloc, &mut text, "found   ", found, from)?;
+    match expected {
+        Some(expected) => push_line(alloc, &mut text, "expected", expected, from)?,
+        None => text.push_str("\n  no turn that it shows can be taken there")?,
+    }
+    Ok(text)
+}
+
 /// What is printed of a refusal: what was refused, where, and how to mend it. Nothing where the
 /// script ran.
 pub fn refusal_text(
@@ -291,8 +387,7 @@ pub fn refusal_text(
     words: &[String],
     detail: &Detail,
 ) -> Result<String, AllocError> {
-    let names = file_names(words);
-    let FileNames { policy, script } = names;
+    let FileNames { policy, script } = file_names(words);
     match status {
         HostStatus::Done => Ok(String::new(alloc)),
         HostStatus::BadWords => {
@@ -300,12 +395,12 @@ pub fn refusal_text(
             format!(in alloc; "lio_host: {status}: {text}\n{USAGE}")
         }
         HostStatus::Missing(name) => {
-            let read = read_as(name, names);
+            let read = read_as(name, words);
             format!(in alloc;
                 "lio_host: {status}: {read} isn't there; names are looked up from the folder in which the command is given\n{USAGE}"
             )
         }
-        HostStatus::ReadFault(name) => read_fault_text(alloc, status, read_as(name, names), detail),
+        HostStatus::ReadFault(name) => read_fault_text(alloc, status, read_as(name, words), detail),
         HostStatus::BadPolicy(rule, entry) => {
             policy_text(alloc, status, policy, *entry, *rule, detail)
         }
@@ -322,8 +417,12 @@ pub fn refusal_text(
                 "lio_host: {status}: no memory was left; a first part of the files may be written; give the process more memory, or the policy's tasks fewer turns"
             )
         }
+        HostStatus::NotARun(line) => {
+            let file = history_name(words).unwrap_or("the history");
+            history_text(alloc, status, file, *line, detail)
+        }
         HostStatus::Clash(name) => {
-            let by = taken_by(name, names);
+            let by = taken_by(name, words);
             let name = Shown(name);
             format!(in alloc;
                 "lio_host: {status}: {policy}: the file {name} is to be written, but {by}; give the channel or the option another file"

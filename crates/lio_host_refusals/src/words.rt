@@ -1,12 +1,12 @@
 //! What is printed of words that give no command.
 
-use lio_host_words::{Command, Source, Watch, read_command};
+use lio_host_words::{Command, Mode, Source, Watch, read_command};
 use std::alloc::{AllocError, Global};
 use std::{fmt, str};
 
 /// What the words are to be.
 pub(crate) const USAGE: &str =
-    "usage: lio_host POLICY SCRIPT [--history FILE] [--view FILE --observer LABEL]\n       lio_host --make N [--history FILE] [--view FILE --observer LABEL]\n  POLICY, SCRIPT and FILE are names of files, LABEL is a label over the policy's principals, N is 1 to 256; no word is empty or begins with `-` but `--` and the options";
+    "usage: lio_host POLICY SCRIPT [--workers COUNT | --check FILE] [--history FILE] [--view FILE --observer LABEL]\n       lio_host --make N [--workers COUNT | --check FILE] [--history FILE] [--view FILE --observer LABEL]\n  POLICY, SCRIPT and FILE are names of files, LABEL is a label over the policy's principals, N is 1 to 256, COUNT is 1 to 64; no word is empty or begins with `-` but `--` and the options";
 
 /// The names of the policy's and of the script's file, as the words give them.
 #[derive(Clone, Copy)]
@@ -39,6 +39,14 @@ pub fn script_name(words: &[String]) -> Option<&str> {
     }
 }
 
+/// The name of the history's file that is taken again, where the words name one.
+pub(crate) fn history_name(words: &[String]) -> Option<&str> {
+    match read_command(words)?.mode {
+        Mode::Replay(file) => Some(text_of(file)),
+        Mode::Rounds | Mode::Workers(_) => None,
+    }
+}
+
 /// The names of the policy's and of the script's file; those of a workload where it is generated.
 pub(crate) fn file_names(words: &[String]) -> FileNames<'_> {
     match read_command(words) {
@@ -65,6 +73,8 @@ enum Flag {
     View,
     Observer,
     Make,
+    Workers,
+    Check,
 }
 
 impl Flag {
@@ -75,6 +85,17 @@ impl Flag {
             Flag::View => "--view",
             Flag::Observer => "--observer",
             Flag::Make => "--make",
+            Flag::Workers => "--workers",
+            Flag::Check => "--check",
+        }
+    }
+
+    /// The greatest number that may be its value, where that is a number.
+    fn most(self) -> Option<u16> {
+        match self {
+            Flag::Make => Some(256),
+            Flag::Workers => Some(64),
+            Flag::History | Flag::View | Flag::Observer | Flag::Check => None,
         }
     }
 }
@@ -93,7 +114,14 @@ fn kind_of(word: &str) -> Kind<'_> {
     if word == "--" {
         return Kind::Dashes;
     }
-    for flag in [Flag::History, Flag::View, Flag::Observer, Flag::Make] {
+    for flag in [
+        Flag::History,
+        Flag::View,
+        Flag::Observer,
+        Flag::Make,
+        Flag::Workers,
+        Flag::Check,
+    ] {
         if let Some(rest) = word.strip_prefix(flag.word()) {
             if rest.is_empty() {
                 return Kind::Option(flag);
@@ -113,8 +141,8 @@ enum WrongWords<'a> {
     NoOption(&'a str),
     /// A value that may not stand behind an option.
     Value(Flag, &'a str),
-    /// A value of `--make` that is no size of a workload.
-    Size(&'a str),
+    /// A value that is no number from 1 to this one.
+    Number(Flag, u16, &'a str),
     /// An option that comes twice.
     Twice(Flag),
     /// An option without a value.
@@ -129,6 +157,8 @@ enum WrongWords<'a> {
     NoScript(&'a str),
     /// An option that comes without the one that it needs.
     Without(Flag, Flag),
+    /// An option that comes with one that it excludes.
+    Beside(Flag, Flag),
 }
 
 impl fmt::Display for WrongWords<'_> {
@@ -145,10 +175,13 @@ impl fmt::Display for WrongWords<'_> {
                     "the value of `{option}` may not be \"{word}\": a value isn't empty and doesn't begin with `-`"
                 )
             }
-            WrongWords::Size(word) => write!(
-                f,
-                "the value of `--make` may not be \"{word}\": it is a number from 1 to 256, without a sign or a zero in front"
-            ),
+            WrongWords::Number(flag, most, word) => {
+                let option = flag.word();
+                write!(
+                    f,
+                    "the value of `{option}` may not be \"{word}\": it is a number from 1 to {most}, without a sign or a zero in front"
+                )
+            }
             WrongWords::Twice(flag) => {
                 let option = flag.word();
                 write!(f, "`{option}` comes twice; each option comes once")
@@ -180,6 +213,10 @@ impl fmt::Display for WrongWords<'_> {
                 let (option, needed) = (flag.word(), other.word());
                 write!(f, "`{option}` needs `{needed}` beside it")
             }
+            WrongWords::Beside(flag, other) => {
+                let (option, excluded) = (flag.word(), other.word());
+                write!(f, "`{option}` and `{excluded}` exclude each other")
+            }
         }
     }
 }
@@ -189,13 +226,13 @@ fn may_stand(word: &str) -> bool {
     !word.is_empty() && !word.starts_with("-")
 }
 
-/// Whether a word is the size of a workload.
-fn is_size(word: &str) -> bool {
+/// Whether a word is a number from 1 to this one.
+fn is_up_to(most: u16, word: &str) -> bool {
     let is_number = word.bytes().all(|byte| byte.is_ascii_digit()) && !word.starts_with("0");
     is_number
         && word
             .parse::<u16>()
-            .is_ok_and(|size| (1..=256).contains(&size))
+            .is_ok_and(|number| (1..=most).contains(&number))
 }
 
 /// The names and the options so far.
@@ -207,6 +244,8 @@ struct Seen<'a> {
     view: bool,
     observer: bool,
     make: bool,
+    workers: bool,
+    check: bool,
 }
 
 impl<'a> Seen<'a> {
@@ -219,6 +258,8 @@ impl<'a> Seen<'a> {
             view: false,
             observer: false,
             make: false,
+            workers: false,
+            check: false,
         }
     }
 
@@ -229,6 +270,8 @@ impl<'a> Seen<'a> {
             Flag::View => &mut self.view,
             Flag::Observer => &mut self.observer,
             Flag::Make => &mut self.make,
+            Flag::Workers => &mut self.workers,
+            Flag::Check => &mut self.check,
         }
     }
 
@@ -250,8 +293,10 @@ impl<'a> Seen<'a> {
         if !may_stand(value) {
             return Err(WrongWords::Value(flag, value));
         }
-        if flag == Flag::Make && !is_size(value) {
-            return Err(WrongWords::Size(value));
+        if let Some(most) = flag.most()
+            && !is_up_to(most, value)
+        {
+            return Err(WrongWords::Number(flag, most, value));
         }
         let has = self.has(flag);
         if *has {
@@ -267,6 +312,9 @@ impl<'a> Seen<'a> {
             (true, false) => return Err(WrongWords::Without(Flag::View, Flag::Observer)),
             (false, true) => return Err(WrongWords::Without(Flag::Observer, Flag::View)),
             _ => {}
+        }
+        if self.workers && self.check {
+            return Err(WrongWords::Beside(Flag::Workers, Flag::Check));
         }
         match (self.policy, self.script) {
             (None, _) if self.make => Ok(()),

@@ -2,10 +2,10 @@
 use Rattle.std.proofs.Common.{◌≡◌, ◌∙◌, ap, refl, arith, ℕ, List, [], ◌∷◌, ◌++◌, Bool, true, false, not, ◌||◌, ◌&&◌, if◌then◌else◌, All, IsTrue, Option, None, Some}
 use Rattle.std.specs.Option.{option_map}
 use Rattle.lio_host_words.specs.declared.name.Name.{Name}
-use Rattle.lio_host_words.specs.declared.name.Name.TheVariants.{History, View, Observer, Make}
+use Rattle.lio_host_words.specs.declared.name.Name.TheVariants.{History, View, Observer, Make, Workers, Check}
 use Rattle.lio_host_words.specs.declared.sorted.Plain as declared_plain
 use Rattle.lio_host_words.specs.declared.sorted.Plain.TheVariants as plain
-use Rattle.lio_host_words.specs.Command.{Command, Source, Watch, are_refused, command_by, commanded, first_of, is_name, is_wrong, source_of, watch_of}
+use Rattle.lio_host_words.specs.Command.{Command, Mode, Source, Watch, are_refused, command_by, commanded, first_of, is_name, is_wrong, source_of, watch_of, mode_of}
 use Rattle.lio_host_words.specs.declared.sorted.Sorted as declared_sorted
 use Rattle.lio_host_words.specs.Sorted.{AreNames, before, plain_of, sorted_of, word_list}
 use Rattle.lio_host_words.specs.Walk.{Walked, with_plain, with_value}
@@ -20,39 +20,22 @@ either_none false x is = is
 -- words that are wrong give no command
 none-wrong : (w : Walked) → is_wrong w ≡ true → command_by w ≡ None
 unfolding command_by
-none-wrong w wrong = chosen (is_wrong w) None (commanded (source_of w.sizes w.plain) (first_of w.histories) (watch_of w.views w.observers)) wrong
+none-wrong w wrong = chosen (is_wrong w) None (commanded (source_of w.sizes w.plain) (first_of w.histories) (watch_of w.views w.observers) (mode_of w.counts w.checks)) wrong
 
 -- nor do words that name nothing to run
 none-unsourced : (w : Walked) → source_of w.sizes w.plain ≡ None → command_by w ≡ None
 unfolding command_by
 none-unsourced w none =
-    either_none (is_wrong w) (commanded (source_of w.sizes w.plain) (first_of w.histories) (watch_of w.views w.observers))
-    (ap (λ (s : Option Source). commanded s (first_of w.histories) (watch_of w.views w.observers)) none)
+    either_none (is_wrong w) (commanded (source_of w.sizes w.plain) (first_of w.histories) (watch_of w.views w.observers) (mode_of w.counts w.checks))
+    (ap (λ (s : Option Source). commanded s (first_of w.histories) (watch_of w.views w.observers) (mode_of w.counts w.checks)) none)
 
-wrong-lacks : (l h v o s : Bool) → l ≡ true → (l || h || v || o || s) ≡ true
-wrong-lacks l h v o s is = rw is refl
+-- one of two is so
+left-is : (a b : Bool) → a ≡ true → (a || b) ≡ true
+left-is a b is = rw is refl
 
-wrong-history : (l h v o s : Bool) → h ≡ true → (l || h || v || o || s) ≡ true
-wrong-history true h v o s is = refl
-wrong-history false h v o s is = rw is refl
-
-wrong-view : (l h v o s : Bool) → v ≡ true → (l || h || v || o || s) ≡ true
-wrong-view true h v o s is = refl
-wrong-view false true v o s is = refl
-wrong-view false false v o s is = rw is refl
-
-wrong-observer : (l h v o s : Bool) → o ≡ true → (l || h || v || o || s) ≡ true
-wrong-observer true h v o s is = refl
-wrong-observer false true v o s is = refl
-wrong-observer false false true o s is = refl
-wrong-observer false false false o s is = rw is refl
-
-wrong-size : (l h v o s : Bool) → s ≡ true → (l || h || v || o || s) ≡ true
-wrong-size true h v o s is = refl
-wrong-size false true v o s is = refl
-wrong-size false false true o s is = refl
-wrong-size false false false true s is = refl
-wrong-size false false false false s is = rw is refl
+right-is : (a b : Bool) → b ≡ true → (a || b) ≡ true
+right-is true b is = refl
+right-is false b is = is
 
 -- the values of an option
 abbrev pub values : Name → Walked → List (List ℕ)
@@ -60,25 +43,56 @@ values History w = w.histories
 values View w = w.views
 values Observer w = w.observers
 values Make w = w.sizes
+values Workers w = w.counts
+values Check w = w.checks
 
 -- an option with a value that may not come
 pub none-value : (name : Name) (w : Walked) (word : List ℕ) (rest : Walked) → are_refused (values name w ++ word ∷ values name rest) ≡ true → command_by (before w (with_value name word rest)) ≡ None
 none-value History w word rest is =
     none-wrong (before w (with_value History word rest))
-    (wrong-history rest.lacks (are_refused (w.histories ++ word ∷ rest.histories)) (are_refused (w.views ++ rest.views)) (are_refused (w.observers ++ rest.observers)) (are_refused (w.sizes ++ rest.sizes)) is)
+    (left-is (rest.lacks || are_refused (w.histories ++ word ∷ rest.histories) || are_refused (w.views ++ rest.views) || are_refused (w.observers ++ rest.observers) || are_refused (w.sizes ++ rest.sizes) || are_refused (w.counts ++ rest.counts)) (are_refused (w.checks ++ rest.checks))
+    (left-is (rest.lacks || are_refused (w.histories ++ word ∷ rest.histories) || are_refused (w.views ++ rest.views) || are_refused (w.observers ++ rest.observers) || are_refused (w.sizes ++ rest.sizes)) (are_refused (w.counts ++ rest.counts))
+    (left-is (rest.lacks || are_refused (w.histories ++ word ∷ rest.histories) || are_refused (w.views ++ rest.views) || are_refused (w.observers ++ rest.observers)) (are_refused (w.sizes ++ rest.sizes))
+    (left-is (rest.lacks || are_refused (w.histories ++ word ∷ rest.histories) || are_refused (w.views ++ rest.views)) (are_refused (w.observers ++ rest.observers))
+    (left-is (rest.lacks || are_refused (w.histories ++ word ∷ rest.histories)) (are_refused (w.views ++ rest.views))
+    (right-is (rest.lacks) (are_refused (w.histories ++ word ∷ rest.histories)) is))))))
 none-value View w word rest is =
     none-wrong (before w (with_value View word rest))
-    (wrong-view rest.lacks (are_refused (w.histories ++ rest.histories)) (are_refused (w.views ++ word ∷ rest.views)) (are_refused (w.observers ++ rest.observers)) (are_refused (w.sizes ++ rest.sizes)) is)
+    (left-is (rest.lacks || are_refused (w.histories ++ rest.histories) || are_refused (w.views ++ word ∷ rest.views) || are_refused (w.observers ++ rest.observers) || are_refused (w.sizes ++ rest.sizes) || are_refused (w.counts ++ rest.counts)) (are_refused (w.checks ++ rest.checks))
+    (left-is (rest.lacks || are_refused (w.histories ++ rest.histories) || are_refused (w.views ++ word ∷ rest.views) || are_refused (w.observers ++ rest.observers) || are_refused (w.sizes ++ rest.sizes)) (are_refused (w.counts ++ rest.counts))
+    (left-is (rest.lacks || are_refused (w.histories ++ rest.histories) || are_refused (w.views ++ word ∷ rest.views) || are_refused (w.observers ++ rest.observers)) (are_refused (w.sizes ++ rest.sizes))
+    (left-is (rest.lacks || are_refused (w.histories ++ rest.histories) || are_refused (w.views ++ word ∷ rest.views)) (are_refused (w.observers ++ rest.observers))
+    (right-is (rest.lacks || are_refused (w.histories ++ rest.histories)) (are_refused (w.views ++ word ∷ rest.views)) is)))))
 none-value Observer w word rest is =
     none-wrong (before w (with_value Observer word rest))
-    (wrong-observer rest.lacks (are_refused (w.histories ++ rest.histories)) (are_refused (w.views ++ rest.views)) (are_refused (w.observers ++ word ∷ rest.observers)) (are_refused (w.sizes ++ rest.sizes)) is)
+    (left-is (rest.lacks || are_refused (w.histories ++ rest.histories) || are_refused (w.views ++ rest.views) || are_refused (w.observers ++ word ∷ rest.observers) || are_refused (w.sizes ++ rest.sizes) || are_refused (w.counts ++ rest.counts)) (are_refused (w.checks ++ rest.checks))
+    (left-is (rest.lacks || are_refused (w.histories ++ rest.histories) || are_refused (w.views ++ rest.views) || are_refused (w.observers ++ word ∷ rest.observers) || are_refused (w.sizes ++ rest.sizes)) (are_refused (w.counts ++ rest.counts))
+    (left-is (rest.lacks || are_refused (w.histories ++ rest.histories) || are_refused (w.views ++ rest.views) || are_refused (w.observers ++ word ∷ rest.observers)) (are_refused (w.sizes ++ rest.sizes))
+    (right-is (rest.lacks || are_refused (w.histories ++ rest.histories) || are_refused (w.views ++ rest.views)) (are_refused (w.observers ++ word ∷ rest.observers)) is))))
 none-value Make w word rest is =
     none-wrong (before w (with_value Make word rest))
-    (wrong-size rest.lacks (are_refused (w.histories ++ rest.histories)) (are_refused (w.views ++ rest.views)) (are_refused (w.observers ++ rest.observers)) (are_refused (w.sizes ++ word ∷ rest.sizes)) is)
+    (left-is (rest.lacks || are_refused (w.histories ++ rest.histories) || are_refused (w.views ++ rest.views) || are_refused (w.observers ++ rest.observers) || are_refused (w.sizes ++ word ∷ rest.sizes) || are_refused (w.counts ++ rest.counts)) (are_refused (w.checks ++ rest.checks))
+    (left-is (rest.lacks || are_refused (w.histories ++ rest.histories) || are_refused (w.views ++ rest.views) || are_refused (w.observers ++ rest.observers) || are_refused (w.sizes ++ word ∷ rest.sizes)) (are_refused (w.counts ++ rest.counts))
+    (right-is (rest.lacks || are_refused (w.histories ++ rest.histories) || are_refused (w.views ++ rest.views) || are_refused (w.observers ++ rest.observers)) (are_refused (w.sizes ++ word ∷ rest.sizes)) is)))
+none-value Workers w word rest is =
+    none-wrong (before w (with_value Workers word rest))
+    (left-is (rest.lacks || are_refused (w.histories ++ rest.histories) || are_refused (w.views ++ rest.views) || are_refused (w.observers ++ rest.observers) || are_refused (w.sizes ++ rest.sizes) || are_refused (w.counts ++ word ∷ rest.counts)) (are_refused (w.checks ++ rest.checks))
+    (right-is (rest.lacks || are_refused (w.histories ++ rest.histories) || are_refused (w.views ++ rest.views) || are_refused (w.observers ++ rest.observers) || are_refused (w.sizes ++ rest.sizes)) (are_refused (w.counts ++ word ∷ rest.counts)) is))
+none-value Check w word rest is =
+    none-wrong (before w (with_value Check word rest))
+    (right-is (rest.lacks || are_refused (w.histories ++ rest.histories) || are_refused (w.views ++ rest.views) || are_refused (w.observers ++ rest.observers) || are_refused (w.sizes ++ rest.sizes) || are_refused (w.counts ++ rest.counts)) (are_refused (w.checks ++ word ∷ rest.checks)) is)
 
 -- an option that lacks its value
 pub none-lacking : (w : Walked) → w.lacks ≡ true → command_by w ≡ None
-none-lacking w is = none-wrong w (wrong-lacks w.lacks (are_refused w.histories) (are_refused w.views) (are_refused w.observers) (are_refused w.sizes) is)
+none-lacking w is =
+    none-wrong w
+    (left-is (w.lacks || are_refused w.histories || are_refused w.views || are_refused w.observers || are_refused w.sizes || are_refused w.counts) (are_refused w.checks)
+    (left-is (w.lacks || are_refused w.histories || are_refused w.views || are_refused w.observers || are_refused w.sizes) (are_refused w.counts)
+    (left-is (w.lacks || are_refused w.histories || are_refused w.views || are_refused w.observers) (are_refused w.sizes)
+    (left-is (w.lacks || are_refused w.histories || are_refused w.views) (are_refused w.observers)
+    (left-is (w.lacks || are_refused w.histories) (are_refused w.views)
+    (left-is (w.lacks) (are_refused w.histories)
+    is))))))
 
 not_both : (a b : Bool) (x : Option Source) → b ≡ false → (if a && b then x else None) ≡ None
 not_both true b x is = rw is refl
@@ -120,8 +134,8 @@ unrefused (Some word) names = named_word (is_name word) (names 0 [] (omega arith
     named_word true is = refl
     named_word false is = absurd (cc)
 
-all-right : (h v o s : Bool) → h ≡ false → v ≡ false → o ≡ false → s ≡ false → (false || h || v || o || s) ≡ false
-all-right h v o s hs vs os ss = rw (hs, vs, os, ss) refl
+all-right : (h v o s n c : Bool) → h ≡ false → v ≡ false → o ≡ false → s ≡ false → n ≡ false → c ≡ false → (false || h || v || o || s || n || c) ≡ false
+all-right h v o s n c hs vs os ss ns cs = rw (hs, vs, os, ss, ns, cs) refl
 
 passed : (b : Bool) (x y : Option Command) → b ≡ false → (if b then x else y) ≡ y
 passed b x y is = rw is refl
@@ -132,23 +146,29 @@ first-word (Some word) = refl
 
 -- the command of sorted words that are none wrong
 pub command-right : (so_far : declared_sorted.Sorted) → AreNames (sorted_of so_far)
-    → command_by (sorted_of so_far) ≡ commanded (source_of (sorted_of so_far).sizes (sorted_of so_far).plain) (option_map (λ word. word.now) so_far.history) (watch_of (sorted_of so_far).views (sorted_of so_far).observers)
+    → command_by (sorted_of so_far) ≡ commanded (source_of (sorted_of so_far).sizes (sorted_of so_far).plain) (option_map (λ word. word.now) so_far.history) (watch_of (sorted_of so_far).views (sorted_of so_far).observers) (mode_of (sorted_of so_far).counts (sorted_of so_far).checks)
 unfolding command_by
 command-right so_far names =
     let w = sorted_of so_far in
-    passed (is_wrong w) None (commanded (source_of w.sizes w.plain) (first_of w.histories) (watch_of w.views w.observers))
-    (all-right (are_refused w.histories) (are_refused w.views) (are_refused w.observers) (are_refused w.sizes)
-    (unrefused _ names.histories) (unrefused _ names.views) (unrefused _ names.observers) (unrefused _ names.sizes))
-    ∙ ap (λ (h : Option (List ℕ)). commanded (source_of w.sizes w.plain) h (watch_of w.views w.observers)) (first-word (option_map (λ word. word.now) so_far.history))
+    passed (is_wrong w) None (commanded (source_of w.sizes w.plain) (first_of w.histories) (watch_of w.views w.observers) (mode_of w.counts w.checks))
+    (all-right (are_refused w.histories) (are_refused w.views) (are_refused w.observers) (are_refused w.sizes) (are_refused w.counts) (are_refused w.checks)
+    (unrefused _ names.histories) (unrefused _ names.views) (unrefused _ names.observers) (unrefused _ names.sizes) (unrefused _ names.counts) (unrefused _ names.checks))
+    ∙ ap (λ (h : Option (List ℕ)). commanded (source_of w.sizes w.plain) h (watch_of w.views w.observers) (mode_of w.counts w.checks)) (first-word (option_map (λ word. word.now) so_far.history))
 
-pub unsourced : (source : Option Source) (history : Option (List ℕ)) (watch : Option (Option Watch)) → source ≡ None → commanded source history watch ≡ None
-unsourced source history watch is = rw is refl
+pub unsourced : (source : Option Source) (history : Option (List ℕ)) (watch : Option (Option Watch)) (mode : Option Mode) → source ≡ None → commanded source history watch mode ≡ None
+unsourced source history watch mode is = rw is refl
 
-pub unwatched : (source : Option Source) (history : Option (List ℕ)) (watch : Option (Option Watch)) → watch ≡ None → commanded source history watch ≡ None
-unwatched None history watch is = refl
-unwatched (Some source) history watch is = rw is refl
+pub unwatched : (source : Option Source) (history : Option (List ℕ)) (watch : Option (Option Watch)) (mode : Option Mode) → watch ≡ None → commanded source history watch mode ≡ None
+unwatched None history watch mode is = refl
+unwatched (Some source) history watch mode is = rw is refl
 
--- words that name something to run, and a view or none
-pub commanded-by : (source : Option Source) (history : Option (List ℕ)) (watch : Option (Option Watch)) (run : Source) (seen : Option Watch) → source ≡ Some run → watch ≡ Some seen
-    → commanded source history watch ≡ Some (record { source = run; history = history; watch = seen })
-commanded-by source history watch run seen runs sees = rw (runs, sees) refl
+pub modeless : (source : Option Source) (history : Option (List ℕ)) (watch : Option (Option Watch)) (mode : Option Mode) → mode ≡ None → commanded source history watch mode ≡ None
+modeless None history watch mode is = refl
+modeless (Some source) history None mode is = refl
+modeless (Some source) history (Some watch) mode is = rw is refl
+
+-- words that name something to run, a view or none, and a way to take the turns
+pub commanded-by : (source : Option Source) (history : Option (List ℕ)) (watch : Option (Option Watch)) (mode : Option Mode) (run : Source) (seen : Option Watch) (way : Mode)
+    → source ≡ Some run → watch ≡ Some seen → mode ≡ Some way
+    → commanded source history watch mode ≡ Some (record { source = run; history = history; watch = seen; mode = way })
+commanded-by source history watch mode run seen way runs sees goes = rw (runs, sees, goes) refl

@@ -1,5 +1,6 @@
 -- What the words of the command line ask for.
 use Rattle.std.specs.Prelude.{ℕ, ◌+◌, ◌-◌, ◌*◌, ◌≤◌, Bool, true, false, not, ◌&&◌, ◌||◌, List, [], ◌∷◌, Option, None, Some, nat_le, ◌==◌, if◌then◌else◌}
+use Rattle.std.specs.Option.{option_map}
 use Rattle.lio_host_words.specs.declared.place.Place.TheVariants.{Anywhere}
 use Rattle.lio_host_words.specs.Walk.{Walked, walked}
 
@@ -18,11 +19,24 @@ pub record Watch : Type 0 where
   pub file : List ℕ
   pub label : List ℕ
 
--- what is run, and the files of the history and of a view, where they are asked for
+-- how the turns are taken: in rounds, by so many workers, or in the order of the history in a file
+pub data Mode : Type 0 where
+  Rounds : Mode
+  Workers : ℕ → Mode
+  Replay : List ℕ → Mode
+
+-- there are 1 to 64 workers
+abbrev pub IsCounted : Mode → Type 0
+IsCounted Rounds = Unit {0}
+IsCounted (Workers count) = (1 ≤ count) × (count ≤ 64)
+IsCounted (Replay file) = Unit {0}
+
+-- what is run, the files of the history and of a view, where they are asked for, and how the turns are taken
 pub record Command : Type 0 where
   pub source : Source
   pub history : Option (List ℕ)
   pub watch : Option Watch
+  pub mode : Mode
 
 -- whether a word may be a name or a value: it isn't empty and doesn't begin with `-`
 abbrev pub is_name : List ℕ → Bool
@@ -58,6 +72,17 @@ at_most most (Some number) = if nat_le number most then Some number else None
 abbrev pub size_of : List ℕ → Option ℕ
 size_of word = at_most 256 (number_of word)
 
+-- how many workers there are: 1 to 64
+abbrev pub count_of : List ℕ → Option ℕ
+count_of word = at_most 64 (number_of word)
+
+-- how the turns are taken, by the values of `--workers` and `--check`, of which one at most may be there
+abbrev pub mode_of : List (List ℕ) → List (List ℕ) → Option Mode
+mode_of [] [] = Some Rounds
+mode_of [] (file ∷ files) = Some (Replay file)
+mode_of (count ∷ counts) [] = option_map Workers (count_of count)
+mode_of (count ∷ counts) (file ∷ files) = None
+
 -- a generated workload, where its size is one
 abbrev pub made_of : Option ℕ → Option Source
 made_of None = None
@@ -84,19 +109,20 @@ abbrev pub first_of : List (List ℕ) → Option (List ℕ)
 first_of [] = None
 first_of (word ∷ words) = Some word
 
--- a command, where there is something to run, and a view by both its options or by none
-abbrev pub commanded : Option Source → Option (List ℕ) → Option (Option Watch) → Option Command
-commanded None history watch = None
-commanded (Some source) history None = None
-commanded (Some source) history (Some watch) = Some (record { source = source; history = history; watch = watch })
+-- a command, where there is something to run, a view by both its options or by none, and a way to take the turns
+abbrev pub commanded : Option Source → Option (List ℕ) → Option (Option Watch) → Option Mode → Option Command
+commanded None history watch mode = None
+commanded (Some source) history None mode = None
+commanded (Some source) history (Some watch) None = None
+commanded (Some source) history (Some watch) (Some mode) = Some (record { source = source; history = history; watch = watch; mode = mode })
 
 -- whether an option lacks its value, comes twice or has a value that may be none
 abbrev pub is_wrong : Walked → Bool
-is_wrong w = w.lacks || are_refused w.histories || are_refused w.views || are_refused w.observers || are_refused w.sizes
+is_wrong w = w.lacks || are_refused w.histories || are_refused w.views || are_refused w.observers || are_refused w.sizes || are_refused w.counts || are_refused w.checks
 
 -- the command of sorted words
 unfoldable pub command_by : Walked → Option Command
-command_by w = if is_wrong w then None else commanded (source_of w.sizes w.plain) (first_of w.histories) (watch_of w.views w.observers)
+command_by w = if is_wrong w then None else commanded (source_of w.sizes w.plain) (first_of w.histories) (watch_of w.views w.observers) (mode_of w.counts w.checks)
 
 -- the command that the words give, or none where they give none
 abbrev pub command_of : List (List ℕ) → Option Command

@@ -7,11 +7,13 @@ use Rattle.lio_host_words.specs.declared.sorted.Plain as declared_plain
 use Rattle.lio_host_words.specs.declared.sorted.Plain.TheVariants as plain
 use Rattle.lio_host_words.specs.declared.sorted.Sorted as declared_sorted
 use Rattle.lio_host_words.specs.declared.command.Command as declared_command
+use Rattle.lio_host_words.specs.declared.command.Mode as declared_mode
+use Rattle.lio_host_words.specs.declared.command.Mode.TheVariants as mode
 use Rattle.lio_host_words.specs.declared.command.Source as declared_source
 use Rattle.lio_host_words.specs.declared.command.Source.TheVariants as source
 use Rattle.lio_host_words.specs.declared.command.Watch as declared_watch
 use Rattle.lio_host_words.specs.Walk.{Said, Dashes, Takes, Has, Plain, Walked}
-use Rattle.lio_host_words.specs.Command.{Command, Source, Files, Made, Watch, are_refused, is_name}
+use Rattle.lio_host_words.specs.Command.{Command, Mode, Rounds, Workers, Replay, Source, Files, Made, Watch, are_refused, is_name}
 
 -- what a word says
 abbrev pub said_of : declared_said.Said → Said
@@ -39,6 +41,8 @@ sorted_of s = record {
   views = word_list (option_map (λ word. word.now) s.view);
   observers = word_list (option_map (λ word. word.now) s.observer);
   sizes = word_list (option_map (λ word. word.now) s.size);
+  counts = word_list (option_map (λ word. word.now) s.workers);
+  checks = word_list (option_map (λ word. word.now) s.check);
   lacks = false;
 }
 
@@ -54,6 +58,8 @@ before w rest = record {
   views = w.views ++ rest.views;
   observers = w.observers ++ rest.observers;
   sizes = w.sizes ++ rest.sizes;
+  counts = w.counts ++ rest.counts;
+  checks = w.checks ++ rest.checks;
   lacks = rest.lacks;
 }
 
@@ -64,6 +70,8 @@ pub record AreNames (w : Walked) : Type 0 where
   pub views : All (λ word. IsTrue (is_name word)) w.views
   pub observers : All (λ word. IsTrue (is_name word)) w.observers
   pub sizes : All (λ word. IsTrue (is_name word)) w.sizes
+  pub counts : All (λ word. IsTrue (is_name word)) w.counts
+  pub checks : All (λ word. IsTrue (is_name word)) w.checks
 
 -- what is run
 abbrev pub source_named : declared_source.Source → Source
@@ -74,12 +82,19 @@ source_named (source.Made size) = Made size
 abbrev pub watch_named : declared_watch.Watch → Watch
 watch_named watch = record { file = watch.file.now; label = watch.label.now }
 
+-- how the turns are taken
+abbrev pub mode_named : declared_mode.Mode → Mode
+mode_named mode.Rounds = Rounds
+mode_named (mode.Workers count) = Workers count
+mode_named (mode.Replay file) = Replay file.now
+
 -- the command that the words name
 abbrev pub named : declared_command.Command → Command
 named command = record {
   source = source_named command.source;
   history = option_map (λ file. file.now) command.history;
   watch = option_map watch_named command.view;
+  mode = mode_named command.mode;
 }
 
 -- the bytes of words

@@ -1,7 +1,7 @@
 -- The walk over the words of the command line, which sorts them.
 use Rattle.std.specs.Prelude.{ℕ, Bool, true, false, List, [], ◌∷◌, length, take, drop, codes, bytes_eq, ◌==◌, if◌then◌else◌}
 use Rattle.lio_host_words.specs.declared.name.Name.{Name}
-use Rattle.lio_host_words.specs.declared.name.Name.TheVariants.{History, View, Observer, Make}
+use Rattle.lio_host_words.specs.declared.name.Name.TheVariants.{History, View, Observer, Make, Workers, Check}
 use Rattle.lio_host_words.specs.declared.place.Place.{Place}
 use Rattle.lio_host_words.specs.declared.place.Place.TheVariants.{Anywhere, Behind, PlainOnly}
 
@@ -28,7 +28,9 @@ said word =
     else said_by (codes "--history") History word
     (said_by (codes "--view") View word
     (said_by (codes "--observer") Observer word
-    (said_by (codes "--make") Make word Plain)))
+    (said_by (codes "--make") Make word
+    (said_by (codes "--workers") Workers word
+    (said_by (codes "--check") Check word Plain)))))
 
 -- the words sorted: the plain words and the values of each option, in order, and whether the last option lacks its value
 pub record Walked : Type 0 where
@@ -37,11 +39,13 @@ pub record Walked : Type 0 where
   pub views : List (List ℕ)
   pub observers : List (List ℕ)
   pub sizes : List (List ℕ)
+  pub counts : List (List ℕ)
+  pub checks : List (List ℕ)
   pub lacks : Bool
 
 -- no words
 abbrev pub no_words : Walked
-no_words = record { plain = []; histories = []; views = []; observers = []; sizes = []; lacks = false }
+no_words = record { plain = []; histories = []; views = []; observers = []; sizes = []; counts = []; checks = []; lacks = false }
 
 -- a plain word before those that follow
 abbrev pub with_plain : List ℕ → Walked → Walked
@@ -53,6 +57,8 @@ with_value History word w = record w { histories = word ∷ w.histories }
 with_value View word w = record w { views = word ∷ w.views }
 with_value Observer word w = record w { observers = word ∷ w.observers }
 with_value Make word w = record w { sizes = word ∷ w.sizes }
+with_value Workers word w = record w { counts = word ∷ w.counts }
+with_value Check word w = record w { checks = word ∷ w.checks }
 
 -- what a word says, and the words behind it from each place on
 abbrev pub walked_by : Said → List ℕ → (Place → Walked) → Walked

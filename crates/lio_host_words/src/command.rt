@@ -4,10 +4,10 @@ ghost use Rattle.std.specs.Prelude.{◌≡◌, None, Some, All, IfSome, IsTrue, 
 ghost use Rattle.std.specs.Option.{option_map};
 ghost use Rattle.lio_host_words.specs.Command as spec;
 ghost use Rattle.lio_host_words.specs.Command.{command_of};
-ghost use Rattle.lio_host_words.specs.Sorted.{bytes_of_words, named, plain_of, source_named};
-ghost use Rattle.lio_host_words.specs.Sorted.{watch_named, word_list};
+ghost use Rattle.lio_host_words.specs.Sorted.{bytes_of_words, mode_named, named, plain_of};
+ghost use Rattle.lio_host_words.specs.Sorted.{source_named, watch_named, word_list};
 
-use crate::numbers::size_of;
+use crate::numbers::{count_of, size_of};
 use crate::sorted::{Plain, sort_words};
 
 /// What is run.
@@ -28,6 +28,17 @@ pub struct Watch<'a> {
     pub label: &'a [u8],
 }
 
+/// How the turns are taken.
+#[derive(Clone, Copy)]
+pub enum Mode<'a> {
+    /// The tasks take turns in rounds.
+    Rounds,
+    /// So many workers take the turns, in whatever order they come to them: 1 to 64.
+    Workers(u32),
+    /// That of the history in this file.
+    Replay(&'a [u8]),
+}
+
 /// What the words ask for.
 #[derive(Clone, Copy)]
 pub struct Command<'a> {
@@ -37,6 +48,8 @@ pub struct Command<'a> {
     pub history: Option<&'a [u8]>,
     /// The view that is written, where one is asked for.
     pub view: Option<Watch<'a>>,
+    /// How the turns are taken.
+    pub mode: Mode<'a>,
 }
 
 /// What is run, by the plain words and the value of `--make`.
@@ -66,18 +79,37 @@ fn read_watch<'a>(file: Option<&'a [u8]>, label: Option<&'a [u8]>) -> Option<Opt
     }
 }
 
+/// How the turns are taken, by the values of `--workers` and `--check`, of which one at most may be
+/// there.
+fn read_mode<'a>(count: Option<&'a [u8]>, file: Option<&'a [u8]>) -> Option<Mode<'a>>
+    ensures mode { option_map mode_named result
+        ≡ spec.mode_of (word_list (option_map (λ word. word.now) count.entry))
+        (word_list (option_map (λ word. word.now) file.entry)) }
+    ensures counted { IfSome result (λ mode. spec.IsCounted (mode_named mode)) }
+{
+    match (count, file) {
+        (None, None) => Some(Mode::Rounds),
+        (Some(count), None) => Some(Mode::Workers(count_of(count)?)),
+        (None, Some(file)) => Some(Mode::Replay(file)),
+        (Some(_), Some(_)) => None,
+    }
+}
+
 /// The command that the words give, if they give one.
 pub fn read_command(words: &[String]) -> Option<Command<'_>>
     ensures command { MatchOption result (command_of (bytes_of_words words.now) ≡ None)
         (λ c. command_of (bytes_of_words words.now) ≡ Some (named c)) }
     ensures sized { IfSome result (λ c. spec.IsSized (source_named c.source)) }
+    ensures counted { IfSome result (λ c. spec.IsCounted (mode_named c.mode)) }
 {
     let sorted = sort_words(words)?;
     let source = read_source(sorted.plain, sorted.size)?;
     let view = read_watch(sorted.view, sorted.observer)?;
+    let mode = read_mode(sorted.workers, sorted.check)?;
     Some(Command {
         source,
         history: sorted.history,
         view,
+        mode,
     })
 }

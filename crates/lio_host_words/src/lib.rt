@@ -8,4 +8,4 @@ mod place;
 mod said;
 mod sorted;
 
-pub use command::{Command, Source, Watch, read_command};
+pub use command::{Command, Mode, Source, Watch, read_command};

@@ -7,4 +7,6 @@ pub enum Name {
     View,
     Observer,
     Make,
+    Workers,
+    Check,
 }

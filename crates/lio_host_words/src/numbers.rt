@@ -6,6 +6,9 @@ ghost use Rattle.lio_host_words.specs.Command as spec;
 /// The largest workload.
 const LARGEST: u32 = 256;
 
+/// The most workers.
+const MOST_WORKERS: u32 = 64;
+
 /// Whether a byte is a decimal digit.
 fn is_digit(byte: u8) -> bool
     ensures { result ≡ spec.is_digit byte }
@@ -37,15 +40,27 @@ fn number_of(word: &[u8]) -> Option<u32>
     }
 }
 
+/// A number from 1 to the greatest one.
+fn up_to(most: u32, word: &[u8]) -> Option<u32>
+    ensures number { result ≡ spec.at_most most (spec.number_of word.now) }
+    ensures some { IfSome result (λ number. (1 ≤ number) × (number ≤ most)) }
+{
+    let number = number_of(word)?;
+    if number <= most { Some(number) } else { None }
+}
+
 /// The size of a generated workload: 1 to 256.
 pub(crate) fn size_of(word: &[u8]) -> Option<u32>
     ensures size { result ≡ spec.size_of word.now }
     ensures sized { IfSome result (λ number. (1 ≤ number) × (number ≤ 256)) }
 {
-    let number = number_of(word)?;
-    if number <= LARGEST {
-        Some(number)
-    } else {
-        None
-    }
+    up_to(LARGEST, word)
+}
+
+/// The number of workers: 1 to 64.
+pub(crate) fn count_of(word: &[u8]) -> Option<u32>
+    ensures count { result ≡ spec.count_of word.now }
+    ensures counted { IfSome result (λ number. (1 ≤ number) × (number ≤ 64)) }
+{
+    up_to(MOST_WORKERS, word)
 }

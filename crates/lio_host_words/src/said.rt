@@ -47,7 +47,9 @@ pub(crate) fn read_word(word: &[u8]) -> Said<'_>
     if word == b"--".as_slice() {
         return Said::Dashes;
     }
-    let made = said_by(b"--make", Name::Make, word, Said::Plain);
+    let checked = said_by(b"--check", Name::Check, word, Said::Plain);
+    let counted = said_by(b"--workers", Name::Workers, word, checked);
+    let made = said_by(b"--make", Name::Make, word, counted);
     let observed = said_by(b"--observer", Name::Observer, word, made);
     let viewed = said_by(b"--view", Name::View, word, observed);
     said_by(b"--history", Name::History, word, viewed)

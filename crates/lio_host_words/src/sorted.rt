@@ -49,6 +49,8 @@ pub(crate) struct Sorted<'a> {
     pub view: Option<&'a [u8]>,
     pub observer: Option<&'a [u8]>,
     pub size: Option<&'a [u8]>,
+    pub workers: Option<&'a [u8]>,
+    pub check: Option<&'a [u8]>,
 }
 
 impl<'a> Sorted<'a> {
@@ -89,6 +91,8 @@ impl<'a> Sorted<'a> {
             Name::View => next.view = Some(only(self.view, word)?),
             Name::Observer => next.observer = Some(only(self.observer, word)?),
             Name::Make => next.size = Some(only(self.size, word)?),
+            Name::Workers => next.workers = Some(only(self.workers, word)?),
+            Name::Check => next.check = Some(only(self.check, word)?),
         }
         Some(next)
     }
@@ -129,6 +133,8 @@ pub(crate) fn sort_words(words: &[String]) -> Option<Sorted<'_>>
         view: None,
         observer: None,
         size: None,
+        workers: None,
+        check: None,
     };
     let mut place = Place::Anywhere;
     for word in words {

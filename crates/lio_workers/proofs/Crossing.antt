@@ -34,7 +34,7 @@ use denote.Struct.Tuple.{TupleAt, type_at}
 use Rattle.lio_workers.specs.contracts.shared.Shared as H
 use Rattle.lio_workers.specs.contracts.shared.Shared.TheInside as HI
 use Rattle.lio_workers.specs.declared.shared.Origin as O
-use Rattle.lio_workers.specs.contracts.worker.Shop as T
+use Rattle.lio_workers.specs.contracts.worker.SharedRun as T
 
 bytes-inside : IsSend BI.the_row
 bytes-inside = declared_send BI.the_type (as_row_send P.the_field (pieces.both_send-Pieces Arc-send Arc-sync text.the_send text.the_sync), tt)
@@ -80,5 +80,5 @@ module _ (o : RattleType) (d : O.Ghosts o.Denot) where
   shared-send : IsSend (H.the_row o d)
   shared-send = view_send _ _ _ _ _ inside-send
 
-  pub shop-sync : IsSync (T.the_row o d)
-  shop-sync = declared_sync (T.the_type o d) (search (sendable, crosses, shared-send, as_row_sync), (search (sendable, crosses, as_row_sync), tt))
+  pub shared-sync : IsSync (T.the_row o d)
+  shared-sync = declared_sync (T.the_type o d) (search (sendable, crosses, shared-send, as_row_sync), (search (sendable, crosses, as_row_sync), tt))

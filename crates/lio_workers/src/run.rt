@@ -8,7 +8,7 @@ ghost use Rattle.lio_rounds.specs.Runs.{HasItsLogs, IsCompleteRun, ran_of};
 
 use crate::gate::Gate;
 use crate::shared::{Origin, Shared};
-use crate::worker::{Shop, Worker, work};
+use crate::worker::{SharedRun, Worker, work};
 use lio_clauses::NoMemory;
 use lio_config::Config;
 use lio_rounds::{Machine, Ran};
@@ -62,7 +62,7 @@ fn close<O: Origin>(alloc: Global, shared: Shared<O>) -> Result<Ran, NoMemory>
 fn let_work<O: Origin + Send + Sync, R: Threads + Wait + Sync, G: Gate + Sync>(
     rt: &R,
     alloc: Global,
-    shop: &Shop<O>,
+    shared: &SharedRun<O>,
     workers: &mut [Worker],
     count: u32,
     gate: &G,
@@ -73,7 +73,7 @@ fn let_work<O: Origin + Send + Sync, R: Threads + Wait + Sync, G: Gate + Sync>(
         rt,
         workers,
         count as usize,
-        &|_, worker| { work(rt, alloc, shop, gate, worker) },
+        &|_, worker| { work(rt, alloc, shared, gate, worker) },
     );
 }
 
@@ -96,12 +96,12 @@ fn share<O: Origin + Send + Sync, R: Threads + Wait + Sync, G: Gate + Sync>(
 {
     let numbers = numbers_of(alloc, machine.order())?;
     let mut workers = workers(alloc, count)?;
-    let shop: Shop<O> = Shop {
+    let shared: SharedRun<O> = SharedRun {
         nodes: Mutex::new(Shared::of(machine)),
         numbers: Mutex::new(numbers),
     };
-    let_work(rt, alloc, &shop, workers.as_mut_slice(), count, gate);
-    let Shop { nodes, numbers } = shop;
+    let_work(rt, alloc, &shared, workers.as_mut_slice(), count, gate);
+    let SharedRun { nodes, numbers } = shared;
     drop(numbers);
     close(alloc, nodes.into_inner())
 }

@@ -1,3 +1,4 @@
+use Rattle.std.proofs.Common.{◌∙◌, ap, refl, sym, Some}
 use Rattle.lio_calculus.specs.Run.{Ran}
 use Rattle.lio_rounds.specs.Runs.{ran_of}
 use Rattle.lio_host_words.specs.Sorted.{bytes_of_words, named}
@@ -5,21 +6,21 @@ use Rattle.lio_host_main.specs.Order.{Order, order_of}
 use Rattle.lio_host_main.specs.Answers.{Call, Outside}
 use Rattle.lio_host_main.specs.declared.status.HostStatus.TheVariants.{Done}
 use Rattle.lio_host_main.proofs.Finishes.{finishes-from}
-use Rattle.lio_host_main.proofs.Says.{runs-order, says-done, says-same, says-unfinished}
+use Rattle.lio_host_main.proofs.Says.{runs-order, says-done, says-refused, says-same, says-stopped, says-unfinished}
 use Rattle.lio_host_main.proofs.host.answer.Goals as goal
 
 pub finish_run-finished-requires : goal.finish_run-finished-requires
-finish_run-finished-requires g c = c.in-Ok-run.ensures.run.keeps.printable
+finish_run-finished-requires g c = c.in-Ok-run_order.ensures.run.keeps.printable
 
 pub returns-in-Ok-finished-clause-says : goal.returns-in-Ok-finished-clause-says
 returns-in-Ok-finished-clause-says g c =
     let before : Outside = record { told = g.S.Store.holds c.args.store.now; faults = g.S.Store.faults c.args.store.now; said = g.W.Say.said c.args.say.now; say_faults = g.W.Say.faults c.args.say.now } in
     let after : Outside = record { told = g.S.Store.holds c.finish_run-finished.new.store; faults = g.S.Store.faults c.finish_run-finished.new.store; said = g.W.Say.said c.finish_run-finished.new.say; say_faults = g.W.Say.faults c.finish_run-finished.new.say } in
-    let call : Call = record { words = bytes_of_words c.args.words.now; before = before; after = after; journal = c.in-Ok-run.ran.journal } in
+    let call : Call = record { words = bytes_of_words c.args.words.now; before = before; after = after; journal = c.in-Ok-run_order.ran.journal } in
     let order : Order = order_of c.in-Ok.order in
-    let ran : Ran = ran_of c.in-Ok.order.job.script c.in-Ok-run.ran in
-    says-done call (named c.in-Some.command) order ran.last c.in-Ok.ensures.ok
-    (runs-order call (named c.in-Some.command) order ran c.in-Some.ensures.command c.in-Ok.ensures.ok c.in-Ok-run.ensures.run c.in-Ok-run.ensures.rounds)
+    let ran : Ran = ran_of c.in-Ok.order.job.script c.in-Ok-run_order.ran in
+    says-done call order ran.last
+    (runs-order call order ran _ c.in-Some.ensures.command c.in-Ok.ensures.command c.in-Ok.ensures.ok c.in-Ok-run_order.ensures.run c.in-Ok-run_order.ensures.ran_as)
     (finishes-from order ran before after (g.S.Store.holds c.prepare_order.new.store) (g.S.Store.faults c.prepare_order.new.store) Done c.in-Ok.ensures.files c.in-Ok.ensures.count c.in-Ok-finished.ensures.count c.in-Ok-finished.ensures.ok)
 
 pub returns-in-Err-finished-clause-says : goal.returns-in-Err-finished-clause-says
@@ -28,9 +29,33 @@ returns-in-Err-finished-clause-says g c =
     let after : Outside = record { told = g.S.Store.holds c.finish_run-finished.new.store; faults = g.S.Store.faults c.finish_run-finished.new.store; said = g.W.Say.said c.finish_run-finished.new.say; say_faults = g.W.Say.faults c.finish_run-finished.new.say } in
     let call : Call = record { words = bytes_of_words c.args.words.now; before = before; after = after; journal = c.unfinished.result.journal } in
     let order : Order = order_of c.in-Ok.order in
-    let ran : Ran = ran_of c.in-Ok.order.job.script c.in-Ok-run.ran in
+    let ran : Ran = ran_of c.in-Ok.order.job.script c.in-Ok-run_order.ran in
     let status = c.in-Err-finished.status in
     says-same call status c.unfinished.result.status c.unfinished.ensures.status
-    (says-unfinished call (named c.in-Some.command) order ran status c.in-Some.ensures.command c.in-Ok.ensures.ok
-    (runs-order call (named c.in-Some.command) order ran c.in-Some.ensures.command c.in-Ok.ensures.ok c.in-Ok-run.ensures.run c.in-Ok-run.ensures.rounds) c.unfinished.ensures.journal
+    (says-unfinished call order ran status
+    (runs-order call order ran _ c.in-Some.ensures.command c.in-Ok.ensures.command c.in-Ok.ensures.ok c.in-Ok-run_order.ensures.run c.in-Ok-run_order.ensures.ran_as) c.unfinished.ensures.journal
     (finishes-from order ran before after (g.S.Store.holds c.prepare_order.new.store) (g.S.Store.faults c.prepare_order.new.store) status c.in-Ok.ensures.files c.in-Ok.ensures.count c.in-Err-finished.ensures.count c.in-Err-finished.ensures.err))
+
+pub returns-in-Err-clause-says : goal.returns-in-Err-clause-says
+returns-in-Err-clause-says g c =
+    let before : Outside = record { told = g.S.Store.holds c.args.store.now; faults = g.S.Store.faults c.args.store.now; said = g.W.Say.said c.args.say.now; say_faults = g.W.Say.faults c.args.say.now } in
+    let after : Outside = record { told = g.S.Store.holds c.prepare_order.new.store; faults = g.S.Store.faults c.prepare_order.new.store; said = g.W.Say.said c.args.say.now; say_faults = g.W.Say.faults c.args.say.now } in
+    let call : Call = record { words = bytes_of_words c.args.words.now; before = before; after = after; journal = c.refused-in-Err.result.journal } in
+    says-same call c.in-Err.status c.refused-in-Err.result.status c.refused-in-Err.ensures.status
+    (says-refused call c.in-Err.status (record {
+      command = named c.in-Some.command;
+      words = c.in-Some.ensures.command;
+      refuse = c.in-Err.ensures.err;
+      nothing = record { files = c.in-Err.ensures.files; said = refl; journal = c.refused-in-Err.ensures.journal };
+    }))
+
+pub returns-in-Err-run_order-clause-says : goal.returns-in-Err-run_order-clause-says
+returns-in-Err-run_order-clause-says g c =
+    let before : Outside = record { told = g.S.Store.holds c.args.store.now; faults = g.S.Store.faults c.args.store.now; said = g.W.Say.said c.args.say.now; say_faults = g.W.Say.faults c.args.say.now } in
+    let after : Outside = record { told = g.S.Store.holds c.prepare_order.new.store; faults = g.S.Store.faults c.prepare_order.new.store; said = g.W.Say.said c.args.say.now; say_faults = g.W.Say.faults c.args.say.now } in
+    let call : Call = record { words = bytes_of_words c.args.words.now; before = before; after = after; journal = c.stopped.result.journal } in
+    let order : Order = order_of c.in-Ok.order in
+    says-same call c.in-Err-run_order.status c.stopped.result.status c.stopped.ensures.status
+    (says-stopped call (named c.in-Some.command) order c.in-Err-run_order.status c.in-Some.ensures.command
+    (record { command = c.in-Some.ensures.command ∙ ap Some (sym c.in-Ok.ensures.command); given = c.in-Ok.ensures.ok })
+    (record { files = c.in-Ok.ensures.files; said = refl; journal = c.stopped.ensures.journal }) c.in-Err-run_order.ensures.err)

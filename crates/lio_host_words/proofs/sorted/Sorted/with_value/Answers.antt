@@ -1,4 +1,4 @@
-use Rattle.lio_host_words.specs.declared.name.Name.TheVariants.{History, View, Observer, Make}
+use Rattle.lio_host_words.specs.declared.name.Name.TheVariants.{History, View, Observer, Make, Workers, Check}
 use Rattle.lio_host_words.specs.Sorted.{sorted_of}
 use Rattle.lio_host_words.proofs.WalkLemmas.{none-value}
 use Rattle.lio_host_words.proofs.sorted.Sorted.with_value.Goals as goal
@@ -18,3 +18,11 @@ returns-in_err-only-in-Observer-clause-cases c =
 pub returns-in_err-only-in-Make-clause-cases : goal.returns-in_err-only-in-Make-clause-cases
 returns-in_err-only-in-Make-clause-cases c =
     rw (c.from_residual-in_err-only-in-Make.ensures, c.in-Make.is) (λ rest. none-value Make (sorted_of c.args.self) c.args.word.now rest (c.in_err-only-in-Make.ensures rest.sizes))
+
+pub returns-in_err-only-in-Workers-clause-cases : goal.returns-in_err-only-in-Workers-clause-cases
+returns-in_err-only-in-Workers-clause-cases c =
+    rw (c.from_residual-in_err-only-in-Workers.ensures, c.in-Workers.is) (λ rest. none-value Workers (sorted_of c.args.self) c.args.word.now rest (c.in_err-only-in-Workers.ensures rest.counts))
+
+pub returns-in_err-only-in-Check-clause-cases : goal.returns-in_err-only-in-Check-clause-cases
+returns-in_err-only-in-Check-clause-cases c =
+    rw (c.from_residual-in_err-only-in-Check.ensures, c.in-Check.is) (λ rest. none-value Check (sorted_of c.args.self) c.args.word.now rest (c.in_err-only-in-Check.ensures rest.checks))

@@ -10,8 +10,8 @@ use Rattle.lio_host_words.specs.Sorted.{named}
 use Rattle.lio_host_main.specs.Order.{label_text}
 use Rattle.lio_host_main.specs.StatusOf.{cause_of}
 use Rattle.lio_host_main.specs.Verdict.{taking}
-use Rattle.lio_host_main.proofs.Prepares.{give-order, refuse-inputs, refuse-load}
-use Rattle.lio_host_main.proofs.prepare.prepare_from.Goals as goal
+use Rattle.lio_host_main.proofs.Prepares.{give-loaded, refuse-inputs, refuse-load}
+use Rattle.lio_host_main.proofs.prepare.load_from.Goals as goal
 
 pub returns-in_err-front-clause-err : goal.returns-in_err-front-clause-err
 returns-in_err-front-clause-err g c =
@@ -22,7 +22,7 @@ returns-in_err-front-clause-err g c =
     let fault = c.in_err-front.field-0.0 in
     let says : Says told (loading c.args.policy.now c.args.script.now (label_text (named c.args.command))) before after fault =
     subst (λ (label : Option (List ℕ)). Says told (loading c.args.policy.now c.args.script.now label) before after fault) c.label_of.ensures c.in_err-front.ensures.err in
-    rw (p.1, p.2) (refuse-load told c.args.policy.now c.args.script.now c.args.read.now (named c.args.command) before after fault c.in_err-front.ensures.count says)
+    rw (p.1, p.2) (refuse-load told c.args.policy.now c.args.script.now (named c.args.command) before after fault c.in_err-front.ensures.count says)
 
 pub of-requires-clause-fits : goal.of-requires-clause-fits
 of-requires-clause-fits g c = c.in_ok-front.ensures.fits
@@ -39,10 +39,10 @@ returns-in-Ok-clause-ok g c =
     let front : Front = c.in_ok-front.front in
     let loaded : Give told (loading c.args.policy.now c.args.script.now (label_text (named c.args.command))) (Ok front) =
     subst (λ (label : Option (List ℕ)). Give told (loading c.args.policy.now c.args.script.now label) (Ok front)) c.label_of.ensures c.in_ok-front.ensures.ok in
-    let taken : Give told (taking (named c.args.command) c.args.read.now front.policy) (Ok c.in-Ok.inputs) =
-    subst (λ (t : Option FileMap). Give t (taking (named c.args.command) c.args.read.now front.policy) (Ok c.in-Ok.inputs)) c.in_ok-front.ensures.files c.in-Ok.ensures.ok in
-    give-order told c.args.policy.now c.args.script.now c.args.read.now (named c.args.command) front c.in-Ok.inputs _
-    (ap (λ (job : Job). record { job = job; command = named c.args.command; observer = front.observer }) c.of.ensures) loaded taken
+    let taken : Give told (taking (named c.args.command) front.policy) (Ok c.in-Ok.inputs) =
+    subst (λ (t : Option FileMap). Give t (taking (named c.args.command) front.policy) (Ok c.in-Ok.inputs)) c.in_ok-front.ensures.files c.in-Ok.ensures.ok in
+    give-loaded told c.args.policy.now c.args.script.now (named c.args.command) front c.in-Ok.inputs _
+    (ap (λ (job : Job). record { job = job; observer = front.observer }) c.of.ensures) loaded taken
 
 pub returns-in-Err-clause-err : goal.returns-in-Err-clause-err
 returns-in-Err-clause-err g c =
@@ -53,6 +53,6 @@ returns-in-Err-clause-err g c =
     let after = g.S.Store.faults c.take_inputs.new.store in
     let loaded : Give told (loading c.args.policy.now c.args.script.now (label_text (named c.args.command))) (Ok front) =
     subst (λ (label : Option (List ℕ)). Give told (loading c.args.policy.now c.args.script.now label) (Ok front)) c.label_of.ensures c.in_ok-front.ensures.ok in
-    let refused : Refuse (cause_of c.in-Err.status) told (taking (named c.args.command) c.args.read.now front.policy) middle after c.in-Err.status =
-    subst (λ (t : Option FileMap). Refuse (cause_of c.in-Err.status) t (taking (named c.args.command) c.args.read.now front.policy) middle after c.in-Err.status) c.in_ok-front.ensures.files c.in-Err.ensures.err in
-    refuse-inputs told c.args.policy.now c.args.script.now c.args.read.now (named c.args.command) front before middle after c.in-Err.status c.in_ok-front.ensures.count c.in-Err.ensures.count loaded refused
+    let refused : Refuse (cause_of c.in-Err.status) told (taking (named c.args.command) front.policy) middle after c.in-Err.status =
+    subst (λ (t : Option FileMap). Refuse (cause_of c.in-Err.status) t (taking (named c.args.command) front.policy) middle after c.in-Err.status) c.in_ok-front.ensures.files c.in-Err.ensures.err in
+    refuse-inputs told c.args.policy.now c.args.script.now (named c.args.command) front before middle after c.in-Err.status c.in_ok-front.ensures.count c.in-Err.ensures.count loaded refused
