@@ -1,6 +1,7 @@
 //! What the words of the program ask for.
 use crate::journals::{look_times, print_times};
 use crate::labels::LabelWork;
+use crate::merges::merge_times;
 use crate::policies::read_file_times;
 use crate::turns::{Side, count_times};
 use lio_outside::Store;
@@ -19,12 +20,14 @@ pub enum Asked<'w> {
     Look(u32, u32),
     /// Turns of a task that counts.
     Count(Side, u32),
+    /// A run of the task to its end, and merges of its logs.
+    Merge(u32),
 }
 
 impl<'w> Asked<'w> {
     /// What three words say: the operation, its subject, and how often. The subject is a file for
-    /// `policy`, the number of entries for `print` and `look`, `whole` or `erased` for `count`, and
-    /// for an operation on labels the clauses of each part, at most 64.
+    /// `policy`, the number of entries for `print` and `look`, `whole` or `erased` for `count`,
+    /// `logs` for `merge`, and for an operation on labels the clauses of each part, at most 64.
     pub fn of_words(words: &'w [String]) -> Option<Asked<'w>> {
         let [operation, subject, times] = words else {
             return None;
@@ -35,6 +38,7 @@ impl<'w> Asked<'w> {
             "print" => Some(Asked::Print(subject.as_str().parse::<u32>().ok()?, times)),
             "look" => Some(Asked::Look(subject.as_str().parse::<u32>().ok()?, times)),
             "count" => Some(Asked::Count(Side::of_name(subject.as_str())?, times)),
+            "merge" if subject.as_str() == "logs" => Some(Asked::Merge(times)),
             name => {
                 let clauses = subject.as_str().parse::<u32>().ok()?;
                 Some(Asked::Labels(LabelWork::new(name, clauses, times)?))
@@ -50,6 +54,7 @@ impl<'w> Asked<'w> {
             Asked::Print(entries, times) => print_times(alloc, *entries, *times).is_ok(),
             Asked::Look(entries, times) => look_times(alloc, *entries, *times).is_ok(),
             Asked::Count(side, times) => count_times(alloc, side, *times).is_ok(),
+            Asked::Merge(times) => merge_times(alloc, *times).is_ok(),
         }
     }
 }

@@ -4,6 +4,7 @@
 mod asked;
 mod journals;
 mod labels;
+mod merges;
 mod policies;
 mod turns;
 

@@ -99,14 +99,19 @@ fn started(alloc: Global, job: &Job) -> Result<Counting, NoMemory>
     Ok(Counting { script, config })
 }
 
+/// The job of the task.
+pub fn counting_job(alloc: Global) -> Result<Job, CountFault> {
+    let policy = read_policy(alloc, POLICY).map_err(CountFault::Policy)?;
+    job_of(alloc, policy)
+}
+
 /// Gives the task before its first turn.
 fn first(alloc: Global) -> Result<Counting, CountFault>
     ensures sound { IfOk result
         (λ counting. IsSound (configuration_of counting.script counting.config)) }
     ensures fresh { IfOk result (λ counting. AreFresh counting.config) }
 {
-    let policy = read_policy(alloc, POLICY).map_err(CountFault::Policy)?;
-    let job = job_of(alloc, policy)?;
+    let job = counting_job(alloc)?;
     Ok(started(alloc, &job)?)
 }
 

@@ -1,5 +1,5 @@
 -- What a log of entries makes of a node's state.
-use Rattle.std.specs.Prelude.{◌≡◌, ◌<◌, Bool, true, List, [], ◌∷◌, Option, Some, None, IsSome, vec_len, vec_capacity}
+use Rattle.std.specs.Prelude.{◌<◌, List, [], ◌∷◌, Option, Some, None, IsSome, vec_len, vec_capacity}
 use Rattle.lio_values.specs.declared.entry.Entry.{Entry}
 use Rattle.lio_cells.specs.declared.state.State.{State}
 use Rattle.lio_cells.specs.declared.log.Log.{Log}
@@ -15,7 +15,7 @@ abbrev pub first_of : Option State → State → State
 first_of None state = state
 first_of (Some first) state = first
 
--- a log has a place for an entry, and the state that its node began with is kept, where its node says so
-pub record HasPlace (log : Log) (place : Bool) : Type 0 where
-  pub room : place ≡ true → vec_len log.entries < vec_capacity log.entries
-  pub first : place ≡ true → IsSome log.first
+-- a log has a place for the entry that is pending, if one is, and the state that its node began with is kept
+pub record HasPlace (log : Log) (pending : Option Entry) : Type 0 where
+  pub room : IsSome pending → vec_len log.entries < vec_capacity log.entries
+  pub first : IsSome pending → IsSome log.first

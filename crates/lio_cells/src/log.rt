@@ -5,8 +5,26 @@ ghost use Rattle.lio_cells.specs.Log.{first_of};
 
 use crate::state::State;
 use lio_clauses::{NoMemory, assign, beside};
-use lio_values::Entry;
+use lio_values::{Act, Entry, Reply};
 use std::alloc::Global;
+
+/// An equal entry. That of a step takes no memory but for its label.
+#[inline(always)]
+pub fn copy_entry(alloc: Global, entry: &Entry) -> Result<Entry, NoMemory>
+    ensures { IfOk result (λ copy. copy ≡ entry.now) }
+{
+    match (&entry.act, &entry.reply) {
+        (Act::Step, Reply::Done) => Ok(Entry {
+            ticket: entry.ticket,
+            actor: entry.actor,
+            target: entry.target,
+            at: entry.at.copy(alloc)?,
+            act: Act::Step,
+            reply: Reply::Done,
+        }),
+        _ => entry.copy(alloc),
+    }
+}
 
 /// Equal entries.
 fn copy_entries(alloc: Global, entries: &[Entry]) -> Result<Vec<Entry>, NoMemory>

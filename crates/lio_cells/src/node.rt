@@ -1,29 +1,30 @@
 //! Nodes.
-ghost use Rattle.std.specs.Prelude.{◌≡◌, ◌⊎◌, ◌++◌, [], ◌∷◌, IfOk, IsTrue, OnOk, OnErr, true, false};
-ghost use Rattle.lio_events.specs.Rising.{IsLater};
+ghost use Rattle.std.specs.Prelude.{◌≡◌, [], IfOk, IsTrue, OnOk, OnErr, None, Some, false};
+ghost use Rattle.std.specs.Option.{option_copied};
 ghost use Rattle.lio_cells.specs.State.{answer, grants, ready, state_after};
 ghost use Rattle.lio_cells.specs.Room.{room_for};
-ghost use Rattle.lio_cells.specs.Node.{IsKept, at_rest, node_of, takes_part, with_waiter};
+ghost use Rattle.lio_cells.specs.Node.{IsKept, MayServe, at_rest, node_of, served_node};
+ghost use Rattle.lio_cells.specs.Node.{takes_part, with_waiter};
 
 use crate::log::Log;
 use crate::room::Room;
 use crate::state::State;
 use crate::waiter::{Waiter, Waiters};
 use crate::wish::Wish;
-use crate::{ready, reply, reserve, served};
+use crate::{log, ready, reply, reserve, served};
 use lio_clauses::{NoMemory, assign, beside};
 use lio_values::{Act, Entry, Reply};
 use std::alloc::Global;
 use std::marker::Model;
 
 /// A node: what it holds, the entries that it has served, who waits at it, and what it keeps ready
-/// for an act, so that the act takes no memory. Its state is what its entries make of the state that
+/// for a turn, so that the turn takes no memory once it has its ticket. Its state is what its entries make of the state that
 /// it began with, their tickets rise, and nobody waits at it for what it grants.
 #[derive(Drop)]
 pub struct Node {
     state: State,
     room: Room,
-    place: bool,
+    pending: Option<Entry>,
     log: Log,
     waiters: Waiters,
 }
@@ -40,7 +41,7 @@ impl Model for Node {
       log = n.log.entries.items;
       waiters = n.waiters;
       room = n.room;
-      place = n.place;
+      pending = n.pending;
     } };
 
     ghost invariant = { λ n. IsKept (record {
@@ -49,8 +50,8 @@ impl Model for Node {
       log = n.log.entries.items;
       waiters = n.waiters;
       room = n.room;
-      place = n.place;
-    }) × HasPlace n.log n.place };
+      pending = n.pending;
+    }) × HasPlace n.log n.pending };
 }
 
 impl Node {
@@ -61,7 +62,7 @@ impl Node {
         Node {
             state,
             room: Room::Nothing,
-            place: false,
+            pending: None,
             log: Log::new(alloc),
             waiters: Waiters::new(alloc),
         }
@@ -84,7 +85,7 @@ impl Node {
         Ok(Node {
             state,
             room: Room::Nothing,
-            place: false,
+            pending: None,
             log,
             waiters,
         })
@@ -164,20 +165,44 @@ impl Node {
         Ok(())
     }
 
-    /// Takes the memory that the act needs in this node: what the state needs, and a place for its
-    /// entry in the log. After a refusal the node keeps nothing ready. All else is as before.
-    pub fn reserve(&mut self, alloc: Global, act: &Act) -> Result<(), NoMemory>
-        ensures ok { OnOk result (self.new
-            ≡ record self.old { room = room_for self.old.state act.now; place = true }) }
+    /// Keeps no entry ready.
+    #[inline(always)]
+    fn clear_pending(&mut self)
+        ensures { self.new ≡ record self.old { pending = None } }
+    {
+        if self.pending.is_some() {
+            assign(&mut self.pending, None);
+        }
+    }
+
+    /// Makes a place in the log for an entry, and keeps a copy of it ready. After a refusal all is as
+    /// before.
+    #[inline(always)]
+    fn keep_entry(&mut self, alloc: Global, entry: &Entry) -> Result<(), NoMemory>
+        requires { self.old.pending ≡ None }
+        ensures ok { OnOk result (self.new ≡ record self.old { pending = Some entry.now }) }
+        ensures err { OnErr result (self.new ≡ self.old) }
+    {
+        self.log.reserve(alloc, &self.state)?;
+        let copy = log::copy_entry(alloc, entry)?;
+        assign(&mut self.pending, Some(copy));
+        Ok(())
+    }
+
+    /// Keeps ready what a turn with this entry needs in this node: what the state needs for its act,
+    /// and a copy of the entry with a place in the log. After a refusal the node keeps nothing ready.
+    /// All else is as before.
+    pub fn reserve(&mut self, alloc: Global, entry: &Entry) -> Result<(), NoMemory>
+        ensures ok { OnOk result (self.new ≡ record self.old {
+          room = room_for self.old.state entry.now.act;
+          pending = Some entry.now;
+        }) }
         ensures err { OnErr result (self.new ≡ at_rest self.old) }
     {
-        self.place = false;
-        self.reserve_state(alloc, act)?;
-        match self.log.reserve(alloc, &self.state) {
-            Ok(()) => {
-                self.place = true;
-                Ok(())
-            }
+        self.clear_pending();
+        self.reserve_state(alloc, &entry.act)?;
+        match self.keep_entry(alloc, entry) {
+            Ok(()) => Ok(()),
             Err(error) => {
                 self.clear_room();
                 Err(error)
@@ -185,21 +210,24 @@ impl Node {
         }
     }
 
-    /// Serves the turn with this entry: its act changes the state by what was reserved for it, and
-    /// the entry comes last in the log. It takes no memory.
-    pub fn serve(&mut self, entry: Entry)
-        requires reserved { self.old.room ≡ room_for self.old.state entry.act }
-        requires place { self.old.place ≡ true }
-        requires takes_part { IsTrue (takes_part self.old.state entry.act) }
-        requires later { IsLater self.old.log entry }
-        requires nobody { (state_after self.old.state entry.act ≡ self.old.state)
-            ⊎ (self.old.waiters ≡ []) }
-        ensures { self.new ≡ record (at_rest self.old) {
-          state = state_after self.old.state entry.act;
-          log = self.old.log ++ entry ∷ [];
-        } }
+    /// The entry of the turn for which it is ready, if there is one.
+    pub fn pending(&self) -> Option<&Entry>
+        ensures { option_copied result ≡ self.now.pending }
     {
-        self.place = false;
+        self.pending.as_ref()
+    }
+
+    /// Serves the turn for which it is ready, with its ticket: its act changes the state by what was
+    /// reserved for it, and its entry comes last in the log. It takes no memory.
+    pub fn serve(&mut self, ticket: u64)
+        requires { MayServe self.old ticket }
+        ensures { (entry : Entry) → self.old.pending ≡ Some entry
+            → self.new ≡ served_node self.old entry ticket }
+    {
+        let Some(mut entry) = self.pending.take() else {
+            unreachable!()
+        };
+        entry.ticket = ticket;
         served::serve(&mut self.state, &mut self.room);
         self.log.push(entry);
     }
@@ -211,7 +239,7 @@ impl Node {
         requires takes_part { IsTrue (takes_part self.old.state act.now) }
         ensures { self.new ≡ node_of (state_after self.old.state act.now) }
     {
-        self.place = false;
+        assign(&mut self.pending, None);
         self.log.clear();
         self.waiters.clear();
         served::serve(&mut self.state, &mut self.room);

@@ -1,6 +1,6 @@
 -- Words for the contracts of a turn in two halves, over the holders that it is lent: the actor's, and that of the node that its act meets.
 -- The first half does all that may fail, the second records the act in the nodes.
-use Rattle.std.specs.Prelude.{◌≡◌, ℕ, List, [], ◌∷◌, ◌++◌, Option, Some, None, IsTrue, Bool, true, false, if◌then◌else◌}
+use Rattle.std.specs.Prelude.{◌≡◌, ℕ, ◌<◌, List, [], ◌∷◌, ◌++◌, All, Option, Some, None, IsTrue, Bool, true, false, if◌then◌else◌}
 use Rattle.std.specs.Option.{option_map}
 use Rattle.lio_labels.specs.declared.label.Label.{Label}
 use Rattle.lio_values.specs.declared.act.Act.{Act}
@@ -10,9 +10,9 @@ use Rattle.lio_values.specs.declared.entry.Entry.{Entry}
 use Rattle.lio_syntax.specs.Statements.{Procedure}
 use Rattle.lio_syntax.specs.Lines.{script_lines}
 use Rattle.lio_cells.specs.declared.state.State.{State}
-use Rattle.lio_cells.specs.Node.{NodeState, takes_part}
-use Rattle.lio_cells.specs.Room.{room_for}
-use Rattle.lio_cells.specs.State.{state_after}
+use Rattle.lio_cells.specs.declared.waiter.Waiter.{Waiter}
+use Rattle.lio_cells.specs.Node.{IsReadyFor, NodeState, takes_part}
+use Rattle.lio_cells.specs.State.{is_job, state_after}
 use Rattle.lio_calculus.specs.Task.{TaskState}
 use Rattle.lio_calculus.specs.Going.{gone_on}
 use Rattle.lio_calculus.specs.Step.{Cell, Configuration, born, cell_at, task_after}
@@ -88,10 +88,13 @@ looks act.Read = true
 looks act.Wait = true
 looks asked = false
 
--- what an act needs in a node is reserved in it: what its state needs, and a place in its log
-pub record HasRoom (node : NodeState) (asked : Act) : Type 0 where
-  pub room : node.room ≡ room_for node.state asked
-  pub place : node.place ≡ true
+-- An entry is that of a turn of a holder's task, which has number k: all of it but its ticket.
+pub record IsFilled (holder : Holder) (k : ℕ) (met : Option ℕ) (asked : Act) (replied : Reply) (entry : Entry) : Type 0 where
+  pub actor : entry.actor ≡ k
+  pub target : entry.target ≡ met
+  pub at : IsLabelOf holder entry.at
+  pub act : entry.act ≡ asked
+  pub reply : entry.reply ≡ replied
 
 -- a node whose waiters are taken out, where an act changes it
 abbrev pub woken : Bool → NodeState → NodeState
@@ -107,6 +110,14 @@ pub record IsAsBefore (script : List Procedure) (old new : Holder) : Type 0 wher
   pub log : new.node.log ≡ old.node.log
   pub waiters : new.node.waiters ≡ old.node.waiters
 
+-- A holder's task has gone on in a way, and its node, which else is as before, is ready for the turn's entry.
+pub record HasPrepared (script : List Procedure) (old new : Holder) (way : Way) (entry : Entry) : Type 0 where
+  pub gone : Gone script old new way entry.act entry.reply
+  pub state : new.node.state ≡ old.node.state
+  pub log : new.node.log ≡ old.node.log
+  pub waiters : new.node.waiters ≡ old.node.waiters
+  pub is_ready : IsReadyFor new.node entry
+
 -- All that may fail of the turn of task k is done: what its holder was before and is now, and the number of the node that the turn meets, if it
 -- meets one. `holds` says what else has to hold of a configuration.
 pub record Prepared (script : List Procedure) (longest : ℕ) (holds : Configuration → Type 0) (old new : Holder) (k : ℕ) (target : Option ℕ) (entry : Entry) : Type 0 where
@@ -116,11 +127,11 @@ pub record Prepared (script : List Procedure) (longest : ℕ) (holds : Configura
   pub meets : entry.target ≡ target
   -- the task has gone on
   pub task : option_map (state_in script) new.task ≡ (acted (program_of script longest) entry (cell_of script old)).task
-  -- the node is as before, and has room for the act
+  -- the node is as before, and ready for the entry
   pub state : new.node.state ≡ old.node.state
   pub log : new.node.log ≡ old.node.log
   pub waiters : new.node.waiters ≡ old.node.waiters
-  pub room : HasRoom new.node entry.act
+  pub is_ready : IsReadyFor new.node entry
 
 -- a turn that meets no other node is prepared, where it is what the task plans
 abbrev pub PreparesAlone : List Procedure → Holder → Holder → ℕ → Act → Reply → Way → Entry → Type 0
@@ -132,7 +143,7 @@ pub record PreparedMet (script : List Procedure) (longest : ℕ) (was now : Hold
   pub cell : cell_of script now ≡ cell_of script was
   pub log : now.node.log ≡ was.node.log
   pub waiters : now.node.waiters ≡ was.node.waiters
-  pub room : HasRoom now.node entry.act
+  pub is_ready : IsReadyFor now.node entry
   pub takes_part : IsTrue (takes_part now.node.state entry.act)
   -- the child is the one that the act gives birth to, if it does
   pub bears : option_map (state_in script) child ≡ born (program_of script longest) entry.at entry.act
@@ -162,6 +173,34 @@ Records script old new asked = cell_of script new ≡ recorded (cell_of script o
 -- a holder's node has served an act, and where it had no task it has the one that was born
 abbrev pub Serves : List Procedure → Holder → Holder → Act → Option Task → Type 0
 Serves script old new asked child = cell_of script new ≡ served_cell (cell_of script old) asked (option_map (state_in script) child)
+
+-- a job's node is ready for a turn, whose ticket is later than those in its log
+pub record CanRecord (node : NodeState) (ticket : ℕ) : Type 0 where
+  pub entry : Entry
+  pub is_ready : IsReadyFor node entry
+  pub job : IsTrue (is_job node.state)
+  pub later : All (λ before. before.ticket < ticket) node.log
+
+-- a node that a turn meets is ready for it, and its ticket is later than those in the node's log
+pub record CanRecordMet (node : NodeState) (ticket : ℕ) : Type 0 where
+  pub entry : Entry
+  pub is_ready : IsReadyFor node entry
+  pub takes_part : IsTrue (takes_part node.state entry.act)
+  pub later : All (λ before. before.ticket < ticket) node.log
+
+-- A holder's node has served the turn of its task: who waited at it was taken out where the turn is the task's end.
+pub record Recorded (old new : Holder) (entry : Entry) (ticket : ℕ) (given : Option (List Waiter)) : Type 0 where
+  pub cell : (script : List Procedure) → Records script old new entry.act
+  pub log : new.node.log ≡ with_turn old.node.log entry ticket
+  pub taken : given ≡ (if ends entry.act then Some old.node.waiters else None)
+  pub waiters : new.node.waiters ≡ (if ends entry.act then [] else old.node.waiters)
+
+-- A holder's node has served a turn that meets it: who waited at it was taken out unless the act only looks at it.
+pub record RecordedMet (old new : Holder) (entry : Entry) (ticket : ℕ) (child : Option Task) (given : Option (List Waiter)) : Type 0 where
+  pub cell : (script : List Procedure) → Serves script old new entry.act child
+  pub log : new.node.log ≡ with_turn old.node.log entry ticket
+  pub taken : given ≡ (if looks entry.act then None else Some old.node.waiters)
+  pub waiters : new.node.waiters ≡ (if looks entry.act then old.node.waiters else [])
 
 -- two holders stand for the same cells as before, and their nodes have the same logs and waiters
 pub record AreAsBefore (script : List Procedure) (old new was now : Holder) : Type 0 where

@@ -2,7 +2,7 @@
 ghost use Rattle.std.specs.Prelude.{◌≡◌};
 
 use crate::pair::pair_mut;
-use crate::turn::{Meeting, blank_entry};
+use crate::turn::blank_entry;
 use lio_cells::Node;
 use lio_clauses::NoMemory;
 use lio_syntax::Script;
@@ -98,9 +98,9 @@ impl Config {
         let Some(actor) = self.holders.get_mut(k as usize) else {
             unreachable!()
         };
-        let own = actor.prepare_alone(alloc, script, k, act, reply, way, entry)?;
+        actor.prepare_alone(alloc, script, k, act, reply, way, entry)?;
         entry.ticket = ticket;
-        drop(actor.record(own, ticket));
+        drop(actor.record(ticket));
         Ok(())
     }
 
@@ -130,9 +130,9 @@ impl Config {
         let Some(actor) = self.holders.get_mut(k as usize) else {
             unreachable!()
         };
-        let own = actor.prepare_step(alloc, script, k, way, entry)?;
+        actor.prepare_step(alloc, script, k, way, entry)?;
         entry.ticket = ticket;
-        drop(actor.record(own, ticket));
+        drop(actor.record(ticket));
         Ok(())
     }
 
@@ -165,12 +165,10 @@ impl Config {
         let n = target.number();
         drop(target);
         let (actor, met) = pair_mut(&mut self.holders, k as usize, n as usize);
-        let Meeting { own, twin, child } = actor.prepare_meeting(
-            alloc, script, k, met, n, act, onward, entry,
-        )?;
+        let child = actor.prepare_meeting(alloc, script, k, met, n, act, onward, entry)?;
         entry.ticket = ticket;
-        drop(actor.record(own, ticket));
-        drop(met.record_met(twin, ticket, child));
+        drop(actor.record(ticket));
+        drop(met.record_met(ticket, child));
         Ok(())
     }
 

@@ -9,4 +9,4 @@ mod preview;
 mod turn;
 
 pub use config::{Config, Holder, StepFault};
-pub use turn::{Meeting, blank_entry};
+pub use turn::blank_entry;

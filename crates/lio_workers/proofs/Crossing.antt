@@ -52,7 +52,7 @@ log-send : IsSend L.the_row
 log-send = search (sendable, crosses, state-send, entry.the_send) depth 100 fits 20000
 
 node-inside : IsSend NI.the_row
-node-inside = declared_send NI.the_type (state-send, (room-send, (search (sendable, as_row_send), (log-send, (as_row_send W.the_field waiters.the_send, tt)))))
+node-inside = declared_send NI.the_type (state-send, (room-send, (search (sendable, crosses, as_row_send, entry.the_send) depth 100 fits 20000, (log-send, (as_row_send W.the_field waiters.the_send, tt)))))
 
 node-send : IsSend N.the_row
 node-send = view_send _ _ _ _ _ node-inside

@@ -1,10 +1,9 @@
-use Rattle.std.proofs.Common.{◌≡◌, ◌∙◌, sym, ap, subst, ◌<◌, IsTrue, List, length}
+use Rattle.std.proofs.Common.{◌≡◌, ◌∙◌, refl, sym, ap, subst, ◌<◌, List, length}
 use Rattle.lio_config.specs.declared.config.Holder.{Holder}
 use Rattle.lio_values.specs.declared.entry.Entry.{Entry}
-use Rattle.lio_cells.specs.Node.{takes_part}
 use Rattle.lio_config.specs.Configuration.{configuration_of}
 use Rattle.lio_config.specs.Logs.{HasSameLogs}
-use Rattle.lio_config.specs.Turns.{HasRoom, Records, Serves, with_turn}
+use Rattle.lio_config.specs.Turns.{with_turn}
 use Rattle.lio_config.proofs.HolderLemmas.{on_err}
 use Rattle.lio_config.proofs.LogLemmas.{later-at, meeting-appends, meeting-kept}
 use Rattle.lio_config.proofs.TurnLemmas.{actor-job, actor-within, holder-ready, lent, meeting-same, meeting-steps, meets-other, met-within, visit-can, visits-at, with_both}
@@ -37,106 +36,76 @@ prepare_meeting-requires-clause-ready c =
     c.deref_mut.ensures.value pair.ensures.first pair.ensures.second in
     holder-ready script config c.args.k n _ c.args.act c.args.onward pair.result.1.now c.requires.sound c.requires.plans c.requires.can c.number-n.ensures there.met_is
 
-pub returns-in_err-own-clause-err : goal.returns-in_err-own-clause-err
-returns-in_err-own-clause-err c =
+pub returns-in_err-child-clause-err : goal.returns-in_err-child-clause-err
+returns-in_err-child-clause-err c =
     let script = c.args.script.now in let config = c.args.self.now in let k = c.args.k in let n = c.number-n.result in let pair = c.pair_mut-actor in
     let now = c.prepare_meeting.new.self in let met = c.prepare_meeting.new.met in
     let there = lent script config k n _ c.args.act c.args.onward c.deref_mut.result.now pair.result.0.now pair.result.1.now c.requires.sound c.requires.plans c.requires.can c.number-n.ensures
     c.deref_mut.ensures.value pair.ensures.first pair.ensures.second in
     on_err (configuration_of script (with_both config c.deref_mut.result.now k n now met) ≡ configuration_of script config) c.from_residual.result
-    (meeting-same script config k n c.deref_mut.result.now pair.result.0.now now pair.result.1.now met there c.in_err-own.ensures.err)
+    (meeting-same script config k n c.deref_mut.result.now pair.result.0.now now pair.result.1.now met there c.in_err-child.ensures.err)
 
-pub returns-in_err-own-clause-kept : goal.returns-in_err-own-clause-kept
-returns-in_err-own-clause-kept c =
+pub returns-in_err-child-clause-kept : goal.returns-in_err-child-clause-kept
+returns-in_err-child-clause-kept c =
     let script = c.args.script.now in let config = c.args.self.now in let k = c.args.k in let n = c.number-n.result in let pair = c.pair_mut-actor in
     let now = c.prepare_meeting.new.self in let met = c.prepare_meeting.new.met in
     let there = lent script config k n _ c.args.act c.args.onward c.deref_mut.result.now pair.result.0.now pair.result.1.now c.requires.sound c.requires.plans c.requires.can c.number-n.ensures
     c.deref_mut.ensures.value pair.ensures.first pair.ensures.second in
     on_err (HasSameLogs config (with_both config c.deref_mut.result.now k n now met)) c.from_residual.result
-    (meeting-kept config k n c.deref_mut.result.now pair.result.0.now now pair.result.1.now met there script c.in_err-own.ensures.err)
+    (meeting-kept config k n c.deref_mut.result.now pair.result.0.now now pair.result.1.now met there script c.in_err-child.ensures.err)
 
-pub record-requires-clause-room : goal.record-requires-clause-room
-record-requires-clause-room c =
+pub record-requires : goal.record-requires
+record-requires c =
     let script = c.args.script.now in let config = c.args.self.now in let k = c.args.k in let n = c.number-n.result in let pair = c.pair_mut-actor in
-    let now = c.prepare_meeting.new.self in let met = c.prepare_meeting.new.met in
+    let now = c.prepare_meeting.new.self in let met = c.prepare_meeting.new.met in let entry = c.prepare_meeting.new.entry in
     let there = lent script config k n _ c.args.act c.args.onward c.deref_mut.result.now pair.result.0.now pair.result.1.now c.requires.sound c.requires.plans c.requires.can c.number-n.ensures
     c.deref_mut.ensures.value pair.ensures.first pair.ensures.second in
     let plans = visits-at script config k n _ pair.result.0.now c.args.act c.args.onward there.actor_is c.requires.plans c.number-n.ensures in
-    let prepared = c.in_ok-own.ensures.ok config.longest plans in
-    subst (λ (entry : Entry). HasRoom now.node entry.act) (sym c.in_ok-own.ensures.own) prepared.actor.room
+    let prepared = c.in_ok-child.ensures.ok config.longest plans in
+    record {
+      entry = entry;
+      is_ready = prepared.actor.is_ready;
+      job = actor-job script config k pair.result.0.now plans.task now.node.state c.requires.sound there.actor_is plans.is prepared.actor.state;
+      later = later-at config k c.args.ticket pair.result.0.now now.node.log there.actor_is c.requires.later prepared.actor.log;
+    }
 
-pub record-requires-clause-job : goal.record-requires-clause-job
-record-requires-clause-job c =
+pub record_met-requires : goal.record_met-requires
+record_met-requires c =
     let script = c.args.script.now in let config = c.args.self.now in let k = c.args.k in let n = c.number-n.result in let pair = c.pair_mut-actor in
-    let now = c.prepare_meeting.new.self in let met = c.prepare_meeting.new.met in
+    let now = c.prepare_meeting.new.self in let met = c.prepare_meeting.new.met in let entry = c.prepare_meeting.new.entry in
     let there = lent script config k n _ c.args.act c.args.onward c.deref_mut.result.now pair.result.0.now pair.result.1.now c.requires.sound c.requires.plans c.requires.can c.number-n.ensures
     c.deref_mut.ensures.value pair.ensures.first pair.ensures.second in
     let plans = visits-at script config k n _ pair.result.0.now c.args.act c.args.onward there.actor_is c.requires.plans c.number-n.ensures in
-    let prepared = c.in_ok-own.ensures.ok config.longest plans in
-    actor-job script config k pair.result.0.now plans.task now.node.state c.requires.sound there.actor_is plans.is prepared.actor.state
-
-pub record-requires-clause-later : goal.record-requires-clause-later
-record-requires-clause-later c =
-    let script = c.args.script.now in let config = c.args.self.now in let k = c.args.k in let n = c.number-n.result in let pair = c.pair_mut-actor in
-    let now = c.prepare_meeting.new.self in let met = c.prepare_meeting.new.met in
-    let there = lent script config k n _ c.args.act c.args.onward c.deref_mut.result.now pair.result.0.now pair.result.1.now c.requires.sound c.requires.plans c.requires.can c.number-n.ensures
-    c.deref_mut.ensures.value pair.ensures.first pair.ensures.second in
-    let plans = visits-at script config k n _ pair.result.0.now c.args.act c.args.onward there.actor_is c.requires.plans c.number-n.ensures in
-    let prepared = c.in_ok-own.ensures.ok config.longest plans in
-    later-at config k c.args.ticket pair.result.0.now now.node.log there.actor_is c.requires.later prepared.actor.log
-
-pub record_met-requires-clause-room : goal.record_met-requires-clause-room
-record_met-requires-clause-room c =
-    let script = c.args.script.now in let config = c.args.self.now in let k = c.args.k in let n = c.number-n.result in let pair = c.pair_mut-actor in
-    let now = c.prepare_meeting.new.self in let met = c.prepare_meeting.new.met in
-    let there = lent script config k n _ c.args.act c.args.onward c.deref_mut.result.now pair.result.0.now pair.result.1.now c.requires.sound c.requires.plans c.requires.can c.number-n.ensures
-    c.deref_mut.ensures.value pair.ensures.first pair.ensures.second in
-    let plans = visits-at script config k n _ pair.result.0.now c.args.act c.args.onward there.actor_is c.requires.plans c.number-n.ensures in
-    let prepared = c.in_ok-own.ensures.ok config.longest plans in
-    subst (λ (entry : Entry). HasRoom met.node entry.act) (sym c.in_ok-own.ensures.twin) prepared.met.room
-
-pub record_met-requires-clause-takes_part : goal.record_met-requires-clause-takes_part
-record_met-requires-clause-takes_part c =
-    let script = c.args.script.now in let config = c.args.self.now in let k = c.args.k in let n = c.number-n.result in let pair = c.pair_mut-actor in
-    let now = c.prepare_meeting.new.self in let met = c.prepare_meeting.new.met in
-    let there = lent script config k n _ c.args.act c.args.onward c.deref_mut.result.now pair.result.0.now pair.result.1.now c.requires.sound c.requires.plans c.requires.can c.number-n.ensures
-    c.deref_mut.ensures.value pair.ensures.first pair.ensures.second in
-    let plans = visits-at script config k n _ pair.result.0.now c.args.act c.args.onward there.actor_is c.requires.plans c.number-n.ensures in
-    let prepared = c.in_ok-own.ensures.ok config.longest plans in
-    subst (λ (entry : Entry). IsTrue (takes_part met.node.state entry.act)) (sym c.in_ok-own.ensures.twin) prepared.met.takes_part
-
-pub record_met-requires-clause-later : goal.record_met-requires-clause-later
-record_met-requires-clause-later c =
-    let script = c.args.script.now in let config = c.args.self.now in let k = c.args.k in let n = c.number-n.result in let pair = c.pair_mut-actor in
-    let now = c.prepare_meeting.new.self in let met = c.prepare_meeting.new.met in
-    let there = lent script config k n _ c.args.act c.args.onward c.deref_mut.result.now pair.result.0.now pair.result.1.now c.requires.sound c.requires.plans c.requires.can c.number-n.ensures
-    c.deref_mut.ensures.value pair.ensures.first pair.ensures.second in
-    let plans = visits-at script config k n _ pair.result.0.now c.args.act c.args.onward there.actor_is c.requires.plans c.number-n.ensures in
-    let prepared = c.in_ok-own.ensures.ok config.longest plans in
-    later-at config n c.args.ticket pair.result.1.now met.node.log there.met_is c.requires.later prepared.met.log
+    let prepared = c.in_ok-child.ensures.ok config.longest plans in
+    record {
+      entry = entry;
+      is_ready = prepared.met.is_ready;
+      takes_part = prepared.met.takes_part;
+      later = later-at config n c.args.ticket pair.result.1.now met.node.log there.met_is c.requires.later prepared.met.log;
+    }
 
 pub returns-clause-ok : goal.returns-clause-ok
 returns-clause-ok c =
     let script = c.args.script.now in let config = c.args.self.now in let k = c.args.k in let n = c.number-n.result in let pair = c.pair_mut-actor in
-    let now = c.prepare_meeting.new.self in let met = c.prepare_meeting.new.met in
+    let now = c.prepare_meeting.new.self in let met = c.prepare_meeting.new.met in let entry = c.prepare_meeting.new.entry in
     let there = lent script config k n _ c.args.act c.args.onward c.deref_mut.result.now pair.result.0.now pair.result.1.now c.requires.sound c.requires.plans c.requires.can c.number-n.ensures
     c.deref_mut.ensures.value pair.ensures.first pair.ensures.second in
     let plans = visits-at script config k n _ pair.result.0.now c.args.act c.args.onward there.actor_is c.requires.plans c.number-n.ensures in
-    let prepared = c.in_ok-own.ensures.ok config.longest plans in
-    meeting-steps script config k n c.args.ticket c.deref_mut.result.now pair.result.0.now now c.record.new.self pair.result.1.now met c.record_met.new.self c.prepare_meeting.new.entry c.in_ok-own.field-0.child
+    let prepared = c.in_ok-child.ensures.ok config.longest plans in
+    meeting-steps script config k n c.args.ticket c.deref_mut.result.now pair.result.0.now now c.record.new.self pair.result.1.now met c.record_met.new.self entry c.in_ok-child.child
     c.requires.sound there prepared
-    (subst (λ (entry : Entry). Records script now c.record.new.self entry.act) c.in_ok-own.ensures.own (c.record.ensures.cell script))
-    (subst (λ (entry : Entry). Serves script met c.record_met.new.self entry.act c.in_ok-own.field-0.child) c.in_ok-own.ensures.twin (c.record_met.ensures.cell script))
+    ((c.record.ensures entry prepared.actor.is_ready).cell script)
+    ((c.record_met.ensures entry prepared.met.is_ready).cell script)
 
 pub returns-clause-logs : goal.returns-clause-logs
 returns-clause-logs c =
     let script = c.args.script.now in let config = c.args.self.now in let k = c.args.k in let n = c.number-n.result in let pair = c.pair_mut-actor in
-    let now = c.prepare_meeting.new.self in let met = c.prepare_meeting.new.met in
+    let now = c.prepare_meeting.new.self in let met = c.prepare_meeting.new.met in let entry = c.prepare_meeting.new.entry in
     let there = lent script config k n _ c.args.act c.args.onward c.deref_mut.result.now pair.result.0.now pair.result.1.now c.requires.sound c.requires.plans c.requires.can c.number-n.ensures
     c.deref_mut.ensures.value pair.ensures.first pair.ensures.second in
     let plans = visits-at script config k n _ pair.result.0.now c.args.act c.args.onward there.actor_is c.requires.plans c.number-n.ensures in
-    let prepared = c.in_ok-own.ensures.ok config.longest plans in
-    meeting-appends config k n c.deref_mut.result.now pair.result.0.now c.record.new.self pair.result.1.now c.record_met.new.self there c.args.ticket c.prepare_meeting.new.entry c.in_ok-own.field-0.own c.in_ok-own.field-0.twin
-    prepared.actor.actor prepared.actor.meets c.in_ok-own.ensures.own c.in_ok-own.ensures.twin
-    (c.record.ensures.log ∙ ap (λ (log : List Entry). with_turn log c.in_ok-own.field-0.own c.args.ticket) prepared.actor.log)
-    (c.record_met.ensures.log ∙ ap (λ (log : List Entry). with_turn log c.in_ok-own.field-0.twin c.args.ticket) prepared.met.log)
+    let prepared = c.in_ok-child.ensures.ok config.longest plans in
+    meeting-appends config k n c.deref_mut.result.now pair.result.0.now c.record.new.self pair.result.1.now c.record_met.new.self there c.args.ticket entry entry entry
+    prepared.actor.actor prepared.actor.meets refl refl
+    ((c.record.ensures entry prepared.actor.is_ready).log ∙ ap (λ (log : List Entry). with_turn log entry c.args.ticket) prepared.actor.log)
+    ((c.record_met.ensures entry prepared.met.is_ready).log ∙ ap (λ (log : List Entry). with_turn log entry c.args.ticket) prepared.met.log)

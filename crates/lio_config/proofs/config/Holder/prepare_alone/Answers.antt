@@ -1,28 +1,12 @@
-use Rattle.std.proofs.Common.{◌≡◌, ◌∙◌, sym, ap, subst}
-use Rattle.std.specs.Prelude.{OnOk}
+use Rattle.std.proofs.Common.{refl}
 use Rattle.std.proofs.lemmas.Result.{on_ok_weaker}
-use Rattle.lio_values.specs.declared.entry.Entry.{Entry}
-use Rattle.lio_cells.specs.Node.{NodeState}
-use Rattle.lio_calculus.specs.Step.{Cell}
-use Rattle.lio_config.specs.Turns.{Gone, HasRoom, PreparesAlone}
-use Rattle.lio_config.proofs.LentLemmas.{alone-prepared, gone-from}
+use Rattle.lio_config.proofs.LentLemmas.{alone-prepared, filled-by}
 use Rattle.lio_config.proofs.config.Holder.prepare_alone.Goals as goal
 
 pub returns-in-Ok-clause-ok : goal.returns-in-Ok-clause-ok
 returns-in-Ok-clause-ok c =
-    let script = c.args.script.now in let old = c.args.self.now in let mid = c.get_ready.new.self in let new = c.prepare.new.self in let told = c.get_ready.new.entry in
-    subst (λ (entry : Entry). OnOk c.prepare.result (PreparesAlone script old new c.args.k c.args.act c.args.reply c.args.way entry)) (sym c.fill.ensures)
-    (on_ok_weaker c.prepare.result
-    (λ goes. alone-prepared script old new c.args.k told.ticket c.args.act c.args.reply c.args.way told.at c.in-Ok.ensures.label
-    (gone-from script old mid new c.args.act c.args.reply c.args.way c.get_ready.ensures.task (c.get_ready.ensures.same script).cell goes)
-    (ap (λ (node : NodeState). node.state) c.prepare.ensures.node ∙ ap (λ (cell : Cell). cell.state) (c.get_ready.ensures.same script).cell)
-    (ap (λ (node : NodeState). node.log) c.prepare.ensures.node ∙ (c.get_ready.ensures.same script).log)
-    (ap (λ (node : NodeState). node.waiters) c.prepare.ensures.node ∙ (c.get_ready.ensures.same script).waiters)
-    (subst (λ (node : NodeState). HasRoom node c.args.act) (sym c.prepare.ensures.node) c.in-Ok.ensures.room))
-    (subst (λ (entry : Entry). OnOk c.prepare.result (Gone script mid new c.args.way entry.act entry.reply)) c.fill.ensures c.prepare.ensures.gone))
-
-pub returns-in-Err-clause-err : goal.returns-in-Err-clause-err
-returns-in-Err-clause-err c = c.get_ready.ensures.same c.args.script.now
-
-pub prepare-requires : goal.prepare-requires
-prepare-requires c = record { task = c.requires.task; is = c.get_ready.ensures.task ∙ c.requires.is; can_go = c.requires.can_go }
+    let old = c.args.self.now in let entry = c.fill.new.entry in
+    on_ok_weaker c.prepare.result
+    (λ prepared. alone-prepared c.args.script.now old c.prepare.new.self c.args.k c.args.act c.args.reply c.args.way entry
+    (filled-by old c.args.k _ c.args.act c.args.reply c.tell_label.new.entry entry c.in-Ok.ensures c.fill.ensures) prepared)
+    c.prepare.ensures.ok

@@ -1,0 +1,31 @@
+//! Merges of the logs of a long run, repeated.
+ghost use Rattle.lio_calculus_logs.specs.Journals.{AreMergeable};
+ghost use Rattle.lio_config.specs.Logs.{log_in};
+
+use crate::turns::{CountFault, counting_job};
+use lio_clauses::NoMemory;
+use lio_config::Config;
+use lio_merge::merge;
+use lio_rounds::{Ran, run};
+use std::alloc::Global;
+
+/// So many merges.
+fn merges(alloc: Global, config: &Config, times: u32) -> Result<(), NoMemory>
+    requires { AreMergeable (log_in config.now) }
+{
+    for _ in 0..times {
+        let merged = merge(alloc, config)?;
+        drop(merged);
+    }
+    Ok(())
+}
+
+/// Runs a task that counts until it has no turns left, and merges the logs so many times.
+pub fn merge_times(alloc: Global, times: u32) -> Result<(), CountFault> {
+    let job = counting_job(alloc)?;
+    let Ran { journal, config } = run(alloc, &job)?;
+    drop(journal);
+    let merged = merges(alloc, &config, times);
+    drop(config);
+    Ok(merged?)
+}
