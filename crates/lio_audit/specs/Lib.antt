@@ -2,4 +2,3 @@ pub mod History
 pub mod Expected
 pub mod Replay
 pub mod Laws
-pub mod View

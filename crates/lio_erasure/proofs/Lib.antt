@@ -12,3 +12,4 @@ pub mod ContentLemmas
 pub mod TurnLemmas
 pub mod ServeLemmas
 pub mod FieldLemmas
+pub mod MoveLemmas

@@ -1,4 +1,5 @@
 pub mod Acts
 pub mod Low
 pub mod LowParts
+pub mod Moves
 pub mod Turn

@@ -1,6 +1,6 @@
 //! What acts ask.
 ghost use Rattle.std.specs.Prelude.{◌≡◌, IfOk};
-ghost use Rattle.lio_cells.specs.State.{is_absent};
+ghost use Rattle.lio_cells.specs.State.{is_absent, is_reference};
 ghost use Rattle.lio_calculus.specs.Step.{has_label, waits};
 ghost use Rattle.lio_erasure.specs.Acts.{hides, is_hidden, lacks_content, releases_above};
 ghost use Rattle.lio_erasure.specs.Acts.{shown_act, with_content};
@@ -16,6 +16,13 @@ pub(crate) fn is_absent(state: &State) -> bool
     ensures { result ≡ is_absent state.now }
 {
     matches!(state, State::Absent)
+}
+
+/// Whether a node is a reference.
+pub(crate) fn is_reference(state: &State) -> bool
+    ensures { result ≡ is_reference state.now }
+{
+    matches!(state, State::Ref(_, _))
 }
 
 /// Whether a node has a label.

@@ -9,6 +9,7 @@ mod gone;
 mod hidden;
 mod low;
 mod made;
+mod moves;
 mod shown;
 mod turns;
 

@@ -4,7 +4,7 @@
 ghost use Rattle.std.specs.Prelude.{◌≡◌, IfOk, slice_get};
 ghost use Rattle.std.specs.Prelude.{List, true, false, IsSome, IsTrue, IfErr, OnErr};
 ghost use Rattle.lio_values.specs.declared.value.Content.{Content};
-ghost use Rattle.lio_calculus.specs.Step.{blank, met_after, waits};
+ghost use Rattle.lio_calculus.specs.Step.{blank, can, met_after, waits};
 ghost use Rattle.lio_calculus.specs.Afforded.{makes};
 ghost use Rattle.lio_task_turns.specs.StateOf.{program_of};
 ghost use Rattle.lio_task.specs.Births.{CanBear};
@@ -246,6 +246,17 @@ impl Low {
 }
 
 impl Low {
+    /// Whether task `k` can take a turn, where the content that it releases is told. It takes no
+    /// memory.
+    pub fn can_move(&self, k: u32) -> bool
+        ensures { result ≡ can (low_of self.now).configuration k }
+    {
+        match self.config.task(k) {
+            Some(task) => self.config.can_go_on(&self.script, task),
+            None => false,
+        }
+    }
+
     /// Takes the turn of a task that meets no other node. A hidden content that it releases to a
     /// label below the observer's is the next one of those that were released.
     fn release(

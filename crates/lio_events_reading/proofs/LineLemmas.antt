@@ -1,5 +1,5 @@
 -- Lines are found.
-use Rattle.std.proofs.Common.{◌≡◌, ℕ, ◌^◌, ◌<◌, arith, List, ◌++◌, take, drop, refl, ap, sym, ◌∙◌, append_assoc, codes, Option, true, false}
+use Rattle.std.proofs.Common.{◌≡◌, ℕ, ◌^◌, ◌<◌, arith, List, [], ◌++◌, take, drop, refl, ap, sym, ◌∙◌, append_assoc, append-nil, codes, Option, true, false}
 use Rattle.std.specs.Prelude.{decimal}
 use Rattle.std.specs.List.{prefix_len}
 use Rattle.std.proofs.lemmas.Fmt.{decimal_injective}
@@ -20,24 +20,25 @@ use Rattle.lio_events_reading.proofs.ActLemmas.{colon}
 use Rattle.lio_events_reading.proofs.CutLemmas.{finds_word}
 use Rattle.lio_events_reading.proofs.NumberLemmas.{digits_word}
 
-regroup : (d s t l a c r n : List ℕ) → ((((((((d ++ s) ++ t) ++ s) ++ l) ++ s) ++ a) ++ c) ++ r) ++ n ≡ d ++ (s ++ (t ++ (s ++ (l ++ (s ++ (((a ++ c) ++ r) ++ n))))))
-regroup d s t l a c r n = simp append_assoc
+behind_actor : (d s t l a c r n e : List ℕ) → (((((((((d ++ s) ++ t) ++ s) ++ l) ++ s) ++ a) ++ c) ++ r) ++ n) ++ e ≡ d ++ (s ++ (t ++ (s ++ (l ++ (s ++ ((((a ++ c) ++ r) ++ n) ++ e))))))
+behind_actor d s t l a c r n e = simp append_assoc
 
 pub finds_line : (names : List (List ℕ)) (ticket : ℕ) (old : List ℕ) (actor : ℕ) (one two : List ℕ) (target : Option ℕ) (three four : List ℕ) (at : Label) (five six : List ℕ) (act : Act) (reply : Reply) (left : List ℕ)
     → Finds decimal (λ n. n < 2 ^ 32) old actor one → two ≡ drop 1 one → Finds target_text TargetFits two target three → four ≡ drop 1 three → Finds (label_in_brackets names) (IsLabelOver names) four at five → six ≡ drop 1 five
     → Finds (turn_text names) (IsTurnOver names) six (act, reply) left
-    → (entry : Entry) → IsEntryOver names entry → entry.ticket ≡ ticket → old ≡ line_text names entry → record { ticket = ticket; actor = actor; target = target; at = at; act = act; reply = reply } ≡ entry
+    → (entry : Entry) (rest : List ℕ) → IsEntryOver names entry → entry.ticket ≡ ticket → old ≡ line_text names entry ++ rest → record { ticket = ticket; actor = actor; target = target; at = at; act = act; reply = reply } ≡ entry
 unfolding line_text
-finds_line names ticket old actor one two target three four at five six act reply left fa da ft dt fl dl fr entry o same is =
+finds_line names ticket old actor one two target three four at five six act reply left fa da ft dt fl dl fr entry rest o same is =
     let blank : List ℕ = codes " " in
     let end : List ℕ = codes "\n" in
-    let turn : List ℕ = ((act_text names entry.act ++ colon) ++ reply_text names entry.reply) ++ end in
+    let taken : List ℕ = (act_text names entry.act ++ colon) ++ reply_text names entry.reply in
+    let turn : List ℕ = (taken ++ end) ++ rest in
     let here : old ≡ decimal entry.actor ++ (blank ++ (target_text entry.target ++ (blank ++ (label_in_brackets names entry.at ++ (blank ++ turn))))) =
-    is ∙ regroup (decimal entry.actor) blank (target_text entry.target) (label_in_brackets names entry.at) (act_text names entry.act) colon (reply_text names entry.reply) end in
+    is ∙ behind_actor (decimal entry.actor) blank (target_text entry.target) (label_in_brackets names entry.at) (act_text names entry.act) colon (reply_text names entry.reply) end rest in
     let ga = fa entry.actor _ o.fits.actor refl here in
     let gt = ft entry.target _ o.fits.target refl (da ∙ ap (λ bytes. drop 1 bytes) ga.1) in
     let gl = fl entry.at _ (o.printable.at, o.fits.at) refl (dt ∙ ap (λ bytes. drop 1 bytes) gt.1) in
-    let gr = fr (entry.act, entry.reply) end ((o.printable.act, o.printable.raise, o.fits.act), (o.printable.reply, o.fits.reply)) refl (dl ∙ ap (λ bytes. drop 1 bytes) gl.1) in
+    let gr = fr (entry.act, entry.reply) (end ++ rest) ((o.printable.act, o.printable.raise, o.fits.act), (o.printable.reply, o.fits.reply)) refl (dl ∙ ap (λ bytes. drop 1 bytes) gl.1 ∙ append_assoc taken end rest) in
     let make : ℕ → ℕ → Option ℕ → Label → Act × Reply → Entry = λ k a t l r. record { ticket = k; actor = a; target = t; at = l; act = r.0; reply = r.1 } in
     ap (λ k. make k actor target at (act, reply)) (sym same) ∙ ap (λ a. make entry.ticket a target at (act, reply)) ga.0 ∙ ap (λ t. make entry.ticket entry.actor t at (act, reply)) gt.0
     ∙ ap (λ l. make entry.ticket entry.actor entry.target l (act, reply)) gl.0 ∙ ap (λ r. make entry.ticket entry.actor entry.target entry.at r) gr.0
@@ -51,28 +52,25 @@ finds_ticket names old ticket mid next finds d entry o is =
     let g = finds entry.ticket (blank ++ line_text names entry) o.fits.ticket refl (is ∙ append_assoc (decimal entry.ticket) blank (line_text names entry)) in
     (sym g.0, d ∙ ap (λ bytes. drop 1 bytes) g.1)
 
--- what was read of a line without its ticket is the entry whose text the line is
+-- what was read of bytes is the entry whose text, without its ticket, stands at their front
 abbrev pub GivesEntry : List (List ℕ) → ℕ → List ℕ → Entry → Type 0
-GivesEntry names ticket old found = (entry : Entry) → IsEntryOver names entry → entry.ticket ≡ ticket → old ≡ line_text names entry → found ≡ entry
+GivesEntry names ticket old found = (entry : Entry) (rest : List ℕ) → IsEntryOver names entry → entry.ticket ≡ ticket → old ≡ line_text names entry ++ rest → found ≡ entry
 
 -- and with its ticket
 pub is_read : (names : List (List ℕ)) (line start : List ℕ) (ticket : ℕ) (mid next : List ℕ) (found : Entry) → start ≡ line → Finds decimal (λ n. n < 2 ^ 64) start ticket mid → next ≡ drop 1 mid → GivesEntry names ticket next found
     → (entry : Entry) → IsEntryOver names entry → entry_text names true entry ≡ line → found ≡ entry
 is_read names line start ticket mid next found all finds d gives entry o is =
     let g = finds_ticket names start ticket mid next finds d entry o (all ∙ sym is) in
-    gives entry o g.0 g.1
+    gives entry [] o g.0 (g.1 ∙ sym (append-nil (line_text names entry)))
 
-pub is_seen : (names : List (List ℕ)) (line start : List ℕ) (ticket : ℕ) (found : Entry) → start ≡ line → GivesEntry names ticket start found
-    → (entry : Entry) → IsEntryOver names entry → entry.ticket ≡ ticket → entry_text names false entry ≡ line → found ≡ entry
+pub is_seen : (names : List (List ℕ)) (bytes start : List ℕ) (ticket : ℕ) (found : Entry) → start ≡ bytes → GivesEntry names ticket start found
+    → (entry : Entry) (rest : List ℕ) → IsEntryOver names entry → entry.ticket ≡ ticket → bytes ≡ entry_text names false entry ++ rest → found ≡ entry
 unfolding entry_text
-is_seen names line start ticket found all gives entry o same is = gives entry o same (all ∙ sym is)
+is_seen names bytes start ticket found all gives entry rest o same is = gives entry rest o same (all ∙ is)
 
 -- a line's ticket and actor in front of what stands behind the line
 behind_ticket : (d s l r : List ℕ) → ((d ++ s) ++ l) ++ r ≡ d ++ (s ++ (l ++ r))
 behind_ticket d s l r = simp append_assoc
-
-behind_actor : (d s t l a c r n e : List ℕ) → (((((((((d ++ s) ++ t) ++ s) ++ l) ++ s) ++ a) ++ c) ++ r) ++ n) ++ e ≡ d ++ (s ++ (t ++ (s ++ (l ++ (s ++ ((((a ++ c) ++ r) ++ n) ++ e))))))
-behind_actor d s t l a c r n e = simp append_assoc
 
 pub finds_actor : (bytes word mid next : List ℕ) (actor : ℕ) (left : List ℕ) → Finds (λ word. word) IsWord bytes word mid → next ≡ drop 1 mid → Finds decimal (λ n. n < 2 ^ 32) next actor left → IsActorOf bytes actor
 unfolding entry_text line_text

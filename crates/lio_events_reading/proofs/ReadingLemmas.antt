@@ -1,6 +1,7 @@
 -- Parts that are found, one behind another.
 use Rattle.std.proofs.Common.{◌≡◌, ℕ, List, ◌++◌, drop, refl, ap, sym, ◌∙◌, append_assoc, codes}
-use Rattle.std.proofs.Common.{Option, Some, None}
+use Rattle.std.proofs.Common.{subst, Option, Some, None, Result, Ok, Err}
+use Rattle.std.specs.Prelude.{IfOk, MatchResult}
 use Rattle.lio_events_reading.specs.Reading.{Ends, Finds, FindsBefore}
 use Rattle.lio_events_reading.specs.Cut.{IsWord}
 
@@ -77,3 +78,13 @@ finds_before_no_word {tag = tag} over b sign old word mid found left ends finds 
     let cut = begun b old word mid finds value (sign ++ rest) (ends rest) is in
     let same : Some (tag value) ≡ None = sym cut.0 ∙ is_none in
     absurd (cc)
+
+-- what holds of a value that was got beside one that was kept
+pub got_beside : {T U E : Type 0} (P : U → Type 0) (got : Result U E) (kept k : T) (u : U)
+    → MatchResult got (λ v. ◌≡◌ {A = Result (T × U) E} (Ok (k, u)) (Ok (kept, v))) (λ e. ◌≡◌ {A = Result (T × U) E} (Ok (k, u)) (Err e)) → IfOk got P → P u
+got_beside {T = T} {U = U} {E = E} P (Ok v) kept k u h p =
+    let e : ◌≡◌ {A = Result (T × U) E} (Ok (k, u)) (Ok (kept, v)) = h in
+    let q : ◌≡◌ {A = T × U} (k, u) (kept, v) = cc in
+    subst P (sym (ap (λ (w : T × U). w.1) q)) p
+got_beside {T = T} {U = U} {E = E} P (Err e) kept k u h p =
+    let same : ◌≡◌ {A = Result (T × U) E} (Ok (k, u)) (Err e) = h in absurd (cc)

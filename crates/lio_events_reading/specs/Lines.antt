@@ -1,5 +1,5 @@
 -- Lines as texts of entries.
-use Rattle.std.specs.Prelude.{◌≡◌, ℕ, ◌<◌, ◌^◌, true, false, List, ◌++◌, codes}
+use Rattle.std.specs.Prelude.{◌≡◌, ℕ, ◌<◌, ◌≤◌, ◌^◌, true, false, List, ◌++◌, codes, drop, length}
 use Rattle.lio_values.specs.declared.act.Act.{Act}
 use Rattle.lio_values.specs.declared.act.Reply.{Reply}
 use Rattle.lio_values.specs.declared.entry.Entry.{Entry}
@@ -15,13 +15,19 @@ IsOnly names line entry = (other : Entry) → IsEntryOver names other → entry_
 abbrev pub HasNone : List (List ℕ) → List ℕ → Type 0
 HasNone names line = (entry : Entry) → IsEntryOver names entry → ¬ (entry_text names true entry ≡ line)
 
--- no other entry with this ticket has the line as its text without it
-abbrev pub IsOnlySeen : List (List ℕ) → ℕ → List ℕ → Entry → Type 0
-IsOnlySeen names ticket line entry = (other : Entry) → IsEntryOver names other → other.ticket ≡ ticket → entry_text names false other ≡ line → other ≡ entry
+-- A text stands at the front of bytes, and ends at a place.
+pub record StandsInFront (text bytes : List ℕ) (len : ℕ) : Type 0 where
+  pub splits : bytes ≡ text ++ drop len bytes
+  pub len_is : len ≡ length text
+  pub within : len ≤ length bytes
 
--- no entry with this ticket has the line as its text without it
+-- no other entry over the names with this ticket has its text, without the ticket, at the front of bytes
+abbrev pub IsOnlySeen : List (List ℕ) → ℕ → List ℕ → Entry → Type 0
+IsOnlySeen names ticket bytes entry = (other : Entry) (rest : List ℕ) → IsEntryOver names other → other.ticket ≡ ticket → bytes ≡ entry_text names false other ++ rest → other ≡ entry
+
+-- no entry over the names with this ticket has its text, without the ticket, at the front of bytes
 abbrev pub HasNoneSeen : List (List ℕ) → ℕ → List ℕ → Type 0
-HasNoneSeen names ticket line = (entry : Entry) → IsEntryOver names entry → entry.ticket ≡ ticket → ¬ (entry_text names false entry ≡ line)
+HasNoneSeen names ticket bytes = (entry : Entry) (rest : List ℕ) → IsEntryOver names entry → entry.ticket ≡ ticket → ¬ (bytes ≡ entry_text names false entry ++ rest)
 
 -- an act and the reply to it
 abbrev pub turn_text : List (List ℕ) → Act × Reply → List ℕ

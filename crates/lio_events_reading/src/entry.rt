@@ -1,12 +1,12 @@
 //! Lines whole.
-ghost use Rattle.std.specs.Prelude.{◌≡◌, Bool, true, false, Ok, Err, IfOk, OnOk};
+ghost use Rattle.std.specs.Prelude.{◌≡◌, ◌++◌, ℕ, List, true, false, Err, IfOk};
 ghost use Rattle.lio_values.specs.declared.entry.Entry.{Entry};
 ghost use Rattle.lio_events.specs.EntryText.{line_text};
 ghost use Rattle.lio_events.specs.JournalText.{entry_text};
 ghost use Rattle.lio_events.specs.Printable.{IsPrintable};
 ghost use Rattle.lio_events_reading.specs.Over.{IsEntryOver};
-ghost use Rattle.lio_events_reading.specs.Lines.{HasNone, HasNoneSeen, IsActorOf, IsOnly, IsOnlySeen};
-ghost use Rattle.lio_events_reading.specs.Lines.{turn_text, IsTurnOver};
+ghost use Rattle.lio_events_reading.specs.Lines.{HasNone, HasNoneSeen, IsActorOf, IsOnly};
+ghost use Rattle.lio_events_reading.specs.Lines.{IsOnlySeen, IsTurnOver, StandsInFront, turn_text};
 ghost use Rattle.lio_events_reading.specs.Reading.{Finds};
 
 use crate::acts::act;
@@ -38,8 +38,9 @@ fn line_behind(
     names: &Names,
     ticket: u64,
 ) -> Result<Entry, NoMemory>
-    ensures finds { IfOk result (λ found. (entry : Entry) → IsEntryOver names.now entry
-        → entry.ticket ≡ ticket → text.old ≡ line_text names.now entry → found ≡ entry) }
+    ensures finds { IfOk result (λ found. (entry : Entry) (rest : List ℕ) → IsEntryOver names.now
+        entry → entry.ticket ≡ ticket → text.old ≡ line_text names.now entry ++ rest
+        → found ≡ entry) }
     ensures over { IfOk result (IsEntryOver names.now) }
     ensures ticket { IfOk result (λ found. found.ticket ≡ ticket) }
 {
@@ -60,27 +61,29 @@ fn line_behind(
     })
 }
 
-/// The entry, if the line is its text.
+/// The entry and the length of its text, if this stands at the front of bytes.
 fn confirmed(
     alloc: Global,
     entry: Entry,
-    line: &[u8],
+    bytes: &[u8],
     ticket: bool,
     names: &Names,
-) -> Result<Entry, EntryFault>
+) -> Result<(Entry, usize), EntryFault>
     requires { IsPrintable names.now entry }
+    ensures entry { IfOk result (λ found. found.0 ≡ entry) }
     ensures ok { IfOk result
-        (λ found. (found ≡ entry) × (entry_text names.now ticket entry ≡ line.now)) }
+        (λ found. StandsInFront (entry_text names.now ticket entry) bytes.now found.1) }
     ensures none { result ≡ Err EntryFault.NotAnEntry
-        → ¬ (entry_text names.now ticket entry ≡ line.now) }
+        → (rest : List ℕ) → ¬ (bytes.now ≡ entry_text names.now ticket entry ++ rest) }
 {
     let printed = print_entry(alloc, &entry, ticket, names);
     let (entry, printed) = beside(entry, printed)?;
-    if printed.as_slice() == line {
-        Ok(entry)
-    } else {
-        drop(entry);
-        Err(EntryFault::NotAnEntry)
+    match bytes.strip_prefix(printed.as_slice()) {
+        Some(_) => Ok((entry, printed.len())),
+        None => {
+            drop(entry);
+            Err(EntryFault::NotAnEntry)
+        }
     }
 }
 
@@ -96,27 +99,33 @@ pub fn read_entry(alloc: Global, line: &[u8], names: &Names) -> Result<Entry, En
     let ticket = long(&mut text);
     text.skip(1);
     let entry = line_behind(&mut text, alloc, names, ticket)?;
-    confirmed(alloc, entry, line, true, names)
+    let (entry, len) = confirmed(alloc, entry, line, true, names)?;
+    if len == line.len() {
+        Ok(entry)
+    } else {
+        drop(entry);
+        Err(EntryFault::NotAnEntry)
+    }
 }
 
-/// The entry over the names of principals with this ticket whose text, without it, is the line of a
-/// view, with its line end. No other spelling is read.
+/// The entry over the names of principals with this ticket whose text, without it, stands at the
+/// front of bytes, with its line end, and the length of the text. No other spelling is read.
 pub fn read_seen(
     alloc: Global,
-    line: &[u8],
+    bytes: &[u8],
     names: &Names,
     ticket: u64,
-) -> Result<Entry, EntryFault>
-    ensures over { IfOk result (IsEntryOver names.now) }
-    ensures ticket { IfOk result (λ entry. entry.ticket ≡ ticket) }
-    ensures text { IfOk result (λ entry. entry_text names.now false entry ≡ line.now) }
-    ensures only { IfOk result (IsOnlySeen names.now ticket line.now) }
-    ensures none { result ≡ Err EntryFault.NotAnEntry
-        → HasNoneSeen names.now ticket line.now }
+) -> Result<(Entry, usize), EntryFault>
+    ensures over { IfOk result (λ found. IsEntryOver names.now found.0) }
+    ensures ticket { IfOk result (λ found. found.0.ticket ≡ ticket) }
+    ensures text { IfOk result
+        (λ found. StandsInFront (entry_text names.now false found.0) bytes.now found.1) }
+    ensures only { IfOk result (λ found. IsOnlySeen names.now ticket bytes.now found.0) }
+    ensures none { result ≡ Err EntryFault.NotAnEntry → HasNoneSeen names.now ticket bytes.now }
 {
-    let mut text = Cursor::new(line);
+    let mut text = Cursor::new(bytes);
     let entry = line_behind(&mut text, alloc, names, ticket)?;
-    confirmed(alloc, entry, line, false, names)
+    confirmed(alloc, entry, bytes, false, names)
 }
 
 /// The number of the task whose turn the line shows that stands at the front of these bytes, with

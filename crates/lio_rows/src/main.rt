@@ -5,6 +5,7 @@ mod audits;
 mod hints;
 mod logs;
 mod low;
+mod observers;
 mod policies;
 mod refusal;
 mod runs;

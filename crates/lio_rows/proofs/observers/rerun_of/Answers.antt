@@ -1,0 +1,15 @@
+use Rattle.std.proofs.Common.{◌≡◌, sym, subst, ℕ, List, rules}
+use Rattle.lio_syntax.specs.Statements.{Procedure}
+use Rattle.lio_calculus_names.specs.Configuration.{NamesOnly}
+use Rattle.lio_erasure.specs.Low.{low_configuration_of}
+use Rattle.lio_rows.proofs.observers.rerun_of.Goals as goal
+
+pub computed-answer-requires : goal.computed-answer-requires
+computed-answer-requires c =
+    let names = c.args.job.now.policy.names in let start = c.in_ok-start.start in
+    let script : c.script.result.now ≡ c.args.job.now.script = search rules in
+    let longest : c.policy.inside.longest ≡ c.args.job.now.policy.longest = search rules in
+    c.in-Ok.ensures.printable names
+    (subst (λ (s : List Procedure). NamesOnly names (low_configuration_of s c.policy.inside.longest start)) (sym script)
+    (subst (λ (n : ℕ). NamesOnly names (low_configuration_of c.args.job.now.script n start)) (sym longest) c.in_ok-start.ensures.named))
+    c.in_ok-contents.ensures

@@ -1,0 +1,14 @@
+pub mod LowRunLemmas
+pub mod SeenLemmas
+pub mod LinesLemmas
+pub mod ViewLemmas
+pub mod RerunLemmas
+pub mod ToldLemmas
+pub mod SeenMeetLemmas
+pub mod OneViewLemmas
+pub mod NameLemmas
+pub mod AskLemmas
+pub mod FitsLemmas
+pub mod LackLemmas
+pub mod WalkLemmas
+pub mod RunViewLemmas

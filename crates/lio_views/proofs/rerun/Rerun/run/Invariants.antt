@@ -1,0 +1,12 @@
+use Rattle.lio_calculus_rounds.specs.Rounds.{measure}
+use Rattle.lio_erasure.specs.LowParts.{low_of}
+use Rattle.lio_views.specs.Asking.{rerun_of}
+use Rattle.lio_views.proofs.AskLemmas.{Leads}
+use Rattle.lio_views.proofs.rerun.Rerun.run.Given as goal
+
+-- what comes from here comes from the beginning
+abbrev pub invariant-loop : goal.invariant-loop
+invariant-loop l = Leads (rerun_of l.initial.self) (rerun_of l.self)
+
+abbrev pub decreases-loop : goal.decreases-loop
+decreases-loop l = measure (low_of l.self.low).configuration

@@ -1,0 +1,5 @@
+pub mod View
+pub mod Rerun
+pub mod Seen
+pub mod Asking
+pub mod RunLaws
