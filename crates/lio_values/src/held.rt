@@ -21,6 +21,10 @@ impl<T> Model for Held<T> {
 }
 
 impl<T> Held<T> {
+    ghost use Rattle.std.specs.Prelude.{◌≡◌, IfOk};
+    ghost use Rattle.std.specs.Borrow.{Lends, sem};
+    ghost use Rattle.lio_values.specs.contracts.held.Held.{the_row};
+
     /// Puts a value on the heap.
     pub fn new(alloc: Global, value: T) -> Result<Held<T>, NoMemory>
     where
@@ -36,6 +40,14 @@ impl<T> Held<T> {
         ensures { result.now ≡ self.now }
     {
         &self.value
+    }
+
+    /// The value, to be changed in place.
+    pub fn get_mut(&mut self) -> &mut T
+        ensures* writes_back { sem 𝓛 (Lends (the_row T.row) T.row self.entry result (λ w. w)) }
+        ensures value { result.now ≡ self.old }
+    {
+        &mut self.value
     }
 
     /// Gives the value back.

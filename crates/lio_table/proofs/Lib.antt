@@ -1,0 +1,9 @@
+pub mod SeatLemmas
+pub mod SlotLemmas
+pub mod TurnLemmas
+pub mod OpenLemmas
+pub mod PairLemmas
+pub mod MeetingLemmas
+pub mod EndLemmas
+pub mod AnswerLemmas
+pub mod Crossing

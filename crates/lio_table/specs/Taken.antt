@@ -1,0 +1,50 @@
+-- The nodes that a seat holds in the middle of a turn.
+use Rattle.std.specs.Prelude.{◌≡◌, ℕ, ◌<◌, List, [], ◌∷◌, length, Option, Some, None}
+use Rattle.lio_cells.specs.declared.waiter.Waiter.{Waiter}
+use Rattle.lio_calculus.specs.Step.{Configuration}
+use Rattle.lio_config.specs.declared.config.Holder.{Holder}
+use Rattle.lio_table_rule.specs.declared.view.View.{View}
+use Rattle.lio_table_rule.specs.Views.{HasLog, StandIn}
+use Rattle.lio_table_rule.specs.Steps.{SeatState, with_node}
+use Rattle.lio_table.specs.declared.turn.TurnEnd.{TurnEnd}
+use Rattle.lio_table.specs.declared.turn.TurnEnd.TheVariants.{Moved}
+use Rattle.lio_table.specs.Turns.{TurnRefused, TurnSays}
+
+-- A seat that held nothing has claimed node k alone, and has taken this holder out of its slot.
+pub record HasOne (before : View) (k : ℕ) (holder : Holder) (seat : SeatState) : Type 0 where
+  pub bare : before.claimed ≡ []
+  pub view : seat.0 ≡ with_node k holder before
+  pub slots : seat.1 ≡ (k, None) ∷ []
+  pub has_log : HasLog before.first k holder.node.log holder
+  pub whole : Configuration
+  pub stand : StandIn seat.0 whole
+
+-- A seat that held nothing has claimed node k, then n, and has taken these holders out of their slots.
+pub record HasTwo (before : View) (k n : ℕ) (holder met : Holder) (seat : SeatState) : Type 0 where
+  pub bare : before.claimed ≡ []
+  pub apart : k ≡ n → ⊥
+  pub within : n < length before.first.holders
+  pub view : seat.0 ≡ with_node n met (with_node k holder before)
+  pub slots : seat.1 ≡ (n, None) ∷ (k, None) ∷ []
+  pub has_log : HasLog before.first k holder.node.log holder
+  pub met_has_log : HasLog before.first n met.node.log met
+  pub whole : Configuration
+  pub stand : StandIn seat.0 whole
+
+-- what a turn answers, after which no slot is out with the seat
+abbrev pub EndsTurn : ℕ → View → TurnEnd → SeatState → Type 0
+EndsTurn k before end seat = TurnSays k before end seat.0 × (seat.1 ≡ [])
+
+-- what holds after a refusal of memory, after which no slot is out with the seat
+abbrev pub RefusesTurn : ℕ → View → SeatState → Type 0
+RefusesTurn k before seat = TurnRefused k before seat.0 × (seat.1 ≡ [])
+
+-- those who are woken, if some are
+abbrev pub woken_or : Option (List Waiter) → List Waiter
+woken_or None = []
+woken_or (Some waiters) = waiters
+
+-- how many tickets a turn drew, by its answer
+abbrev pub tickets_of : TurnEnd → ℕ
+tickets_of (Moved ticket born woken) = 1
+tickets_of end = 0
