@@ -1,2 +1,4 @@
 pub mod RoomLemmas
+pub mod LogLemmas
 pub mod NodeLemmas
+pub mod Crossing

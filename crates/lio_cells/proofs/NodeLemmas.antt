@@ -5,14 +5,13 @@ use Rattle.std.proofs.lemmas.List.Elements.{All-nil}
 use Rattle.lio_values.specs.declared.entry.Entry.{Entry}
 use Rattle.lio_events.specs.Rising.{IsLater}
 use Rattle.lio_events.proofs.RisingLemmas.{rising_with}
-use Rattle.lio_cells.specs.declared.log.Log.{Log}
 use Rattle.lio_cells.specs.declared.room.Room.{Room}
 use Rattle.lio_cells.specs.declared.room.Room.TheVariants.{Nothing}
 use Rattle.lio_cells.specs.declared.state.State.{State}
 use Rattle.lio_cells.specs.declared.waiter.Waiter.{Waiter}
 use Rattle.lio_cells.specs.State.{grants, state_after}
-use Rattle.lio_cells.specs.Log.{HasPlace, first_of, folded}
-use Rattle.lio_cells.specs.Node.{IsKept, NodeState, at_rest, node_of, served_node, with_ticket}
+use Rattle.lio_cells.specs.Log.{KeepsFirst, LogState, first_of, folded, with_ticket}
+use Rattle.lio_cells.specs.Node.{IsKept, NodeState, at_rest, node_of, served_node}
 
 -- a state that is kept is the first one, whatever the state is now
 pub first-kept : (first : Option State) (one other : State) → IsSome first → first_of first one ≡ first_of first other
@@ -53,8 +52,12 @@ kept-fresh state first log waiters room pending first_is log_is waiters_is =
     (subst (λ (ws : List Waiter). IsKept (record { state = state; first = state; log = []; waiters = ws; room = room; pending = pending })) (sym waiters_is)
     (kept-at state room pending)))
 
-pub no-place : (log : Log) → HasPlace log None
-no-place log = record { room = λ some. absurd (cc); first = λ some. absurd (cc) }
+-- where nothing is pending, no first state has to be kept
+pub none-keeps : (log : LogState) → log.pending ≡ None → KeepsFirst log
+none-keeps log none some = by log.pending none some
+  where
+    by : (pending : Option Entry) → pending ≡ None → IsSome pending → IsSome log.first
+    by pending none some = absurd (cc)
 
 -- a node as contracts see it, of its parts
 abbrev pub node_with : State → State → List Entry → List Waiter → Room → Option Entry → NodeState

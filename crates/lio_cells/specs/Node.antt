@@ -12,7 +12,7 @@ use Rattle.lio_cells.specs.declared.wish.Wish.TheVariants as wish
 use Rattle.lio_cells.specs.declared.waiter.Waiter.{Waiter}
 use Rattle.lio_cells.specs.State.{ready, grants, is_job, state_after}
 use Rattle.lio_cells.specs.Room.{room_for}
-use Rattle.lio_cells.specs.Log.{folded}
+use Rattle.lio_cells.specs.Log.{folded, with_ticket}
 
 -- What a node holds, the state that it began with, the entries that it has served since, who waits at it, and what it keeps ready for a turn: what
 -- its act will put into the state, and the turn's entry, which comes into the log as soon as the turn has its ticket.
@@ -50,10 +50,6 @@ pub record MayServe (node : NodeState) (ticket : ℕ) : Type 0 where
   pub later : All (λ before. before.ticket < ticket) node.log
   -- where its state changes nobody waits at it
   pub nobody : (state_after node.state entry.act ≡ node.state) ⊎ (node.waiters ≡ [])
-
--- an entry with its ticket
-abbrev pub with_ticket : Entry → ℕ → Entry
-with_ticket entry ticket = record entry { ticket = ticket }
 
 -- a node that has served a turn with this entry and ticket, and keeps nothing ready
 abbrev pub served_node : NodeState → Entry → ℕ → NodeState

@@ -1,16 +1,18 @@
 //! What a node has served.
-ghost use Rattle.std.specs.Prelude.{◌≡◌, ◌<◌, [], ◌∷◌, ◌++◌, None, IsSome, IfOk, OnOk, OnErr, vec_len};
-ghost use Rattle.std.specs.Prelude.{vec_capacity};
-ghost use Rattle.lio_cells.specs.Log.{first_of};
+ghost use Rattle.std.specs.Prelude.{◌≡◌, [], ◌∷◌, ◌++◌, None, Some, IsSome, IfOk, OnOk, OnErr};
+ghost use Rattle.std.specs.Option.{option_copied};
+ghost use Rattle.lio_values.specs.declared.entry.Entry.{Entry as entry_type};
+ghost use Rattle.lio_cells.specs.Log.{first_of, with_ticket};
 
 use crate::state::State;
 use lio_clauses::{NoMemory, assign, beside};
 use lio_values::{Act, Entry, Reply};
 use std::alloc::Global;
+use std::marker::Model;
 
 /// An equal entry. That of a step takes no memory but for its label.
 #[inline(always)]
-pub fn copy_entry(alloc: Global, entry: &Entry) -> Result<Entry, NoMemory>
+fn copy_entry(alloc: Global, entry: &Entry) -> Result<Entry, NoMemory>
     ensures { IfOk result (λ copy. copy ≡ entry.now) }
 {
     match (&entry.act, &entry.reply) {
@@ -47,23 +49,72 @@ fn copy_first(alloc: Global, first: &Option<State>) -> Result<Option<State>, NoM
     }
 }
 
-/// The entries that a node has served, and the state that it began with. That state is kept from the
-/// first reservation on; until then it is the one that the node has.
+/// The entries that a node has served, the state that it began with, and the entry of a turn that is
+/// prepared, which waits for its ticket. That state is kept from the first such entry on; until then
+/// it is the one that the node has.
 #[derive(Drop)]
 pub struct Log {
-    pub first: Option<State>,
-    pub entries: Vec<Entry>,
+    first: Option<State>,
+    entries: Vec<Entry>,
+    /// Whether the last entry is pending.
+    has_pending: bool,
+}
+
+impl Model for Log {
+    ghost use Rattle.lio_cells.specs.Log.{LogState, HasLast, pending_of, served_of};
+
+    ghost Value = { LogState };
+
+    ghost view = { λ l. record {
+      first = l.first;
+      served = served_of l.has_pending l.entries.items;
+      pending = pending_of l.has_pending l.entries.items;
+    } };
+
+    ghost invariant = { λ l. HasLast l.has_pending l.entries.items };
 }
 
 impl Log {
     /// A log without entries.
     pub fn new(alloc: Global) -> Log
-        ensures first { result.first ≡ None }
-        ensures entries { result.entries.items ≡ [] }
+        ensures { result ≡ record { first = None; served = []; pending = None } }
     {
         Log {
             first: None,
             entries: Vec::new(alloc),
+            has_pending: false,
+        }
+    }
+
+    /// The entries that were served.
+    pub fn served(&self) -> &[Entry]
+        ensures { result.now ≡ self.now.served }
+    {
+        if self.has_pending {
+            &self.entries[..self.entries.len() - 1]
+        } else {
+            self.entries.as_slice()
+        }
+    }
+
+    /// The entry that is pending, if there is one.
+    pub fn pending(&self) -> Option<&Entry>
+        ensures { option_copied result ≡ self.now.pending }
+    {
+        if self.has_pending {
+            self.entries.last()
+        } else {
+            None
+        }
+    }
+
+    /// Forgets the entry that is pending.
+    pub fn clear_pending(&mut self)
+        ensures { self.new ≡ record self.old { pending = None } }
+    {
+        if self.has_pending {
+            self.has_pending = false;
+            drop(self.entries.pop());
         }
     }
 
@@ -71,7 +122,8 @@ impl Log {
     fn keep_first(&mut self, alloc: Global, state: &State) -> Result<(), NoMemory>
         ensures kept { OnOk result (IsSome self.new.first) }
         ensures same { first_of self.new.first state.now ≡ first_of self.old.first state.now }
-        ensures entries { self.new.entries ≡ self.old.entries }
+        ensures served { self.new.served ≡ self.old.served }
+        ensures pending { self.new.pending ≡ self.old.pending }
     {
         if self.first.is_none() {
             let first = state.copy(alloc)?;
@@ -80,43 +132,64 @@ impl Log {
         Ok(())
     }
 
-    /// Makes a place for one entry, and keeps the state that the node began with. After a refusal
-    /// the entries are as before.
-    pub fn reserve(&mut self, alloc: Global, state: &State) -> Result<(), NoMemory>
-        ensures place { OnOk result (vec_len self.new.entries < vec_capacity self.new.entries) }
-        ensures kept { OnOk result (IsSome self.new.first) }
-        ensures same { first_of self.new.first state.now ≡ first_of self.old.first state.now }
-        ensures entries { self.new.entries.items ≡ self.old.entries.items }
+    /// Puts a copy of an entry last, which is pending then.
+    fn put(&mut self, alloc: Global, entry: &Entry) -> Result<(), NoMemory>
+        requires { self.old.pending ≡ None }
+        ensures ok { OnOk result (self.new ≡ record self.old { pending = Some entry.now }) }
+        ensures err { OnErr result (self.new ≡ self.old) }
     {
-        self.entries.try_reserve(1)?;
-        self.keep_first(alloc, state)
+        let copy = copy_entry(alloc, entry)?;
+        self.entries.push(copy)?;
+        self.has_pending = true;
+        Ok(())
     }
 
-    /// Puts an entry last, for which there is a place. It takes no memory.
-    pub fn push(&mut self, entry: Entry)
-        requires { vec_len self.old.entries < vec_capacity self.old.entries }
-        ensures first { self.new.first ≡ self.old.first }
-        ensures entries { self.new.entries.items ≡ self.old.entries.items ++ entry ∷ [] }
+    /// Keeps a copy of an entry pending, and the state that the node began with. After a refusal
+    /// none is pending.
+    pub fn keep(&mut self, alloc: Global, state: &State, entry: &Entry) -> Result<(), NoMemory>
+        requires { self.old.pending ≡ None }
+        ensures kept { OnOk result (IsSome self.new.first) }
+        ensures same { first_of self.new.first state.now ≡ first_of self.old.first state.now }
+        ensures served { self.new.served ≡ self.old.served }
+        ensures ok { OnOk result (self.new.pending ≡ Some entry.now) }
+        ensures err { OnErr result (self.new.pending ≡ None) }
     {
-        self.entries.push_reserved(entry);
+        self.keep_first(alloc, state)?;
+        self.put(alloc, entry)
+    }
+
+    /// Serves the entry that is pending, with its ticket. It takes no memory.
+    pub fn serve(&mut self, ticket: u64)
+        requires { IsSome self.old.pending }
+        ensures { (entry : entry_type) → self.old.pending ≡ Some entry → self.new ≡ record self.old {
+          served = self.old.served ++ with_ticket entry ticket ∷ [];
+          pending = None;
+        } }
+    {
+        let last = self.entries.len() - 1;
+        self.entries[last].ticket = ticket;
+        self.has_pending = false;
     }
 
     /// Forgets the entries and the first state.
     pub fn clear(&mut self)
-        ensures first { self.new.first ≡ None }
-        ensures entries { self.new.entries.items ≡ [] }
+        ensures { self.new ≡ record { first = None; served = []; pending = None } }
     {
         self.entries.clear();
+        self.has_pending = false;
         assign(&mut self.first, None);
     }
 
-    /// An equal log.
+    /// An equal log, in which nothing is pending.
     pub fn copy(&self, alloc: Global) -> Result<Log, NoMemory>
-        ensures first { IfOk result (λ log. log.first ≡ self.now.first) }
-        ensures entries { IfOk result (λ log. log.entries.items ≡ self.now.entries.items) }
+        ensures { IfOk result (λ log. log ≡ record self.now { pending = None }) }
     {
-        let entries = copy_entries(alloc, &self.entries)?;
+        let entries = copy_entries(alloc, self.served())?;
         let (entries, first) = beside(entries, copy_first(alloc, &self.first))?;
-        Ok(Log { first, entries })
+        Ok(Log {
+            first,
+            entries,
+            has_pending: false,
+        })
     }
 }

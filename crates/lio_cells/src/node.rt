@@ -11,47 +11,47 @@ use crate::room::Room;
 use crate::state::State;
 use crate::waiter::{Waiter, Waiters};
 use crate::wish::Wish;
-use crate::{log, ready, reply, reserve, served};
+use crate::{ready, reply, reserve, served};
 use lio_clauses::{NoMemory, assign, beside};
 use lio_values::{Act, Entry, Reply};
 use std::alloc::Global;
 use std::marker::Model;
 
 /// A node: what it holds, the entries that it has served, who waits at it, and what it keeps ready
-/// for a turn, so that the turn takes no memory once it has its ticket. Its state is what its entries make of the state that
-/// it began with, their tickets rise, and nobody waits at it for what it grants.
+/// for a turn, so that the turn takes no memory once it has its ticket. Its state is what its
+/// entries make of the state that it began with, their tickets rise, and nobody waits at it for
+/// what it grants.
 #[derive(Drop)]
 pub struct Node {
     state: State,
     room: Room,
-    pending: Option<Entry>,
     log: Log,
     waiters: Waiters,
 }
 
 impl Model for Node {
     ghost use Rattle.lio_cells.specs.Node.{IsKept, NodeState};
-    ghost use Rattle.lio_cells.specs.Log.{HasPlace, first_of};
+    ghost use Rattle.lio_cells.specs.Log.{KeepsFirst, first_of};
 
     ghost Value = { NodeState };
 
     ghost view = { λ n. record {
       state = n.state;
       first = first_of n.log.first n.state;
-      log = n.log.entries.items;
+      log = n.log.served;
       waiters = n.waiters;
       room = n.room;
-      pending = n.pending;
+      pending = n.log.pending;
     } };
 
     ghost invariant = { λ n. IsKept (record {
       state = n.state;
       first = first_of n.log.first n.state;
-      log = n.log.entries.items;
+      log = n.log.served;
       waiters = n.waiters;
       room = n.room;
-      pending = n.pending;
-    }) × HasPlace n.log n.pending };
+      pending = n.log.pending;
+    }) × KeepsFirst n.log };
 }
 
 impl Node {
@@ -62,7 +62,6 @@ impl Node {
         Node {
             state,
             room: Room::Nothing,
-            pending: None,
             log: Log::new(alloc),
             waiters: Waiters::new(alloc),
         }
@@ -85,7 +84,6 @@ impl Node {
         Ok(Node {
             state,
             room: Room::Nothing,
-            pending: None,
             log,
             waiters,
         })
@@ -104,7 +102,7 @@ impl Node {
         ensures log { result.now ≡ self.now.log }
         ensures kept { IsKept self.now }
     {
-        self.log.entries.as_slice()
+        self.log.served()
     }
 
     /// Who waits at it.
@@ -170,23 +168,17 @@ impl Node {
     fn clear_pending(&mut self)
         ensures { self.new ≡ record self.old { pending = None } }
     {
-        if self.pending.is_some() {
-            assign(&mut self.pending, None);
-        }
+        self.log.clear_pending();
     }
 
-    /// Makes a place in the log for an entry, and keeps a copy of it ready. After a refusal all is as
-    /// before.
+    /// Keeps a copy of an entry ready, last in the log. After a refusal all is as before.
     #[inline(always)]
     fn keep_entry(&mut self, alloc: Global, entry: &Entry) -> Result<(), NoMemory>
         requires { self.old.pending ≡ None }
         ensures ok { OnOk result (self.new ≡ record self.old { pending = Some entry.now }) }
         ensures err { OnErr result (self.new ≡ self.old) }
     {
-        self.log.reserve(alloc, &self.state)?;
-        let copy = log::copy_entry(alloc, entry)?;
-        assign(&mut self.pending, Some(copy));
-        Ok(())
+        self.log.keep(alloc, &self.state, entry)
     }
 
     /// Keeps ready what a turn with this entry needs in this node: what the state needs for its act,
@@ -214,7 +206,7 @@ impl Node {
     pub fn pending(&self) -> Option<&Entry>
         ensures { option_copied result ≡ self.now.pending }
     {
-        self.pending.as_ref()
+        self.log.pending()
     }
 
     /// Serves the turn for which it is ready, with its ticket: its act changes the state by what was
@@ -224,12 +216,8 @@ impl Node {
         ensures { (entry : Entry) → self.old.pending ≡ Some entry
             → self.new ≡ served_node self.old entry ticket }
     {
-        let Some(mut entry) = self.pending.take() else {
-            unreachable!()
-        };
-        entry.ticket = ticket;
         served::serve(&mut self.state, &mut self.room);
-        self.log.push(entry);
+        self.log.serve(ticket);
     }
 
     /// Becomes a new node, of the state that the act makes by what was reserved for it. It takes no
@@ -239,7 +227,6 @@ impl Node {
         requires takes_part { IsTrue (takes_part self.old.state act.now) }
         ensures { self.new ≡ node_of (state_after self.old.state act.now) }
     {
-        assign(&mut self.pending, None);
         self.log.clear();
         self.waiters.clear();
         served::serve(&mut self.state, &mut self.room);

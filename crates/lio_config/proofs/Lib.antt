@@ -7,3 +7,4 @@ pub mod LogLemmas
 pub mod PreviewLemmas
 pub mod SoundLemmas
 pub mod PartLemmas
+pub mod Crossing

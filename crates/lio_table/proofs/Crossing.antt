@@ -1,56 +1,15 @@
 -- A seat may go to another thread, and a table may be shared.
 use denote.Param.Send.{IsSend, IsSync, sendable, view_send}
 use denote.Param.SendFields.{declared_send, variants_send, as_row_send, declared_sync, as_row_sync}
-use Rattle.std.proofs.Crossing.{crosses, Arc-send, Arc-sync}
-use Rattle.lio_cells.proofs.bytes.Pieces.TheLaws.TheKnot as pieces
-use Rattle.lio_cells.proofs.waiter.Waiters.TheSendSync as waiters
-use Rattle.lio_cells.specs.contracts.bytes.Pieces as P
-use Rattle.lio_cells.specs.contracts.bytes.Bytes as B
-use Rattle.lio_cells.specs.contracts.bytes.Bytes.TheInside as BI
-use Rattle.lio_cells.specs.contracts.state.State as S
-use Rattle.lio_cells.specs.contracts.room.Room as R
-use Rattle.lio_cells.specs.contracts.log.Log as L
-use Rattle.lio_cells.specs.contracts.waiter.Waiters as W
-use Rattle.lio_cells.specs.contracts.node.Node as N
-use Rattle.lio_cells.specs.contracts.node.Node.TheInside as NI
+use Rattle.std.proofs.Crossing.{crosses}
+use Rattle.lio_config.proofs.Crossing.{holder-send}
 use Rattle.lio_config.specs.contracts.config.Holder as G
-use Rattle.lio_task.proofs.task.Task.TheSendSync as task
-use Rattle.lio_values.proofs.entry.Entry.TheSendSync as entry
 use Rattle.lio_values.proofs.held.Held.TheSendSync as held
-use Rattle.lio_values.proofs.text.Text.TheSendSync as text
-use Rattle.lio_values.proofs.value.Content.TheSendSync as content
-use Rattle.lio_values.proofs.value.Value.TheSendSync as value
 use Rattle.lio_values.specs.contracts.held.Held as D
-use Rattle.lio_values.specs.contracts.value.Content as K
-use Rattle.lio_values.specs.contracts.value.Value as V
 use Rattle.atomic_table.proofs.owned.Table.TheSendSync as nodes
 use Rattle.atomic_table.proofs.shared.Seat.TheSendSync as seat
 use Rattle.lio_table.specs.contracts.seat.LioSeat as Seat
 use Rattle.lio_table.specs.contracts.table.Table as Table
-
-bytes-inside : IsSend BI.the_row
-bytes-inside = declared_send BI.the_type (as_row_send P.the_field (pieces.both_send-Pieces Arc-send Arc-sync text.the_send text.the_sync), tt)
-
-bytes-send : IsSend B.the_row
-bytes-send = view_send _ _ _ _ _ bytes-inside
-
-state-send : IsSend S.the_row
-state-send = search (sendable, crosses, bytes-send, value.the_send, content.the_send) depth 100 fits 20000
-
-room-send : IsSend R.the_row
-room-send = variants_send R.enum (tt, (tt, ((as_row_send V.the_field value.the_field_send, tt), ((as_row_send B.the_field bytes-send, tt), ((state-send, tt), ((as_row_send K.the_field content.the_field_send, tt), tt))))))
-
-log-send : IsSend L.the_row
-log-send = search (sendable, crosses, state-send, entry.the_send) depth 100 fits 20000
-
-node-inside : IsSend NI.the_row
-node-inside = declared_send NI.the_type (state-send, (room-send, (search (sendable, crosses, as_row_send, entry.the_send) depth 100 fits 20000, (log-send, (as_row_send W.the_field waiters.the_send, tt)))))
-
-node-send : IsSend N.the_row
-node-send = view_send _ _ _ _ _ node-inside
-
-pub holder-send : IsSend G.the_row
-holder-send = search (sendable, crosses, node-send, task.the_send) depth 100 fits 20000
 
 held-send : IsSend (D.the_row G.the_row)
 held-send = held.the_send G.the_row holder-send
