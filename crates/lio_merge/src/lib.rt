@@ -3,4 +3,4 @@
 
 mod logs;
 
-pub use logs::merge;
+pub use logs::{merge, merged};

@@ -1,7 +1,7 @@
 //! The merge of logs.
 ghost use Rattle.std.specs.Prelude.{◌≡◌, ◌++◌, All, IfOk, OnOk};
 ghost use Rattle.lio_cells.specs.Node.{IsKept};
-ghost use Rattle.lio_calculus_logs.specs.Journals.{AreMergeable, IsMerged};
+ghost use Rattle.lio_calculus_logs.specs.Journals.{AreMergeable, ArePartsOf, IsMerged};
 ghost use Rattle.lio_config.specs.Logs.{log_in};
 ghost use Rattle.lio_merge.specs.Acted.{acted_from, acted_in, lent};
 
@@ -47,6 +47,19 @@ fn copies(alloc: Global, entries: &[&Entry]) -> Result<Vec<Entry>, NoMemory>
     Ok(copies)
 }
 
+/// The merged entries of the logs of a configuration's nodes: copies of all, each once, in the order
+/// of their tickets. Each entry stands in its actor's log, in its target's, if it has one, and in no
+/// other, and entries with the same ticket are one. The logs are the parts of what comes.
+pub fn merged(alloc: Global, config: &Config) -> Result<Vec<Entry>, NoMemory>
+    requires { AreMergeable (log_in config.now) }
+    ensures merged { IfOk result (λ entries. IsMerged (log_in config.now) entries.items) }
+    ensures parts { IfOk result (λ entries. ArePartsOf entries.items (log_in config.now)) }
+{
+    let mut entries = acted(alloc, config)?;
+    entries.sort_unstable_by_key(|entry| entry.ticket);
+    copies(alloc, &entries)
+}
+
 /// The merge of the logs of a configuration's nodes: copies of all entries, each once, in the order
 /// of their tickets. Each entry stands in its actor's log, in its target's, if it has one, and in no
 /// other, and entries with the same ticket are one.
@@ -54,8 +67,6 @@ pub fn merge(alloc: Global, config: &Config) -> Result<Journal, NoMemory>
     requires { AreMergeable (log_in config.now) }
     ensures { IfOk result (IsMerged (log_in config.now)) }
 {
-    let mut entries = acted(alloc, config)?;
-    entries.sort_unstable_by_key(|entry| entry.ticket);
-    let merged = copies(alloc, &entries)?;
-    Ok(Journal::of(merged))
+    let entries = merged(alloc, config)?;
+    Ok(Journal::of(entries))
 }

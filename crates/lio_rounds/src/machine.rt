@@ -54,9 +54,11 @@ impl Machine {
     ghost use Rattle.lio_calculus_rounds.specs.Round.{round};
     ghost use Rattle.lio_calculus_rounds.specs.Laws.{IsOrderOf};
     ghost use Rattle.lio_calculus_rounds.specs.Rounds.{IsComplete, rounds_from, stepped, tasks};
-    ghost use Rattle.lio_calculus_logs.specs.Journals.{AreMergeable, IsMerged};
+    ghost use Rattle.lio_calculus_logs.specs.Journals.{AreMergeable, AreNumberedFrom};
+    ghost use Rattle.lio_calculus_logs.specs.Journals.{ArePartsOf, IsMerged};
     ghost use Rattle.lio_config.specs.Logs.{AreFresh, log_in};
     ghost use Rattle.lio_config.specs.Takes.{Stays};
+    ghost use Rattle.lio_rounds.specs.Invariant.{IsRunTo};
     ghost use Rattle.lio_rounds.specs.MachineState.{HasBegun, HasRun, HasTaken, HasWalked};
     ghost use Rattle.lio_rounds.specs.Schedule.{HasGoneOn};
     ghost use Rattle.lio_rounds.specs.MachineParts.{machine_of};
@@ -75,6 +77,28 @@ impl Machine {
               order = tasks c;
             }) }
     {
+        Machine::resumed(alloc, Vec::new(alloc), config, script)
+    }
+
+    /// A machine that goes on after these turns, which lead to the configuration and whose entries
+    /// stand in its logs. The order of its tasks is that of their numbers.
+    pub fn resumed(
+        alloc: Global,
+        entries: Vec<Entry>,
+        config: Config,
+        script: Script,
+    ) -> Result<Machine, NoMemory>
+        requires run { IsRunTo (configuration_of script config) entries.items }
+        requires numbered { AreNumberedFrom 0 entries.items }
+        requires logs { ArePartsOf entries.items (log_in config) }
+        ensures { IfOk result (λ machine. let c = configuration_of script config
+            in machine_of machine ≡ record {
+              script = script;
+              configuration = c;
+              entries = entries.items;
+              order = tasks c;
+            }) }
+    {
         let mut order = Vec::new(alloc);
         for (k, holder) in config.holders.iter().enumerate() {
             if holder.task.is_some() {
@@ -84,7 +108,7 @@ impl Machine {
         Ok(Machine {
             config,
             script,
-            entries: Vec::new(alloc),
+            entries,
             order,
             awake: Awake::new(alloc),
         })

@@ -1,2 +1,2 @@
-pub mod SharedLemmas
+pub mod RunLemmas
 mod Crossing

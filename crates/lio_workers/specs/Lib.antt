@@ -1,3 +1,2 @@
-pub mod Beginning
-pub mod Shared
+pub mod Seated
 pub mod Ends

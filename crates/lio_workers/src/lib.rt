@@ -1,11 +1,11 @@
-//! Workers: threads that share one machine behind a lock, take the turns of its tasks in whatever
-//! order they come to them, and leave no task that can take one.
+//! Workers: threads that share a table of nodes, take the turns of its tasks in whatever order they
+//! come to them, and leave no task that can take one.
 #![tactic(auto)]
 
 mod by_workers;
 mod gate;
 mod run;
-mod shared;
+mod seats;
 mod worker;
 
 pub use by_workers::run_by_workers;

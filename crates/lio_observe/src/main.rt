@@ -1,0 +1,101 @@
+//! Checks that a file is what an observer sees of a run, by the policy, the script and the inputs that
+//! the observer sees, and says how many lines it has.
+#![tactic(auto)]
+
+ghost use Rattle.std.specs.Prelude.{◌≡◌, ◌≤◌};
+ghost use Rattle.std.specs.Process.{exit_status};
+ghost use Rattle.lio_host_words.specs.Sorted.{bytes_of_words};
+ghost use Rattle.lio_observe_main.specs.Answers.{EndsWith};
+ghost use Rattle.lio_observe_main.specs.ExitStatus.{exit_status as status_number};
+
+#[cfg(test)]
+mod cases;
+mod detail;
+mod policy;
+mod refusal;
+#[cfg(test)]
+mod rows;
+mod script;
+#[cfg(test)]
+mod tests;
+mod usage;
+mod view;
+
+use crate::detail::refusal_detail;
+use crate::refusal::print_refusal;
+use lio_observe_main::{ObserveStatus, observe_main};
+use lio_outside::{Say, Store};
+use lio_system::{RealSay, RealStore};
+use std::fs::Files;
+use std::process::ExitCode;
+use std::{env, io};
+
+/// The words after the program's name.
+fn words(rt: &HostRuntime) -> io::Result<Vec<String>> {
+    let words = env::args(rt)?.skip(1).collect(rt.alloc())?;
+    Ok(words)
+}
+
+/// The exit status of an answer.
+fn exit_code(status: &ObserveStatus) -> ExitCode
+    ensures { exit_status result ≡ status_number status.now }
+{
+    ExitCode::from(status.number())
+}
+
+/// Says on standard error what was refused, if anything was. The store's files stay.
+fn report<R: AllocGlobal + Files + Eprint, S: Store>(
+    rt: &R,
+    words: &[String],
+    store: &mut S,
+    status: &ObserveStatus,
+)
+    ensures files { S.holds store.new ≡ S.holds store.old }
+    ensures count { S.faults store.old ≤ S.faults store.new }
+{
+    if let ObserveStatus::Done = status {
+        return;
+    }
+    let alloc = rt.alloc();
+    let detail = refusal_detail(alloc, rt, store, status, words);
+    // A refusal that can't be printed still has its exit status.
+    let _ = print_refusal(rt, alloc, status, words, &detail);
+}
+
+/// Checks what the words name, says on standard error what was refused, if anything was, and gives
+/// the exit status of the answer.
+fn respond<R: AllocGlobal + Files + Eprint, S: Store, W: Say>(
+    rt: &R,
+    words: &[String],
+    store: &mut S,
+    say: &mut W,
+) -> ExitCode
+    ensures files { S.holds store.new ≡ S.holds store.old }
+    ensures ends { EndsWith (record {
+      words = bytes_of_words words.now;
+      before = record {
+        told = S.holds store.old;
+        faults = S.faults store.old;
+        said = W.said say.old;
+        say_faults = W.faults say.old;
+      };
+      after = record {
+        told = S.holds store.new;
+        faults = S.faults store.new;
+        said = W.said say.new;
+        say_faults = W.faults say.new;
+      };
+    }) (exit_status result) }
+{
+    let status = observe_main(rt.alloc(), words, store, say);
+    report(rt, words, store, &status);
+    exit_code(&status)
+}
+
+fn main(rt: HostRuntime) -> ExitCode {
+    // Words that can't be had as text are wrong words.
+    let words = words(&rt).unwrap_or(Vec::new(rt.alloc()));
+    let mut store = RealStore::new(rt.alloc(), &rt);
+    let mut say = RealSay::new(&rt);
+    respond(&rt, words.as_slice(), &mut store, &mut say)
+}

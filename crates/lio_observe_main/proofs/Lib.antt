@@ -1,0 +1,5 @@
+mod InputLemmas
+mod ClaimLemmas
+mod CheckLemmas
+mod ExpectedLemmas
+pub mod Says

@@ -1,0 +1,19 @@
+//! The check of an observer: the words, the policy, the script, the inputs that it sees, its view, and
+//! what is said of it.
+#![tactic(auto)]
+
+mod checking;
+mod claim;
+mod display;
+mod expected;
+mod inputs;
+mod observe;
+mod status;
+mod words;
+
+pub use claim::{Claim, load_claim};
+pub use display::Shown;
+pub use expected::expected_line;
+pub use observe::observe_main;
+pub use status::ObserveStatus;
+pub use words::{Command, read_words};
