@@ -28,6 +28,10 @@ mod outputs;
 #[cfg(test)]
 mod rows;
 #[cfg(test)]
+mod seats;
+#[cfg(test)]
+mod tables;
+#[cfg(test)]
 mod tests;
 #[cfg(test)]
 mod threads;
@@ -51,10 +55,13 @@ use std::sync::Wait;
 use std::thread::Threads;
 use std::{env, io, mem};
 
-/// The words after the program's name.
-fn words(rt: &HostRuntime) -> io::Result<Vec<String>> {
-    let words = env::args(rt)?.skip(1).collect(rt.alloc())?;
-    Ok(words)
+/// The words after the program's name. Words that can't be had as text are wrong words, as none are.
+fn words(rt: &HostRuntime) -> Result<Vec<String>, NoMemory> {
+    match env::args(rt) {
+        Ok(args) => Ok(args.skip(1).collect(rt.alloc())?),
+        Err(error) if error.kind() == io::ErrorKind::OutOfMemory => Err(NoMemory),
+        Err(_) => Ok(Vec::new(rt.alloc())),
+    }
 }
 
 /// The exit status of an answer.
@@ -171,9 +178,16 @@ where
     exit_code(&status)
 }
 
+/// The answer where there is no memory for the words themselves.
+fn without_memory(rt: &HostRuntime) -> ExitCode {
+    let _ = eprintln!(rt; "lio_host: {}", HostStatus::NoMemory);
+    exit_code(&HostStatus::NoMemory)
+}
+
 fn main(rt: HostRuntime) -> ExitCode {
-    // Words that can't be had as text are wrong words.
-    let words = words(&rt).unwrap_or(Vec::new(rt.alloc()));
+    let Ok(words) = words(&rt) else {
+        return without_memory(&rt);
+    };
     let mut store = RealStore::new(rt.alloc(), &rt);
     let mut say = RealSay::new(&rt);
     respond(&rt, words.as_slice(), &mut store, &mut say, &OpenGate)

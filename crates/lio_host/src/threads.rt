@@ -38,6 +38,9 @@ const POLICY: &str = r#"{"version":1,"longest":4096,"principals":["alice","bob"]
 /// A script that sends it, which is refused: three turns.
 const SCRIPT: &str = "proc main c a\nunlabel t a\nsend c t\nend\n";
 
+/// A script that gives birth to a child: two turns of its own, and the child's end.
+const BIRTH: &str = "proc main c a\nfork r <True %% True> 2 0 child\nend\nproc child\nend\n";
+
 /// A gate that notes of which of the first 64 tickets it is told, how often it is told of any, and how
 /// often of a turn of another task than number 1.
 #[derive(Drop)]
@@ -117,7 +120,7 @@ impl Gate for Holding {
 }
 
 /// These words.
-fn words_of(alloc: Global, line: &str) -> Result<Vec<String>, AllocError> {
+pub(crate) fn words_of(alloc: Global, line: &str) -> Result<Vec<String>, AllocError> {
     let mut words = Vec::new(alloc);
     for word in line.split(' ') {
         words.push(String::from_str(alloc, word)?)?;
@@ -230,11 +233,11 @@ fn job_of(alloc: Global) -> Result<Option<Job>, Fail> {
     }
 }
 
-/// Over a store with the policy, the script and the input.
-fn small_store(alloc: Global) -> Result<MemStore, Fail> {
+/// Over a store with the policy, a script and the input.
+fn small_store(alloc: Global, script: &str) -> Result<MemStore, Fail> {
     let mut store = MemStore::new(alloc, Vec::new(alloc));
     store.put(alloc, b"p.json", POLICY.as_bytes())?;
-    store.put(alloc, b"s.lio", SCRIPT.as_bytes())?;
+    store.put(alloc, b"s.lio", script.as_bytes())?;
     store.put(alloc, b"a.txt", b"x")?;
     Ok(store)
 }
@@ -244,7 +247,7 @@ fn small_store(alloc: Global) -> Result<MemStore, Fail> {
 fn one_worker_tells_of_each_turn(rt: HostRuntime) -> Result<(), Fail> {
     let alloc = rt.alloc();
     let words = words_of(alloc, "p.json s.lio --workers 1")?;
-    let mut store = small_store(alloc)?;
+    let mut store = small_store(alloc, SCRIPT)?;
     let gate = Counting::new();
     let done = is_done(&rt, words.as_slice(), &mut store, &gate);
     drop(store);
@@ -256,19 +259,34 @@ fn one_worker_tells_of_each_turn(rt: HostRuntime) -> Result<(), Fail> {
     Ok(())
 }
 
+/// Whether a gate is told of each of so many turns of a workload, once, and of no other.
+fn tells_each<R: AllocGlobal + Threads + Wait + Sync>(
+    rt: &R,
+    line: &str,
+    count: u32,
+) -> Result<bool, Fail> {
+    let alloc = rt.alloc();
+    let words = words_of(alloc, line)?;
+    let mut store = MemStore::new(alloc, Vec::new(alloc));
+    let gate = Counting::new();
+    let done = is_done(rt, words.as_slice(), &mut store, &gate);
+    drop(store);
+    Ok(done && gate.has_each_below(count))
+}
+
 /// One worker takes all turns of a workload, those of children too, and leaves none to the end.
 #[test]
 fn one_worker_leaves_no_turn(rt: HostRuntime) -> Result<(), Fail> {
-    let alloc = rt.alloc();
-    let words = words_of(alloc, "--make 2 --workers 1")?;
-    let mut store = MemStore::new(alloc, Vec::new(alloc));
-    let gate = Counting::new();
-    let done = is_done(&rt, words.as_slice(), &mut store, &gate);
-    drop(store);
-    assert!(&rt;
-        done && gate.has_each_below(40),
-        "each of 40 turns is told once"
-    );
+    let each = tells_each(&rt, "--make 2 --workers 1", 40)?;
+    assert!(&rt; each, "each of 40 turns is told once");
+    Ok(())
+}
+
+/// So do two: who waits is woken.
+#[test]
+fn two_workers_leave_no_turn(rt: HostRuntime) -> Result<(), Fail> {
+    let each = tells_each(&rt, "--make 2 --workers 2", 40)?;
+    assert!(&rt; each, "each of 40 turns is told once");
     Ok(())
 }
 
@@ -295,7 +313,22 @@ fn two_workers_take_turns_beside_each_other(rt: HostRuntime) -> Result<(), Fail>
 fn a_turn_is_told_before_the_next(rt: HostRuntime) -> Result<(), Fail> {
     let alloc = rt.alloc();
     let words = words_of(alloc, "p.json s.lio --workers 2")?;
-    let mut store = small_store(alloc)?;
+    let mut store = small_store(alloc, SCRIPT)?;
+    let gate = Holding::new(SOME_LOOKS);
+    let done = is_done(&rt, words.as_slice(), &mut store, &gate);
+    drop(store);
+    let came = gate.came.load(Ordering::SeqCst);
+    assert!(&rt; done && came == 3 && gate.gave_up(), "nobody came by");
+    Ok(())
+}
+
+/// The gate is told of a birth before the child can be tried: nobody comes while it holds the parent's
+/// worker.
+#[test]
+fn a_birth_is_told_before_the_child(rt: HostRuntime) -> Result<(), Fail> {
+    let alloc = rt.alloc();
+    let words = words_of(alloc, "p.json s.lio --workers 2")?;
+    let mut store = small_store(alloc, BIRTH)?;
     let gate = Holding::new(SOME_LOOKS);
     let done = is_done(&rt, words.as_slice(), &mut store, &gate);
     drop(store);

@@ -3,3 +3,4 @@ pub mod Finishes
 pub mod Says
 mod ViewLemmas
 pub mod HistoryLemmas
+pub mod ObservedLemmas

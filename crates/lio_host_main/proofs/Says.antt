@@ -1,5 +1,5 @@
 -- How the answers of the steps make the answer of the call.
-use Rattle.std.proofs.Common.{◌≡◌, ◌≤◌, ◌∙◌, sym, ap, subst, arith, refl, ℕ, List, [], Option, Some, None, Result, Ok, Err, inl, inr}
+use Rattle.std.proofs.Common.{◌≡◌, ◌≤◌, ◌∙◌, sym, ap, subst, arith, refl, ℕ, List, [], All, Option, Some, None, Result, Ok, Err, inl, inr}
 use Rattle.std.specs.Prelude.{IfSome, ◌⊎◌}
 use Rattle.lio_outside.specs.FileMap.{FileMap}
 use Rattle.lio_outside.specs.Fetch.{given}
@@ -11,6 +11,7 @@ use Rattle.lio_outside.specs.Outputs.{kept}
 use Rattle.lio_outside.proofs.StepsLemmas.{give-outcome}
 use Rattle.lio_front.proofs.WriteLemmas.{outputs_hold_each_file}
 use Rattle.lio_values.specs.declared.entry.Entry.{Entry}
+use Rattle.lio_events_reading.specs.Fits.{EntryFits}
 use Rattle.lio_calculus.specs.Run.{Ran}
 use Rattle.lio_calculus.specs.Step.{Configuration}
 use Rattle.lio_rounds.specs.Headline.{IsRunOf}
@@ -23,6 +24,7 @@ use Rattle.lio_host_main.specs.StatusOf.{cause_of}
 use Rattle.lio_host_main.specs.Workload.{made_files}
 use Rattle.lio_host_main.specs.Verdict.{AreGiven, IsRefusedBy, IsVerdict, files_of, loading, of_source, order_by, ordering, told_of, verdict, verdict_by}
 use Rattle.lio_host_main.specs.Answers.{Call, NothingDone, RanAs, Refused, RunsOrder, Finishes, Ends, SaysBadWords, SaysDone, SaysNoMemory, SaysNotARun, StopsTheRun, Says, Follows, answer_of, journal_with}
+use Rattle.lio_host_main.proofs.ObservedLemmas.{rerun-by-each, seen-by-each}
 use Rattle.lio_host_main.proofs.Prepares.{none-taken}
 
 -- what is given over the files of a store that tells
@@ -193,8 +195,14 @@ says-stopped call command order (NotARun line) named is nothing stops = record {
 says-stopped call command order (Clash name) named is nothing stops = absurd stops
 
 -- a run was made of what the command gives
-pub runs-order : (call : Call) (order : Order) (ran : Ran) (command : Command) → command_of call.words ≡ Some command → order.command ≡ command → AreGiven call.before.told order → IsRunOf order.job ran → RanAs order ran → RunsOrder call order ran
-runs-order call order ran command named same given is_run ran_as = record { verdict = record { command = named ∙ ap Some (sym same); given = given }; is_run = is_run; ran_as = ran_as }
+pub runs-order : (call : Call) (order : Order) (ran : Ran) (command : Command) → command_of call.words ≡ Some command → order.command ≡ command → AreGiven call.before.told order → IsRunOf order.job ran → RanAs order ran → All EntryFits ran.entries → RunsOrder call order ran
+runs-order call order ran command named same given is_run ran_as fits = record {
+  verdict = record { command = named ∙ ap Some (sym same); given = given };
+  is_run = is_run;
+  ran_as = ran_as;
+  seen = seen-by-each order.job ran is_run fits;
+  rerun = rerun-by-each order ran order.way is_run ran_as;
+}
 
 -- its files are written, and its summary was said
 pub says-done : (call : Call) (order : Order) (last : Configuration) → RunsOrder call order (record { entries = call.journal; last = last })
@@ -286,7 +294,7 @@ ends-later : (call : Call) (journal : List Entry) (status : HostStatus) (faults 
 ends-later call journal status faults first second ends = record {
   order = ends.order;
   last = ends.last;
-  ran = record { verdict = ends.ran.verdict; is_run = ends.ran.is_run; ran_as = ends.ran.ran_as };
+  ran = record { verdict = ends.ran.verdict; is_run = ends.ran.is_run; ran_as = ends.ran.ran_as; seen = ends.ran.seen; rerun = ends.ran.rerun };
   finishes = finishes-later ends.order (record { entries = journal; last = ends.last }) call status faults first second ends.finishes;
 }
 

@@ -21,6 +21,7 @@ use Rattle.lio_audit.specs.declared.fault.AuditFault.{AuditFault}
 use Rattle.lio_audit.specs.declared.fault.AuditFault.TheVariants as audit_fault
 use Rattle.lio_host_main.specs.Order.{Order, Way, InRounds, ByWorkers, AsTold, seen_by, view_file, written}
 use Rattle.lio_host_main.specs.Verdict.{IsRefusedBy, IsVerdict, verdict}
+use Rattle.lio_host_main.specs.Observed.{IsRerunByEach, IsSeenByEach}
 
 -- the outside at a moment: what the store tells of its files, what the output tells was said to it, and how many faults each had counted
 pub record Outside : Type 0 where
@@ -62,11 +63,13 @@ RanBy (AsTold bytes) order ran = IsHistoryOf order.job.policy.names (first_of or
 abbrev pub RanAs : Order → Ran → Type 0
 RanAs order ran = RanBy order.way order ran
 
--- the journal is a complete run of what the verdict says, of which each observer sees what the erased calculus gives; and how it was made
+-- the journal is a complete run of what the verdict says, of which each observer sees what the erased calculus gives; how it was made; and what each observer can check and compute of it by what it holds
 pub record RunsOrder (call : Call) (order : Order) (ran : Ran) : Type 0 where
   pub verdict : IsVerdict call.before.told call.words order
   pub is_run : IsRunOf order.job ran
   pub ran_as : RanAs order ran
+  pub seen : IsSeenByEach order.job.policy.names (first_of order.job) ran
+  pub rerun : IsRerunByEach order.way (first_of order.job) ran
 
 -- where a history is refused, its bytes are that of no complete run
 abbrev pub IsNone : List (List ℕ) → Configuration → List ℕ → AuditFault → Type 0

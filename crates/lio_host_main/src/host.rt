@@ -11,6 +11,7 @@ use crate::prepare::prepare_order;
 use crate::running::run_order;
 use crate::status::HostStatus;
 use lio_events::Journal;
+use lio_events_fits::journal_fits;
 use lio_host_words::read_command;
 use lio_outside::{Say, Store};
 use lio_rounds::Ran;
@@ -118,6 +119,7 @@ fn answer<R: Threads + Wait + Sync, S: Store, W: Say, G: Gate + Sync>(
         Ok(ran) => ran,
         Err(status) => return stopped(alloc, status, order),
     };
+    journal_fits(&ran.journal);
     let finished = finish_run(alloc, store, say, &order, &ran);
     let Order {
         job,

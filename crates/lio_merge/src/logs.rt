@@ -56,7 +56,7 @@ pub fn merged(alloc: Global, config: &Config) -> Result<Vec<Entry>, NoMemory>
     ensures parts { IfOk result (λ entries. ArePartsOf entries.items (log_in config.now)) }
 {
     let mut entries = acted(alloc, config)?;
-    entries.sort_unstable_by_key(|entry| entry.ticket);
+    entries.sort_by_key(|entry| entry.ticket)?;
     copies(alloc, &entries)
 }
 

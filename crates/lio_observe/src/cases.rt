@@ -107,7 +107,8 @@ struct Source<'a> {
 /// The text of a file, as often as a case says.
 fn repeated(alloc: Global, case: &Case, text: &str) -> Result<Vec<u8>, Fail> {
     let times = case.number("times")?.unwrap_or(1);
-    let mut bytes = Vec::new(alloc);
+    let whole = times.saturating_mul(text.len() as u64);
+    let mut bytes = Vec::with_capacity(alloc, usize::try_from(whole)?)?;
     for _time in 0..times {
         bytes.extend_from_slice(text.as_bytes())?;
     }

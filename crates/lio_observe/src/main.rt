@@ -23,6 +23,7 @@ mod view;
 
 use crate::detail::refusal_detail;
 use crate::refusal::print_refusal;
+use lio_clauses::NoMemory;
 use lio_observe_main::{ObserveStatus, observe_main};
 use lio_outside::{Say, Store};
 use lio_system::{RealSay, RealStore};
@@ -30,10 +31,13 @@ use std::fs::Files;
 use std::process::ExitCode;
 use std::{env, io};
 
-/// The words after the program's name.
-fn words(rt: &HostRuntime) -> io::Result<Vec<String>> {
-    let words = env::args(rt)?.skip(1).collect(rt.alloc())?;
-    Ok(words)
+/// The words after the program's name. Words that can't be had as text are wrong words, as none are.
+fn words(rt: &HostRuntime) -> Result<Vec<String>, NoMemory> {
+    match env::args(rt) {
+        Ok(args) => Ok(args.skip(1).collect(rt.alloc())?),
+        Err(error) if error.kind() == io::ErrorKind::OutOfMemory => Err(NoMemory),
+        Err(_) => Ok(Vec::new(rt.alloc())),
+    }
 }
 
 /// The exit status of an answer.
@@ -92,9 +96,16 @@ fn respond<R: AllocGlobal + Files + Eprint, S: Store, W: Say>(
     exit_code(&status)
 }
 
+/// The answer where there is no memory for the words themselves.
+fn without_memory(rt: &HostRuntime) -> ExitCode {
+    let _ = eprintln!(rt; "lio_observe: {}", ObserveStatus::NoMemory);
+    exit_code(&ObserveStatus::NoMemory)
+}
+
 fn main(rt: HostRuntime) -> ExitCode {
-    // Words that can't be had as text are wrong words.
-    let words = words(&rt).unwrap_or(Vec::new(rt.alloc()));
+    let Ok(words) = words(&rt) else {
+        return without_memory(&rt);
+    };
     let mut store = RealStore::new(rt.alloc(), &rt);
     let mut say = RealSay::new(&rt);
     respond(&rt, words.as_slice(), &mut store, &mut say)

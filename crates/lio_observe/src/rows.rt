@@ -200,6 +200,13 @@ input v
 status NotAView(1)
 says
 |lio_observe: NotAView(1): v:1: the line has no line end; ask for the whole view~
+case a view of too many bytes
+times 1048577
+input v
+|1 - <True %% True> send "xxxxxxxxxxxxxxxxxxxxxxxxxxxxxxxxxxxxxxxxxxxxxxxxxxxxxxxxxxxxxxxxxxxxxxxxxxxxxxxxxxxxxxxxxxxxxxxxxxxxxxxxxxxxxxxxxxxxxxxxxxxxxxxxxxxxxxxxxxxxxxxxxxxxxxxxxxxxxxxxxxxxxxxxxxxxxxxxxxxxxxxxxxxxxxxxxxxxxxxxxxxxxxxxxxxxxxxxxxxxxxxx" : ok
+status NotAView(0)
+says
+|lio_observe: NotAView(0): v: a view has at most 268435456 bytes~
 case another label
 input v
 |1 - <True %% True> raise unlabel <bob %% True> : ok

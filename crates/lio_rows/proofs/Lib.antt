@@ -1,2 +1,3 @@
 pub mod LowNames
 pub mod LogRows
+pub mod TableRows

@@ -11,6 +11,7 @@ mod refusal;
 mod runs;
 mod scripts;
 mod session;
+mod tables;
 mod turns;
 
 use lio_rows_commands::Answer;

@@ -1,7 +1,7 @@
 //! What a command finds from those before it, and which command does what.
 
 use crate::refusal::{Answered, Refusal};
-use crate::{audits, hints, logs, low, observers, policies, runs, scripts, turns};
+use crate::{audits, hints, logs, low, observers, policies, runs, scripts, tables, turns};
 use lio_clauses::{Names, NoMemory};
 use lio_rows_commands::Answer;
 use lio_rows_fields::read_command;
@@ -57,6 +57,9 @@ fn answer(alloc: Global, names: &Names, word: &str, fields: &[Vec<u8>]) -> Answe
         return Some(answer);
     }
     if let Some(answer) = logs::answer(alloc, word, fields) {
+        return Some(answer);
+    }
+    if let Some(answer) = tables::answer(alloc, word, fields) {
         return Some(answer);
     }
     if let Some(answer) = audits::answer(alloc, word, fields) {

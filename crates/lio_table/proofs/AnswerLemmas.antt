@@ -26,13 +26,15 @@ use Rattle.lio_table.specs.declared.table.Table.{Table}
 use Rattle.lio_table.specs.declared.turn.TurnEnd.{TurnEnd}
 use Rattle.lio_table.specs.declared.turn.TurnEnd.TheVariants.{Moved, Busy, Still}
 use Rattle.lio_table.specs.declared.turn.TurnEnd.TheVariants as turn_end
-use Rattle.lio_table.specs.Holders.{PutsBack, PutsBoth}
+use Rattle.lio_table.specs.Holders.{PutsBack}
 use Rattle.lio_table.specs.Moves.{MovesAlone, MovesBoth, ReturnsBoth, ReturnsNode}
 use Rattle.lio_table.specs.Seats.{AreOut, HaveNumbers}
 use Rattle.lio_table.specs.Tables.{first_of}
 use Rattle.lio_table.specs.Taken.{EndsTurn, HasOne, HasTwo, RefusesTurn, tickets_of, woken_or}
-use Rattle.lio_table.specs.Turns.{Found, Meets, TurnRefused, TurnSays, born_at, grown, returned, with_draw, with_one, with_two}
-use Rattle.lio_table.proofs.EndLemmas.{alone-moved, itself-unready, meeting-moved, meets-of, one-busy, one-found, one-returned, slot-back, slots-back, target-within, two-found, two-met_found, two-returned, unready-still}
+use Rattle.lio_table.specs.Turns.{Found, Meets, TurnRefused, TurnSays, born_at, grown, returned, returned_with, with_draw, with_one, with_two}
+use Rattle.lio_table.specs.Waits.{LeavesBoth, waiting_with}
+use Rattle.lio_table.proofs.EndLemmas.{alone-moved, itself-unready, meeting-moved, meets-of, one-busy, one-found, one-returned, slot-back, slots-back, target-within, two-found, two-left, two-met_found, unready-still}
+use Rattle.lio_table.proofs.OverLemmas.{over-ended}
 use Rattle.lio_table.proofs.SeatLemmas.{no-node, numbers-none, out-none}
 
 -- what the table began with, as a seat's view before the turn has it
@@ -113,7 +115,7 @@ module _ (before : View) (k : ℕ) (holder : Holder) (old : SeatState) (has : Ha
         whole = has.whole;
         holder = holder;
         found = found-here;
-        over = λ other there. ap (λ (t : Task). plan (program_of before.first.script before.first.longest) (state_in before.first.script t)) (same-task (sym there ∙ is)) ∙ sym here;
+        over = λ other there. ap (λ (t : Task). t.ended) (same-task (sym there ∙ is)) ∙ over-ended (program_of before.first.script before.first.longest) (state_in before.first.script task) here;
         still = over-still has.whole k (state_in before.first.script task) (ap (λ (cell : Cell). cell.task) found-here.stands.at ∙ ap (option_map (state_in before.first.script)) is)
             (here ∙ ap (λ (p : Program). plan p (state_in before.first.script task)) (sym found-here.stands.program));
         view = one-returned before k holder old new has put.holds put.view;
@@ -197,7 +199,7 @@ module _ (before : View) (k n : ℕ) (holder met : Holder) (old : SeatState) (ha
   target-here = two-met_found before k n holder met old has.whole has has.stand
 
   -- the node that the turn meets isn't ready
-  pub target-still : (new : SeatState) (asked : Act) → Meets before.first holder.task asked n → is_ready met.node.state asked ≡ false → PutsBoth k n holder met old new → EndsTurn k before (Still k) new
+  pub target-still : (new : SeatState) (asked : Act) → Meets before.first holder.task asked n → is_ready met.node.state asked ≡ false → LeavesBoth k n holder met asked old new → EndsTurn k before (Still k) new
   target-still new asked meets unready put = (
     (
       refl,
@@ -214,7 +216,7 @@ module _ (before : View) (k n : ℕ) (holder met : Holder) (old : SeatState) (ha
           meets = meets;
           unready = unready;
           still = unready-still before.first has.whole k n holder asked actor-here meets (ap (λ (cell : Cell). is_ready cell.state asked) target-here.stands.at ∙ unready);
-          view = two-returned before k n holder met old new has put.target put.actor put.view;
+          view = two-left before k n holder met (waiting_with k asked met.node.waiters) old new has put.target put.actor put.view;
         },
       ),
     ),
@@ -230,7 +232,7 @@ module _ (before : View) (k n : ℕ) (holder met : Holder) (old : SeatState) (ha
   -- memory was refused
   pub two-refused : (new : SeatState) → ReturnsBoth k n holder met old new → RefusesTurn k before new
   two-refused new put = (
-    inr (n, record { apart = has.apart; holder = holder; met = met; has_log = has.has_log; met_has_log = has.met_has_log; view = two-returned before k n holder met old new has put.target put.actor put.view }),
+    inr (n, record { apart = has.apart; holder = holder; met = met; has_log = has.has_log; met_has_log = has.met_has_log; view = two-left before k n holder met met.node.waiters old new has put.target put.actor put.view }),
     slots-back k n old.1 new.1 has.slots put.slots,
   )
 
@@ -276,7 +278,7 @@ says-after k old new (Moved ticket born woken) some (inr (n, m)) =
 says-after k old new (Busy n) some (inl (is, b)) = after-same old new (with_busy k old) some refl refl refl refl b.view
 says-after k old new (Busy n) some (inr b) = after-same old new (with_one (returned k b.holder) (with_busy n old)) some refl refl refl refl b.view
 says-after k old new (Still n) some (is, inl s) = after-same old new (with_one (returned k s.holder) old) some refl refl refl refl s.view
-says-after k old new (Still n) some (is, inr (m, s)) = after-same old new (with_two (returned k s.holder) (returned m s.met) old) some refl refl refl refl s.view
+says-after k old new (Still n) some (is, inr (m, s)) = after-same old new (with_two (returned k s.holder) (returned_with m s.met (waiting_with k s.asked s.met.node.waiters)) old) some refl refl refl refl s.view
 says-after k old new (turn_end.Over n) some (is, o) = after-same old new (with_one (returned k o.holder) old) some refl refl refl refl o.view
 
 pub refused-after : (k : ℕ) (old new : View) → 0 < old.left → TurnRefused k old new → AfterTurn old new 0

@@ -1,6 +1,6 @@
 -- A seat may go to another thread, and a table may be shared.
-use denote.Param.Send.{IsSend, IsSync, sendable, view_send}
-use denote.Param.SendFields.{declared_send, variants_send, as_row_send, declared_sync, as_row_sync}
+use denote.Param.Send.{IsSend, IsSync, sendable}
+use denote.Param.SendFields.{declared_sync, as_row_sync}
 use Rattle.std.proofs.Crossing.{crosses}
 use Rattle.lio_config.proofs.Crossing.{holder-send}
 use Rattle.lio_config.specs.contracts.config.Holder as G

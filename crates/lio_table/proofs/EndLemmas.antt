@@ -34,10 +34,11 @@ use Rattle.lio_table_rule.specs.declared.view.Given.{Given}
 use Rattle.lio_table_rule.specs.declared.view.View.{View}
 use Rattle.lio_table_rule.specs.Views.{HasLog, HoldsNode, StandIn}
 use Rattle.lio_table_rule.specs.Steps.{FindsTaken, SeatState, with_busy, with_entry, with_given, with_node, with_ticket, with_turn, without}
+use Rattle.lio_table.specs.declared.table.Table.{Table}
 use Rattle.lio_table.specs.Holders.{CanPut, CanPutBoth, TakesOut}
 use Rattle.lio_table.specs.Moves.{MovesAlone, MovesBoth}
-use Rattle.lio_table.specs.Taken.{HasOne, HasTwo, woken_or}
-use Rattle.lio_table.specs.Turns.{Found, Meets, MovedAlone, MovedMeeting, born_at, grown, returned, with_draw, with_one, with_two}
+use Rattle.lio_table.specs.Taken.{HasOne, HasTwo, IsInTurn, woken_or}
+use Rattle.lio_table.specs.Turns.{Found, Meets, MovedAlone, MovedMeeting, born_at, grown, returned, returned_with, with_draw, with_one, with_two}
 use Rattle.lio_table.proofs.SeatLemmas.{falls, no-node, passes}
 use Rattle.lio_table.proofs.TurnLemmas.{part-of-actor, part-of-target, stands-in}
 
@@ -117,6 +118,15 @@ two-taken before k n holder met old new has apart within takes = record {
   stand = takes.stand;
 }
 
+-- the turn goes on, once a node was taken
+pub taken-in_turn : (table : Table) (script : List Procedure) (k n : ℕ) (holder : Holder) (old new : SeatState) → IsInTurn table script k old → TakesOut n old holder new → IsInTurn table script k new
+taken-in_turn table script k n holder old new turn takes = record {
+  first = ap (λ (v : View). v.first) takes.view ∙ turn.first;
+  script_is = turn.script_is;
+  left = subst (λ (v : View). 0 < v.left) (sym takes.view) turn.left;
+  node = turn.node;
+}
+
 -- a seat that holds node k alone holds no other
 pub other-free : (before : View) (k n : ℕ) (holder : Holder) (seat : SeatState) → HasOne before k holder seat → (k ≡ n → ⊥) → HoldsNode seat.0 n → ⊥
 other-free before k n holder seat has apart holds =
@@ -144,6 +154,7 @@ two-can_put before k n holder met seat has =
 -- the holders stand in a configuration of the table
 pub one-found : (before : View) (k : ℕ) (holder : Holder) (seat : SeatState) (c : Configuration) → HasOne before k holder seat → StandIn seat.0 c → Found before.first c k holder
 one-found before k holder seat c has stand = record {
+  size = stand.size ∙ ap (λ (v : View). length v.first.holders) has.view;
   has_log = has.has_log;
   stands = stands-in before.first.script k holder (with_node k holder before, seat.1) refl
       (record { node = claimed_with k holder; has = has-first (claimed_with k holder) before.claimed; number = refl }) has.has_log c (subst (λ (v : View). StandIn v c) has.view stand);
@@ -151,6 +162,7 @@ one-found before k holder seat c has stand = record {
 
 pub two-found : (before : View) (k n : ℕ) (holder met : Holder) (seat : SeatState) (c : Configuration) → HasTwo before k n holder met seat → StandIn seat.0 c → Found before.first c k holder
 two-found before k n holder met seat c has stand = record {
+  size = stand.size ∙ ap (λ (v : View). length v.first.holders) has.view;
   has_log = has.has_log;
   stands = stands-in before.first.script k holder (with_node n met (with_node k holder before), seat.1) refl
       (record { node = claimed_with k holder; has = has-later (claimed_with n met) (claimed_with k holder ∷ before.claimed) (claimed_with k holder) (has-first (claimed_with k holder) before.claimed); number = refl })
@@ -159,6 +171,7 @@ two-found before k n holder met seat c has stand = record {
 
 pub two-met_found : (before : View) (k n : ℕ) (holder met : Holder) (seat : SeatState) (c : Configuration) → HasTwo before k n holder met seat → StandIn seat.0 c → Found before.first c n met
 two-met_found before k n holder met seat c has stand = record {
+  size = stand.size ∙ ap (λ (v : View). length v.first.holders) has.view;
   has_log = has.met_has_log;
   stands = stands-in before.first.script n met (with_node n met (with_node k holder before), seat.1) refl
       (record { node = claimed_with n met; has = has-first (claimed_with n met) (claimed_with k holder ∷ before.claimed); number = refl })
@@ -188,19 +201,19 @@ one-returned before k holder old new has holds view =
         is ∙ given-one (with_node k holder before) (claimed_with k holder) k holder.node.waiters h (ap (λ (ns : List Claimed). claimed_with k holder ∷ ns) has.bare)
         ∙ ap (λ (ns : List Claimed). record before { claimed = ns; given = returned k holder ∷ take 1 before.given; taken = before.taken + 1 }) (sym has.bare)
 
--- two nodes that were given back as they were
-pub two-returned : (before : View) (k n : ℕ) (holder met : Holder) (old new : SeatState) → HasTwo before k n holder met old → (target : HoldsNode old.0 n) → (actor : HoldsNode old.0 k)
-    → new.0 ≡ with_given actor.node holder.node.waiters (with_given target.node met.node.waiters old.0) → new.0 ≡ with_two (returned k holder) (returned n met) before
-two-returned before k n holder met old new has target actor view =
-    by (subst (λ (v : View). (a : HoldsNode v k) × (t : HoldsNode v n) × (new.0 ≡ with_given a.node holder.node.waiters (with_given t.node met.node.waiters v))) has.view (actor, target, view))
+-- two nodes that were given back with the logs that they had, the task's as it was
+pub two-left : (before : View) (k n : ℕ) (holder met : Holder) (waiters : List Waiter) (old new : SeatState) → HasTwo before k n holder met old → (target : HoldsNode old.0 n) → (actor : HoldsNode old.0 k)
+    → new.0 ≡ with_given actor.node holder.node.waiters (with_given target.node waiters old.0) → new.0 ≡ with_two (returned k holder) (returned_with n met waiters) before
+two-left before k n holder met waiters old new has target actor view =
+    by (subst (λ (v : View). (a : HoldsNode v k) × (t : HoldsNode v n) × (new.0 ≡ with_given a.node holder.node.waiters (with_given t.node waiters v))) has.view (actor, target, view))
   where
     both : View
     both = with_node n met (with_node k holder before)
 
-    by : (a : HoldsNode both k) × (t : HoldsNode both n) × (new.0 ≡ with_given a.node holder.node.waiters (with_given t.node met.node.waiters both)) → new.0 ≡ with_two (returned k holder) (returned n met) before
+    by : (a : HoldsNode both k) × (t : HoldsNode both n) × (new.0 ≡ with_given a.node holder.node.waiters (with_given t.node waiters both)) → new.0 ≡ with_two (returned k holder) (returned_with n met waiters) before
     by (a, t, is) =
-        is ∙ given-two both (claimed_with n met) (claimed_with k holder) k n holder.node.waiters met.node.waiters a t refl refl has.apart (ap (λ (ns : List Claimed). claimed_with n met ∷ claimed_with k holder ∷ ns) has.bare)
-        ∙ (λ i. record before { claimed = sym has.bare i; given = returned k holder ∷ returned n met ∷ []; taken = plus-two before.taken i })
+        is ∙ given-two both (claimed_with n met) (claimed_with k holder) k n holder.node.waiters waiters a t refl refl has.apart (ap (λ (ns : List Claimed). claimed_with n met ∷ claimed_with k holder ∷ ns) has.bare)
+        ∙ (λ i. record before { claimed = sym has.bare i; given = returned k holder ∷ returned_with n met waiters ∷ []; taken = plus-two before.taken i })
 
 -- one node that was given back after a turn
 abbrev turned_one : View → ℕ → Holder → Entry → View

@@ -1,9 +1,11 @@
 pub mod SeatLemmas
 pub mod SlotLemmas
 pub mod TurnLemmas
+pub mod WaitLemmas
 pub mod OpenLemmas
 pub mod PairLemmas
 pub mod MeetingLemmas
 pub mod EndLemmas
+pub mod OverLemmas
 pub mod AnswerLemmas
 pub mod Crossing

@@ -4,12 +4,14 @@ use mathlib.Core.Option.{some, some-injective, some-ne-none}
 use lib.ListN.{get_elem?}
 use Rattle.atomic_table.specs.Table.{rest, turned}
 use Rattle.lio_calculus_logs.proofs.JournalLemmas.{has-cases, has-first, has-later}
+use Rattle.lio_cells.specs.declared.waiter.Waiter.{Waiter}
 use Rattle.lio_config.specs.declared.config.Holder.{Holder}
 use Rattle.lio_table_rule.specs.declared.view.Beginning.{Beginning}
 use Rattle.lio_table_rule.specs.declared.view.Claimed.{Claimed}
 use Rattle.lio_table_rule.specs.declared.view.View.{View}
 use Rattle.lio_table_rule.specs.Views.{HasLog, HoldsNode, rights}
 use Rattle.lio_table_rule.specs.Steps.{CanGive, GivesNode, SeatState, TakesNode, with_given, without}
+use Rattle.lio_table.specs.Claims.{GiveSays}
 use Rattle.lio_table.specs.Holders.{PutsBack}
 use Rattle.lio_table.specs.Seats.{AreOut, HaveNumbers, IsOut}
 
@@ -23,6 +25,7 @@ pub record StandsFirst (first : Beginning) (n last other : ℕ) (nodes : List Cl
   pub has : Contains nodes node
   pub number : node.number ≡ n
   pub has_log : HasLog first n node.log holder
+  pub waiters : holder.node.waiters ≡ node.found
   pub out : AreOut first (without n nodes) rest
   pub numbers : HaveNumbers last other (without n nodes)
 
@@ -83,6 +86,7 @@ last-first first last other n (one ∷ []) (x ∷ []) node out numbers has numbe
       has = has-first one [];
       number = same;
       has_log = subst (λ m. HasLog first m one.log held.0) same (here.has_log held.0 held.1);
+      waiters = here.waiters held.0 held.1;
       out = subst (λ ns. AreOut first ns []) left (out-none first);
       numbers = subst (HaveNumbers other other) left (numbers-none other other);
     }
@@ -102,6 +106,7 @@ last-first first last other n (one ∷ two ∷ []) (x ∷ y ∷ []) node out num
       has = has-first one (two ∷ []);
       number = same;
       has_log = subst (λ m. HasLog first m one.log held.0) same (here.has_log held.0 held.1);
+      waiters = here.waiters held.0 held.1;
       out = subst (λ ns. AreOut first ns (y ∷ [])) left (out-one first two y there);
       numbers = subst (HaveNumbers other other) left (numbers-one other other two its.0);
     }
@@ -134,6 +139,7 @@ other-first first last other n (one ∷ two ∷ []) (x ∷ y ∷ []) node out nu
       has = has-later one (two ∷ []) two (has-first two []);
       number = same;
       has_log = subst (λ m. HasLog first m two.log held.0) same (there.has_log held.0 held.1);
+      waiters = there.waiters held.0 held.1;
       out = subst (λ ns. AreOut first ns (x ∷ [])) left (out-one first one x here);
       numbers = subst (HaveNumbers last other) left (numbers-one last other one (numbers.last one refl));
     }
@@ -145,6 +151,37 @@ other-first first last other n (one ∷ two ∷ []) (x ∷ y ∷ []) node out nu
         by : (two ≡ node) ⊎ Contains [] node → two.number ≡ n
         by (inl same) = ap (λ (x : Claimed). x.number) same ∙ number
         by (inr none) = absurd (no-node node none)
+
+-- a seat holds one node with a number
+pub one-node : (last other : ℕ) (nodes : List Claimed) (one two : Claimed) → HaveNumbers last other nodes → Contains nodes one → Contains nodes two → one.number ≡ two.number → one ≡ two
+one-node last other [] one two numbers has has' same = absurd (no-node one has)
+one-node last other (a ∷ []) one two numbers has has' same = is-first one (has-cases a [] one has) ∙ sym (is-first two (has-cases a [] two has'))
+  where
+    is-first : (x : Claimed) → (a ≡ x) ⊎ Contains [] x → x ≡ a
+    is-first x (inl is) = sym is
+    is-first x (inr none) = absurd (no-node x none)
+one-node last other (a ∷ b ∷ []) one two numbers has has' same = by (place one has) (place two has')
+  where
+    place : (x : Claimed) → Contains (a ∷ b ∷ []) x → (a ≡ x) ⊎ (b ≡ x)
+    place x there = first (has-cases a (b ∷ []) x there)
+      where
+        second : (b ≡ x) ⊎ Contains [] x → (a ≡ x) ⊎ (b ≡ x)
+        second (inl is) = inr is
+        second (inr none) = absurd (no-node x none)
+
+        first : (a ≡ x) ⊎ Contains (b ∷ []) x → (a ≡ x) ⊎ (b ≡ x)
+        first (inl is) = inl is
+        first (inr later) = second (has-cases b [] x later)
+
+    apart : a.number ≡ b.number → ⊥
+    apart e = let its = numbers.other b refl in its.1 (sym (numbers.last a refl) ∙ e ∙ its.0)
+
+    by : (a ≡ one) ⊎ (b ≡ one) → (a ≡ two) ⊎ (b ≡ two) → one ≡ two
+    by (inl is) (inl is') = sym is ∙ is'
+    by (inr is) (inr is') = sym is ∙ is'
+    by (inl is) (inr is') = absurd (apart (ap (λ (x : Claimed). x.number) is ∙ same ∙ sym (ap (λ (x : Claimed). x.number) is')))
+    by (inr is) (inl is') = absurd (apart (ap (λ (x : Claimed). x.number) is' ∙ sym same ∙ sym (ap (λ (x : Claimed). x.number) is)))
+one-node last other (a ∷ b ∷ c ∷ nodes) one two numbers has has' same = let few = numbers.few in absurd (omega (arith, few))
 
 -- so it can be given back
 pub stands-can_give : (n last other : ℕ) (me : SeatState) → StandsFirst me.0.first n last other me.0.claimed me.1 → CanGive n me
@@ -181,6 +218,14 @@ held-or holder [] = holder
 held-or holder ((n, None) ∷ slots) = holder
 held-or holder ((n, Some other) ∷ slots) = other
 
+-- and how it was given back: those wait at it who were found at the claim
+pub given-says : (n last other l o : ℕ) (old new : SeatState) → HaveNumbers l o old.0.claimed → StandsFirst old.0.first n last other old.0.claimed old.1 → GivesNode n old new → GiveSays n old.0 new.0
+given-says n last other l o old new numbers stands given =
+    let same_holder : stands.holder ≡ given.holder = ap (held-or stands.holder) (sym stands.is ∙ given.slot) in
+    let same_node : stands.node ≡ given.holds.node = one-node l o old.0.claimed stands.node given.holds.node numbers stands.has given.holds.has (stands.number ∙ sym given.holds.number) in
+    let waiters : given.holder.node.waiters ≡ given.holds.node.found = ap (λ (h : Holder). h.node.waiters) (sym same_holder) ∙ stands.waiters ∙ ap (λ (x : Claimed). x.found) same_node in
+    record { holds = given.holds; view = given.view ∙ ap (λ (ws : List Waiter). with_given given.holds.node ws old.0) waiters }
+
 -- a holder was put back, once the node is given back
 pub put-back : (n : ℕ) (holder : Holder) (old mid new : SeatState) (left : List (ℕ × Option Holder)) → old.1 ≡ (n, None) ∷ left → mid ≡ (old.0, (n, Some holder) ∷ rest old.1) → GivesNode n mid new → PutsBack n holder old new
 put-back n holder old mid new left slots put given = by (subst (λ (m : SeatState). GivesNode n m new) put given)
@@ -208,7 +253,13 @@ out-more old new n out takes within =
     node = record { number = n; log = takes.holder.node.log; found = takes.holder.node.waiters }
 
     here : IsOut old.0.first node (n, Some takes.holder)
-    here = record { within = within; number = refl; full = refl; has_log = λ holder is. let same : takes.holder ≡ holder = some_same is in subst (HasLog old.0.first n takes.holder.node.log) same takes.has_log }
+    here = record {
+      within = within;
+      number = refl;
+      full = refl;
+      has_log = λ holder is. let same : takes.holder ≡ holder = some_same is in subst (HasLog old.0.first n takes.holder.node.log) same takes.has_log;
+      waiters = λ holder is. let same : takes.holder ≡ holder = some_same is in ap (λ (h : Holder). h.node.waiters) (sym same);
+    }
       where
         some_same : {a b : Holder} → Some a ≡ Some b → a ≡ b
         some_same e = cc

@@ -1,6 +1,5 @@
 -- What a claim and a give say of a seat's view.
-use Rattle.std.specs.Prelude.{◌≡◌, ℕ, ◌^◌, List}
-use Rattle.lio_cells.specs.declared.waiter.Waiter.{Waiter}
+use Rattle.std.specs.Prelude.{◌≡◌, ℕ, ◌^◌}
 use Rattle.lio_calculus.specs.Step.{Configuration}
 use Rattle.lio_config.specs.declared.config.Holder.{Holder}
 use Rattle.lio_table_rule.specs.declared.view.View.{View}
@@ -28,8 +27,7 @@ abbrev pub ClaimSays : Claim → ℕ → View → View → Type 0
 ClaimSays Held n old new = HasClaimed n old new
 ClaimSays Busy n old new = WasTaken n old new
 
--- A node that the seat held was given back, with its log and those who wait at it now.
+-- A node that the seat held was given back with its log, and those wait at it who were found at the claim.
 pub record GiveSays (n : ℕ) (old new : View) : Type 0 where
   pub holds : HoldsNode old n
-  pub waiters : List Waiter
-  pub view : new ≡ with_given holds.node waiters old
+  pub view : new ≡ with_given holds.node holds.node.found old

@@ -6,3 +6,4 @@ pub mod Seats
 pub mod Tables
 pub mod Taken
 pub mod Turns
+pub mod Waits

@@ -7,12 +7,13 @@ use Rattle.lio_table_rule.specs.declared.view.Beginning.{Beginning}
 use Rattle.lio_table_rule.specs.declared.view.Claimed.{Claimed}
 use Rattle.lio_table_rule.specs.Views.{HasLog}
 
--- The slot of a node that a seat holds is out with it: it has the node's holder.
+-- The slot of a node that a seat holds is out with it: it has the node's holder, at which those wait who were found at the claim.
 pub record IsOut (first : Beginning) (node : Claimed) (slot : ℕ × Option Holder) : Type 0 where
   pub within : node.number < length first.holders
   pub number : slot.0 ≡ node.number
   pub full : is_some slot.1 ≡ true
   pub has_log : (holder : Holder) → slot.1 ≡ Some holder → HasLog first node.number node.log holder
+  pub waiters : (holder : Holder) → slot.1 ≡ Some holder → holder.node.waiters ≡ node.found
 
 -- The slots that are out with a seat are those of its nodes, in the same order.
 pub record AreOut (first : Beginning) (nodes : List Claimed) (slots : List (ℕ × Option Holder)) : Type 0 where

@@ -1,14 +1,24 @@
 -- The nodes that a seat holds in the middle of a turn.
 use Rattle.std.specs.Prelude.{◌≡◌, ℕ, ◌<◌, List, [], ◌∷◌, length, Option, Some, None}
 use Rattle.lio_cells.specs.declared.waiter.Waiter.{Waiter}
+use Rattle.lio_syntax.specs.Statements.{Procedure}
 use Rattle.lio_calculus.specs.Step.{Configuration}
 use Rattle.lio_config.specs.declared.config.Holder.{Holder}
 use Rattle.lio_table_rule.specs.declared.view.View.{View}
 use Rattle.lio_table_rule.specs.Views.{HasLog, StandIn}
 use Rattle.lio_table_rule.specs.Steps.{SeatState, with_node}
+use Rattle.lio_table.specs.declared.table.Table.{Table}
 use Rattle.lio_table.specs.declared.turn.TurnEnd.{TurnEnd}
 use Rattle.lio_table.specs.declared.turn.TurnEnd.TheVariants.{Moved}
+use Rattle.lio_table.specs.Tables.{first_of}
 use Rattle.lio_table.specs.Turns.{TurnRefused, TurnSays}
+
+-- Task k of a table may take its turn by a script, on a seat that has a ticket left: the seat knows what the table began with, and the script is that.
+pub record IsInTurn (table : Table) (script : List Procedure) (k : ℕ) (seat : SeatState) : Type 0 where
+  pub first : seat.0.first ≡ first_of table
+  pub script_is : script ≡ (first_of table).script
+  pub left : 0 < seat.0.left
+  pub node : k < table.len
 
 -- A seat that held nothing has claimed node k alone, and has taken this holder out of its slot.
 pub record HasOne (before : View) (k : ℕ) (holder : Holder) (seat : SeatState) : Type 0 where

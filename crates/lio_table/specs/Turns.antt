@@ -1,12 +1,12 @@
 -- What a turn of a task at a table answers, each answer with its cause, and what it makes of the seat's view.
-use Rattle.std.specs.Prelude.{◌≡◌, ◌⊎◌, ℕ, ◌+◌, ◌-◌, ◌^◌, ◌<◌, false, List, [], ◌∷◌, ◌++◌, length, All, take, Option, Some, None, if◌then◌else◌}
+use Rattle.std.specs.Prelude.{◌≡◌, ◌⊎◌, ℕ, ◌+◌, ◌-◌, ◌^◌, ◌<◌, true, false, List, [], ◌∷◌, ◌++◌, length, All, take, Option, Some, None, if◌then◌else◌}
 use Rattle.lio_values.specs.declared.act.Act.{Act}
 use Rattle.lio_values.specs.declared.act.Act.TheVariants as act
 use Rattle.lio_values.specs.declared.entry.Entry.{Entry}
 use Rattle.lio_cells.specs.declared.waiter.Waiter.{Waiter}
 use Rattle.lio_cells.specs.State.{ready as is_ready}
 use Rattle.lio_calculus.specs.Going.{Onward}
-use Rattle.lio_calculus.specs.Plan.{Over, Target, Visit, plan}
+use Rattle.lio_calculus.specs.Plan.{Target, Visit, plan}
 use Rattle.lio_calculus.specs.Step.{Configuration, can, cell_at, number_of}
 use Rattle.lio_calculus.specs.Effect.{entry_in}
 use Rattle.lio_task.specs.declared.task.Task.{Task}
@@ -19,6 +19,7 @@ use Rattle.lio_table_rule.specs.declared.view.Given.{Given}
 use Rattle.lio_table_rule.specs.declared.view.View.{View}
 use Rattle.lio_table_rule.specs.Views.{HasLog, rights}
 use Rattle.lio_table_rule.specs.Steps.{with_busy}
+use Rattle.lio_table.specs.Waits.{waiting_with}
 use Rattle.lio_table.specs.declared.turn.TurnEnd.{TurnEnd}
 use Rattle.lio_table.specs.declared.turn.TurnEnd.TheVariants.{Moved, Busy, Still}
 use Rattle.lio_table.specs.declared.turn.TurnEnd.TheVariants as turn_end
@@ -26,6 +27,10 @@ use Rattle.lio_table.specs.declared.turn.TurnEnd.TheVariants as turn_end
 -- a node that was claimed with this holder and given back as it was
 abbrev pub returned : ℕ → Holder → Given
 returned n holder = record { number = n; log = holder.node.log; waiters = holder.node.waiters; found = holder.node.waiters }
+
+-- a node that was claimed with this holder and given back with the log that it had, at which these wait then
+abbrev pub returned_with : ℕ → Holder → List Waiter → Given
+returned_with n holder waiters = record { number = n; log = holder.node.log; waiters = waiters; found = holder.node.waiters }
 
 -- a node that was claimed with this holder and given back with an entry more, at which these wait then
 abbrev pub grown : ℕ → Holder → Entry → List Waiter → Given
@@ -43,8 +48,9 @@ with_two given met view = record view { given = given ∷ met ∷ []; taken = vi
 abbrev pub with_draw : ℕ → ℕ → View → View
 with_draw ticket k view = record view { drawn = record { ticket = ticket; task = k } ∷ view.drawn; left = view.left - 1 }
 
--- A holder with which node n was claimed stands in a sound configuration of the table, and its cell there is what its log makes of the node's first.
+-- A holder with which node n was claimed stands in a sound configuration of the table, which has a cell for each node, and its cell there is what its log makes of the node's first.
 pub record Found (first : Beginning) (c : Configuration) (n : ℕ) (holder : Holder) : Type 0 where
+  pub size : length c.cells ≡ length first.holders
   pub has_log : HasLog first n holder.node.log holder
   pub stands : Stands first.script first.longest c n holder
 
@@ -140,7 +146,8 @@ pub record WaitsForItself (k : ℕ) (old new : View) : Type 0 where
   pub still : can whole k ≡ false
   pub view : new ≡ with_one (returned k holder) old
 
--- The next turn of task k meets node n, which wasn't ready for it while the seat held both. Both were given back as they were.
+-- The next turn of task k meets node n, which wasn't ready for it while the seat held both. Both were given back with the logs that they had, and task k
+-- waits at n from then on.
 pub record WaitsFor (k n : ℕ) (old new : View) : Type 0 where
   pub apart : k ≡ n → ⊥
   pub whole : Configuration
@@ -152,22 +159,22 @@ pub record WaitsFor (k n : ℕ) (old new : View) : Type 0 where
   pub meets : Meets old.first holder.task asked n
   pub unready : is_ready met.node.state asked ≡ false
   pub still : can whole k ≡ false
-  pub view : new ≡ with_two (returned k holder) (returned n met) old
+  pub view : new ≡ with_two (returned k holder) (returned_with n met (waiting_with k asked met.node.waiters)) old
 
 -- task k can't take a turn, as the node that it meets isn't ready
 abbrev pub IsStill : ℕ → View → View → Type 0
 IsStill k old new = WaitsForItself k old new ⊎ ((n : ℕ) × WaitsFor k n old new)
 
--- a task is over, where there is one
-abbrev pub IsOver : Beginning → Option Task → Type 0
-IsOver first found = (task : Task) → found ≡ Some task → plan (program_of first.script first.longest) (state_in first.script task) ≡ Over
+-- there is no task, or an ended one
+abbrev pub IsOver : Option Task → Type 0
+IsOver found = (task : Task) → found ≡ Some task → task.ended ≡ true
 
 -- There is no task k, or it has ended. Its node was given back as it was.
 pub record HasEnded (k : ℕ) (old new : View) : Type 0 where
   pub whole : Configuration
   pub holder : Holder
   pub found : Found old.first whole k holder
-  pub over : IsOver old.first holder.task
+  pub over : IsOver holder.task
   pub still : can whole k ≡ false
   pub view : new ≡ with_one (returned k holder) old
 

@@ -8,6 +8,7 @@ mod claim;
 mod close;
 mod cut;
 mod met;
+mod park;
 mod seat;
 mod steps;
 mod table;

@@ -1,11 +1,13 @@
 //! Turns that meet another node.
-ghost use Rattle.std.specs.Prelude.{◌≡◌, ◌<◌, IfErr, IfOk, IsTrue};
+ghost use Rattle.std.specs.Prelude.{◌≡◌, ◌<◌, IfErr, IfOk, IsTrue, false};
 ghost use Rattle.lio_cells.specs.State.{ready};
 ghost use Rattle.lio_config.specs.Takes.{PlansVisit};
 ghost use Rattle.lio_table_rule.specs.Views.{rights};
 ghost use Rattle.lio_table.specs.Holders.{CanPutBoth, PutsBoth, Stand};
 ghost use Rattle.lio_table.specs.Moves.{MovesBoth, ReturnsBoth};
+ghost use Rattle.lio_table.specs.Waits.{LeavesBoth};
 
+use crate::park::park;
 use crate::seat::NodeSeat;
 use crate::table::Table;
 use lio_cells::Waiters;
@@ -36,6 +38,33 @@ impl Table {
     {
         self.put(seat, n, met);
         self.put(seat, k, holder);
+    }
+
+    /// Gives back two nodes that were taken, of which the met one isn't ready for the turn of a
+    /// task. The task waits at it from then on. After a refusal of memory both are as they were.
+    pub(crate) fn leave(
+        &self,
+        seat: &mut NodeSeat,
+        k: u32,
+        n: u32,
+        holder: Held<Holder>,
+        mut met: Held<Holder>,
+        act: &Act,
+    ) -> Result<(), NoMemory>
+        requires table { seat.old.table_id ≡ self.now.nodes.shared.table_id }
+        requires some { 0 < rights seat.old.me.0 }
+        requires actor { k < self.now.len }
+        requires target { n < self.now.len }
+        requires can_put { CanPutBoth k n holder met seat.old.me }
+        requires unready { ready met.node.state act.now ≡ false }
+        ensures table { seat.new.table_id ≡ seat.old.table_id }
+        ensures ok { IfOk result
+            (λ _. LeavesBoth k n holder met act.now seat.old.me seat.new.me) }
+        ensures err { IfErr result (λ _. ReturnsBoth k n holder met seat.old.me seat.new.me) }
+    {
+        let parked = park(met.get_mut(), k, act);
+        self.put_both(seat, k, n, holder, met);
+        parked
     }
 
     /// Lets a task take a turn that meets another node, where both nodes were taken and the met one

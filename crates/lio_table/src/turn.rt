@@ -4,7 +4,7 @@ ghost use Rattle.lio_config.specs.Takes.{PlansFull, PlansOwn, PlansVisit};
 ghost use Rattle.lio_table_rule.specs.declared.view.View.{View};
 ghost use Rattle.lio_table.specs.Tables.{IsSeatOf, first_of, view_of};
 ghost use Rattle.lio_table.specs.Turns.{TurnRefused, TurnSays, born_at};
-ghost use Rattle.lio_table.specs.Taken.{EndsTurn, HasOne, HasTwo, RefusesTurn};
+ghost use Rattle.lio_table.specs.Taken.{EndsTurn, HasOne, HasTwo, IsInTurn, RefusesTurn};
 ghost use Rattle.lio_table.specs.Taken.{tickets_of, woken_or};
 
 use crate::seat::{LioSeat, NodeSeat};
@@ -27,7 +27,8 @@ pub enum TurnEnd {
     Moved(u64, Option<u32>, Waiters),
     /// Another seat held the node with this number, the task's own or the one that its turn meets.
     Busy(u32),
-    /// The node that the turn of the task with this number meets isn't ready for it.
+    /// The node that the turn of the task with this number meets isn't ready for it. The task waits
+    /// at it, unless it is the task's own.
     Still(u32),
     /// The task with this number has ended, or there is none.
     Over(u32),
@@ -109,12 +110,9 @@ impl Table {
         k: u32,
     ) -> Result<TurnEnd, NoMemory>
         requires table { seat.old.table_id ≡ self.now.nodes.shared.table_id }
-        requires first { seat.old.me.0.first ≡ first_of self.now }
+        requires turn { IsInTurn self.now script.now k seat.old.me }
         requires bare { seat.old.me.0.claimed ≡ [] }
         requires slots { seat.old.me.1 ≡ [] }
-        requires left { 0 < seat.old.me.0.left }
-        requires script { script.now ≡ (first_of self.now).script }
-        requires node { k < self.now.len }
         ensures table { seat.new.table_id ≡ seat.old.table_id }
         ensures ok { IfOk result (λ end. EndsTurn k seat.old.me.0 end seat.new.me) }
         ensures err { IfErr result (λ _. RefusesTurn k seat.old.me.0 seat.new.me) }
@@ -146,10 +144,7 @@ impl Table {
         entry: &mut Entry,
     ) -> Result<TurnEnd, NoMemory>
         requires table { seat.old.table_id ≡ self.now.nodes.shared.table_id }
-        requires first { seat.old.me.0.first ≡ first_of self.now }
-        requires script { script.now ≡ (first_of self.now).script }
-        requires left { 0 < seat.old.me.0.left }
-        requires node { k < self.now.len }
+        requires turn { IsInTurn self.now script.now k seat.old.me }
         requires has { (before : View) × HasOne before k holder seat.old.me }
         ensures table { seat.new.table_id ≡ seat.old.table_id }
         ensures ok { (before : View) → HasOne before k holder seat.old.me
@@ -217,10 +212,7 @@ impl Table {
         entry: &mut Entry,
     ) -> Result<TurnEnd, NoMemory>
         requires table { seat.old.table_id ≡ self.now.nodes.shared.table_id }
-        requires first { seat.old.me.0.first ≡ first_of self.now }
-        requires script { script.now ≡ (first_of self.now).script }
-        requires left { 0 < seat.old.me.0.left }
-        requires node { k < self.now.len }
+        requires turn { IsInTurn self.now script.now k seat.old.me }
         requires has { (before : View) × HasOne before k holder seat.old.me }
         requires plans { PlansOwn script.now self.now.longest holder.task act reply way }
         ensures table { seat.new.table_id ≡ seat.old.table_id }
@@ -248,10 +240,7 @@ impl Table {
         entry: &mut Entry,
     ) -> Result<TurnEnd, NoMemory>
         requires table { seat.old.table_id ≡ self.now.nodes.shared.table_id }
-        requires first { seat.old.me.0.first ≡ first_of self.now }
-        requires script { script.now ≡ (first_of self.now).script }
-        requires left { 0 < seat.old.me.0.left }
-        requires node { k < self.now.len }
+        requires turn { IsInTurn self.now script.now k seat.old.me }
         requires has { (before : View) × HasOne before k holder seat.old.me }
         requires plans { PlansFull script.now self.now.longest holder.task full }
         ensures table { seat.new.table_id ≡ seat.old.table_id }
@@ -308,10 +297,7 @@ impl Table {
         entry: &mut Entry,
     ) -> Result<TurnEnd, NoMemory>
         requires table { seat.old.table_id ≡ self.now.nodes.shared.table_id }
-        requires first { seat.old.me.0.first ≡ first_of self.now }
-        requires script { script.now ≡ (first_of self.now).script }
-        requires left { 0 < seat.old.me.0.left }
-        requires node { k < self.now.len }
+        requires turn { IsInTurn self.now script.now k seat.old.me }
         requires has { (before : View) × HasOne before k holder seat.old.me }
         requires plans { PlansVisit script.now self.now.longest holder.task act n onward }
         ensures table { seat.new.table_id ≡ seat.old.table_id }
@@ -352,10 +338,7 @@ impl Table {
         entry: &mut Entry,
     ) -> Result<TurnEnd, NoMemory>
         requires table { seat.old.table_id ≡ self.now.nodes.shared.table_id }
-        requires first { seat.old.me.0.first ≡ first_of self.now }
-        requires script { script.now ≡ (first_of self.now).script }
-        requires left { 0 < seat.old.me.0.left }
-        requires node { k < self.now.len }
+        requires turn { IsInTurn self.now script.now k seat.old.me }
         requires target { n < self.now.len }
         requires has { (before : View) × HasTwo before k n holder met seat.old.me }
         requires plans { PlansVisit script.now self.now.longest holder.task act n onward }
@@ -366,10 +349,13 @@ impl Table {
             → IfErr result (λ _. RefusesTurn k before seat.new.me) }
     {
         if !met.get().node.ready(&act) {
-            drop(act);
             drop(onward);
-            self.put_both(seat, k, n, holder, met);
-            return Ok(TurnEnd::Still(k));
+            let left = self.leave(seat, k, n, holder, met, &act);
+            drop(act);
+            return match left {
+                Ok(()) => Ok(TurnEnd::Still(k)),
+                Err(NoMemory) => Err(NoMemory),
+            };
         }
         let moved = self.move_meeting(alloc, seat, script, k, holder, n, met, act, onward, entry);
         match moved {

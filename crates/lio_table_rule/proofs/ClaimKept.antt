@@ -1,13 +1,14 @@
 -- A claim keeps the rule.
-use Rattle.std.proofs.Common.{◌≡◌, ◌∙◌, refl, sym, ap, subst, arith, ℕ, ◌+◌, ◌-◌, ◌^◌, ◌<◌, ◌⊎◌, inl, inr, Bool, true, false, eqb, MatchBool, [], length, set, slice_index, Contains, Option, Some, None, length-set, get_or-set_same, get_or-set_other, eq-eqb, ne_eqb}
+use Rattle.std.proofs.Common.{◌≡◌, ◌∙◌, refl, sym, ap, subst, arith, ℕ, ◌+◌, ◌-◌, ◌^◌, ◌<◌, ◌⊎◌, inl, inr, Bool, true, false, eqb, MatchBool, List, [], length, set, slice_index, Contains, Option, Some, None, length-set, get_or-set_same, get_or-set_other, eq-eqb, ne_eqb}
 use Rattle.std.proofs.lemmas.List.{set-get_or}
 use mathlib.Core.Logic.{dite}
 use mathlib.Core.Option.{none, some}
 use native.Mathlib.Decide.{ℕ_discrete}
 use prog.Atomic.{either}
 use lib.ListN.{get_elem?}
-use Rattle.atomic_table.specs.Table.{Act, Allows, Valid, carried_after, keeps, step, stepped, takes}
-use Rattle.atomic_table.proofs.Lists.{set_else}
+use Rattle.atomic_table.specs.Table.{Act, Valid, carried_after, keeps, stepped, takes}
+use Rattle.atomic_table.proofs.Lists.{set_else, set_here}
+use Rattle.lio_values.specs.declared.entry.Entry.{Entry}
 use Rattle.lio_calculus_logs.specs.Logs.{folded}
 use Rattle.lio_calculus_logs.specs.Journals.{of_cell}
 use Rattle.lio_calculus_logs.proofs.JournalLemmas.{has-cases, has-first, has-later}
@@ -16,8 +17,9 @@ use Rattle.lio_table_rule.specs.declared.view.Beginning.{Beginning}
 use Rattle.lio_table_rule.specs.declared.view.Claimed.{Claimed}
 use Rattle.lio_table_rule.specs.declared.view.View.{View}
 use Rattle.lio_table_rule.specs.Views.{HasLog, HoldsNode, configuration_from, rights}
-use Rattle.lio_table_rule.specs.Rule.{HaveOwners, IsAt, IsAtHome, IsWithSeat, Keeps, TableState}
-use Rattle.lio_table_rule.specs.Steps.{Claims, FindsTaken, SeatState, TakesNode, with_busy, with_node}
+use Rattle.lio_table_rule.specs.Rule.{HaveOwners, IsAt, IsAtHome, IsWithSeat, Keeps, KeepsWith, TableState}
+use Rattle.lio_table_rule.specs.Laws.{ClaimsUnder}
+use Rattle.lio_table_rule.specs.Steps.{FindsTaken, SeatState, TakesNode, with_busy, with_node}
 use Rattle.lio_table_rule.proofs.Lists.{at-one, at-set}
 use Rattle.lio_table_rule.proofs.Seats.{owners-move, owners-set}
 use Rattle.lio_table_rule.proofs.Tickets.{alone, tickets-stay}
@@ -34,12 +36,15 @@ module _ (first : Beginning) (slots id n : ℕ) (me : SeatState) (some_of : 0 < 
   in-words : n + 1 < length s.words
   in-words = let words_are = kept.owners.words in let there = within in omega (arith, words_are, there)
 
+  in-homes : n < length s.homes
+  in-homes = let slots_are = kept.owners.slots in let there = within in omega (arith, slots_are, there)
+
   knows : me.0.first ≡ first
   knows = (kept.tickets.seats id me.0 is).knows some_of
 
   -- what a claim owes, by whether it found 0
   abbrev Owes : Bool → Type 0
-  Owes b = (w : View) × (a : Act (Option Holder)) × Valid s.homes me.1 a × Keeps first (stepped s (n + 1) (either b 1 found) id me.1 w a)
+  Owes b = (w : View) × (a : Act (Option Holder)) × Valid s.homes me.1 a × KeepsWith first kept.journal (stepped s (n + 1) (either b 1 found) id me.1 w a)
       × MatchBool b (TakesNode n me (w, carried_after me.1 a)) (FindsTaken n me (w, carried_after me.1 a))
 
   -- the node was at home
@@ -53,6 +58,7 @@ module _ (first : Beginning) (slots id n : ℕ) (me : SeatState) (some_of : 0 < 
     here : IsWithSeat after n id
     here = record {
       word = get_or-set_same s.words (n + 1) 1 0 in-words;
+      slot = set_here s.homes n none in-homes;
       view = new;
       is_view = at-set s.views id me.0 new is;
       holds = record { node = _; has = has-first _ me.0.claimed; number = refl };
@@ -69,13 +75,16 @@ module _ (first : Beginning) (slots id n : ℕ) (me : SeatState) (some_of : 0 < 
     takes-owners = owners-move first kept.journal s kept.owners id me.0 new is n 1 (set s.homes n none) (Some id) within (inl is_home) (length-set s.homes n none)
         (λ m other. set_else s.homes n m none other) here (λ m other holds. record { node = holds.node; has = has-later _ me.0.claimed holds.node holds.has; number = holds.number }) held
 
-    takes-keeps : Keeps first after
-    takes-keeps = record {
-      journal = kept.journal;
-      owners = takes-owners;
-      tickets = tickets-stay first kept.journal s kept.tickets id me.0 is (set s.words (n + 1) 1) (set s.homes n none) new (get_or-set_other s.words (n + 1) 0 1 0 (λ e. omega arith)) some_of refl refl refl;
-      turns = kept.turns;
-    }
+    takes-keeps : KeepsWith first kept.journal after
+    takes-keeps = (
+      record {
+        journal = kept.journal;
+        owners = takes-owners;
+        tickets = tickets-stay first kept.journal s kept.tickets id me.0 is (set s.words (n + 1) 1) (set s.homes n none) new (get_or-set_other s.words (n + 1) 0 1 0 (λ e. omega arith)) some_of refl refl refl;
+        turns = kept.turns;
+      },
+      refl,
+    )
 
     pub takes-node : Owes true
     takes-node = (
@@ -88,8 +97,8 @@ module _ (first : Beginning) (slots id n : ℕ) (me : SeatState) (some_of : 0 < 
         slot = refl;
         view = refl;
         has_log = subst (λ log. HasLog me.0.first n log home.holder) (sym home.has_log.log) (subst (λ (f : Beginning). HasLog f n (of_cell n kept.journal) home.holder) (sym knows) home.has_log);
-        whole = folded (configuration_from first) (λ m. of_cell m takes-keeps.journal);
-        stand = stand first after takes-keeps id new (at-set s.views id me.0 new is) knows;
+        whole = folded (configuration_from first) (λ m. of_cell m takes-keeps.0.journal);
+        stand = stand first after takes-keeps.0 id new (at-set s.views id me.0 new is) knows;
       },
     )
 
@@ -99,15 +108,21 @@ module _ (first : Beginning) (slots id n : ℕ) (me : SeatState) (some_of : 0 < 
     with_busy n me.0,
     keeps,
     tt,
-    subst (λ words. Keeps first (record { words = words; homes = s.homes; views = set s.views id (with_busy n me.0) })) (sym (set-get_or s.words (n + 1) 0)) (record {
-      journal = kept.journal;
-      owners = owners-set first kept.journal s kept.owners id me.0 (with_busy n me.0) is (λ m holds. record { node = holds.node; has = holds.has; number = holds.number }) (λ node has. has);
-      tickets = tickets-stay first kept.journal s kept.tickets id me.0 is s.words s.homes (with_busy n me.0) refl some_of refl refl refl;
-      turns = kept.turns;
-    }),
+    subst (λ words. KeepsWith first kept.journal (record { words = words; homes = s.homes; views = set s.views id (with_busy n me.0) })) (sym (set-get_or s.words (n + 1) 0)) busy-keeps,
     record { seat = refl; not_alone = λ all. with_other all (kept.owners.owner n) (kept.owners.nodes n within) },
   )
     where
+      busy-keeps : KeepsWith first kept.journal (record { words = s.words; homes = s.homes; views = set s.views id (with_busy n me.0) })
+      busy-keeps = (
+        record {
+          journal = kept.journal;
+          owners = owners-set first kept.journal s kept.owners id me.0 (with_busy n me.0) is (λ m holds. record { node = holds.node; has = holds.has; number = holds.number }) (λ node has. has);
+          tickets = tickets-stay first kept.journal s kept.tickets id me.0 is s.words s.homes (with_busy n me.0) refl some_of refl refl refl;
+          turns = kept.turns;
+        },
+        refl,
+      )
+
       nothing : (node : Claimed) → Contains [] node → ⊥
       nothing node (k, below, at) = absurd (omega arith)
 
@@ -126,14 +141,19 @@ module _ (first : Beginning) (slots id n : ℕ) (me : SeatState) (some_of : 0 < 
   claims = dite (ℕ_discrete found 0) (λ free. subst Owes (sym (eq-eqb found 0 free)) (found-home free (kept.owners.owner n) refl (kept.owners.nodes n within)))
       (λ taken. subst Owes (sym (ne_eqb found 0 taken)) (finds-taken taken))
 
-pub claim-kept : (first : Beginning) (slots id n : ℕ) (me : SeatState) → 0 < rights me.0 → n < slots → (HoldsNode me.0 n → ⊥)
-    → Allows (Keeps first) slots id me (n + 1) (λ found. either (eqb found 0) 1 found) (Claims (step slots (n + 1) 0 1 none) me)
-claim-kept first slots id n me some_of inside not_held s kept sized is small =
+-- the journal stays as it was
+pub claim-leaves : (first : Beginning) (journal : List Entry) → ClaimsUnder (KeepsWith first journal)
+claim-leaves first journal slots id n me some_of inside not_held s (kept, same) sized is small =
     let node : n + 1 - 1 ≡ n = omega arith in
     let owes = claims first slots id n me some_of inside not_held s kept sized is in (
       owes.0,
       owes.1,
       owes.2,
-      owes.3,
+      (owes.3.0, owes.3.1 ∙ same),
       subst (λ m. MatchBool (eqb (slice_index s.words (n + 1)) 0) (TakesNode m me (owes.0, carried_after me.1 owes.1)) (FindsTaken m me (owes.0, carried_after me.1 owes.1))) (sym node) owes.4,
     )
+
+-- so the rule is kept
+pub claim-kept : (first : Beginning) → ClaimsUnder (Keeps first)
+claim-kept first slots id n me some_of inside not_held s kept sized is small =
+    let owes = claim-leaves first kept.journal slots id n me some_of inside not_held s (kept, refl) sized is small in (owes.0, owes.1, owes.2, owes.3.0, owes.4)

@@ -21,6 +21,7 @@ use Rattle.lio_table_rule.specs.declared.view.View.{View}
 use Rattle.lio_table_rule.specs.Views.{HasLog, configuration_from, rights}
 use Rattle.lio_table_rule.specs.Rule.{HaveSameDraws, IsAt, Keeps, TableState, draws_of}
 use Rattle.lio_table_rule.specs.Ends.{HasRun, logs_in}
+use Rattle.lio_table_rule.specs.Laws.{ClosedTableHasRun}
 use Rattle.lio_table_rule.proofs.Lists.{all-there, at-one, sum-sole, there}
 use Rattle.lio_table_rule.proofs.Opening.{at-or, cell-from}
 use Rattle.lio_table_rule.proofs.Standing.{program-from, size-from}
@@ -83,28 +84,35 @@ module _ (first : Beginning) (id : ℕ) (view : View) (s : TableState) (kept : K
         let program : (folded c (λ m. of_cell m kept.journal)).program ≡ (configuration_from last).program = folded-program c kept.journal kept.turns ∙ program-from first ∙ sym (program-from last) in
         λ i. record { program = program i; cells = cells i }
 
-    pub has-run : HasRun first view holders
+    pub has-run : (ran : HasRun first view holders) × (ran.journal ≡ kept.journal)
     has-run =
-        let ran = turns-run c kept.journal kept.turns in
-        record {
-          journal = kept.journal;
-          mergeable = parts-mergeable (logs_in holders) kept.journal logs-are kept.turns.numbered;
-          merged = parts-merged (logs_in holders) kept.journal logs-are kept.turns.numbered;
-          numbered = kept.turns.numbered;
-          run = ran.is_run ∙ ap (λ (d : Configuration). let r : Ran = record { entries = kept.journal; last = d } in Some r) last-is;
-          sound = subst IsSound last-is ran.sound;
-          drawn = all-drawn;
-        }
+        let ran = turns-run c kept.journal kept.turns in (
+          record {
+            journal = kept.journal;
+            mergeable = parts-mergeable (logs_in holders) kept.journal logs-are kept.turns.numbered;
+            merged = parts-merged (logs_in holders) kept.journal logs-are kept.turns.numbered;
+            numbered = kept.turns.numbered;
+            run = ran.is_run ∙ ap (λ (d : Configuration). let r : Ran = record { entries = kept.journal; last = d } in Some r) last-is;
+            sound = subst IsSound last-is ran.sound;
+            drawn = all-drawn;
+          },
+          refl,
+        )
 
-pub closed-run : (first : Beginning) (id : ℕ) (view : View) (words : List ℕ) (slots : List (Option Holder)) → Final (Seen (Keeps first) id view) words slots → rights view ≡ 2 ^ 62 → view.claimed ≡ []
-    → (holders : List Holder) × (slots ≡ map Some holders) × HasRun first view holders
-closed-run first id view words slots (s, (kept, is), same_words, size, values) mine bare =
+-- the journal of the rule is what has run
+pub closed-with : ClosedTableHasRun
+closed-with first journal id view words slots (s, ((kept, same), is), same_words, size, values) mine bare =
     let all = all-there (λ n holder. HasLog first n (of_cell n kept.journal) holder) slots each in
     let many : length all.items ≡ length first.holders = sym (length-map all.items Some) ∙ sym (ap (λ (xs : List (Option Holder)). length xs) all.full) ∙ sym size ∙ kept.owners.slots in
-    (all.items, all.full, has-run first id view s kept is mine bare all.items many all.each)
+    let run = has-run first id view s kept is mine bare all.items many all.each in (all.items, all.full, (run.0, run.1 ∙ same))
   where
     each : (n : ℕ) → n < length slots → (holder : Holder) × (get_elem? slots n ≡ some (Some holder)) × HasLog first n (of_cell n kept.journal) holder
     each n within =
         let inside : n < length first.holders = subst (λ l. n < l) (sym size ∙ kept.owners.slots) within in
         let home = at-home first id view s kept is mine bare n (kept.owners.owner n) (kept.owners.nodes n inside) in
         (home.0, values n (Some home.0) home.1, home.2)
+
+pub closed-run : (first : Beginning) (id : ℕ) (view : View) (words : List ℕ) (slots : List (Option Holder)) → Final (Seen (Keeps first) id view) words slots → rights view ≡ 2 ^ 62 → view.claimed ≡ []
+    → (holders : List Holder) × (slots ≡ map Some holders) × HasRun first view holders
+closed-run first id view words slots (s, (kept, is), same_words, size, values) mine bare =
+    let ran = closed-with first kept.journal id view words slots (s, ((kept, refl), is), same_words, size, values) mine bare in (ran.0, ran.1, ran.2.0)

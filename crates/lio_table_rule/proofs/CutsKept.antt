@@ -1,17 +1,18 @@
 -- A seat that is cut in two, and two that are made one, keep the rule.
-use Rattle.std.proofs.Common.{◌≡◌, ◌∙◌, refl, sym, subst, arith, ℕ, ◌+◌, ◌<◌, ◌≤◌, ◌⊎◌, inl, inr, cond, [], ◌∷◌, ◌++◌, length, set, Contains, length-append}
+use Rattle.std.proofs.Common.{◌≡◌, ◌∙◌, refl, sym, subst, arith, ℕ, ◌+◌, ◌<◌, ◌≤◌, ◌⊎◌, inl, inr, cond, List, [], ◌∷◌, ◌++◌, length, set, Contains, length-append}
 use Rattle.std.proofs.lemmas.List.Elements.{Contains-append_cases}
 use Rattle.std.proofs.lemmas.List.Sums.{sum_by-append, sum_by_push}
 use mathlib.Core.Option.{some}
 use lib.ListN.{get_elem?}
-use Rattle.atomic_table.specs.Table.{Joins, Splits}
 use Rattle.atomic_table.proofs.Lists.{set_else}
+use Rattle.lio_values.specs.declared.entry.Entry.{Entry}
 use Rattle.lio_table_rule.specs.declared.view.Beginning.{Beginning}
 use Rattle.lio_table_rule.specs.declared.view.Claimed.{Claimed}
 use Rattle.lio_table_rule.specs.declared.view.Draw.{Draw}
 use Rattle.lio_table_rule.specs.declared.view.View.{View}
 use Rattle.lio_table_rule.specs.Views.{HoldsNode, rights}
-use Rattle.lio_table_rule.specs.Rule.{AreDrawn, HaveOwners, Keeps, TableState}
+use Rattle.lio_table_rule.specs.Rule.{AreDrawn, HaveOwners, Keeps, KeepsWith, TableState}
+use Rattle.lio_table_rule.specs.Laws.{JoinsUnder, SplitsUnder}
 use Rattle.lio_table_rule.specs.Cuts.{cut_left, cut_right, joined, spent}
 use Rattle.lio_table_rule.proofs.Lists.{sum-set}
 use Rattle.lio_table_rule.proofs.Seats.{owners-push, owners-set}
@@ -65,16 +66,24 @@ module _ (first : Beginning) (id : ℕ) (view : View) (tickets : ℕ) (some_of :
     }) kept.tickets.seats);
   }
 
-  cut-keeps : Keeps first (record { words = s.words; homes = s.homes; views = set s.views id left ++ right ∷ [] })
-  cut-keeps = record {
-    journal = kept.journal;
-    owners = owners-push first kept.journal cut right cut-owners refl;
-    tickets = cut-tickets;
-    turns = kept.turns;
-  }
+  cut-keeps : KeepsWith first kept.journal (record { words = s.words; homes = s.homes; views = set s.views id left ++ right ∷ [] })
+  cut-keeps = (
+    record {
+      journal = kept.journal;
+      owners = owners-push first kept.journal cut right cut-owners refl;
+      tickets = cut-tickets;
+      turns = kept.turns;
+    },
+    refl,
+  )
 
-pub split-kept : (first : Beginning) (id : ℕ) (view : View) (tickets : ℕ) → 1 ≤ tickets → tickets < view.left → Splits (Keeps first) id view (cut_left tickets view) (cut_right tickets view)
-split-kept first id view tickets some_of less s kept is = cut-keeps first id view tickets some_of less s kept is
+-- the journal stays as it was, and so the rule is kept
+pub split-leaves : (first : Beginning) (journal : List Entry) → SplitsUnder (KeepsWith first journal)
+split-leaves first journal id view tickets some_of less s (kept, same) is =
+    let after = cut-keeps first id view tickets some_of less s kept is in (after.0, after.1 ∙ same)
+
+pub split-kept : (first : Beginning) → SplitsUnder (Keeps first)
+split-kept first id view tickets some_of less s kept is = (cut-keeps first id view tickets some_of less s kept is).0
 
 module _ (first : Beginning) (id : ℕ) (view : View) (other : ℕ) (its : View) (some_of : 0 < rights view) (bare : its.claimed ≡ []) (s : TableState) (kept : Keeps first s)
     (is : get_elem? s.views id ≡ some view) (apart : ¬ (other ≡ id)) (is_its : get_elem? (set s.views id (joined view its)) other ≡ some its) where
@@ -126,8 +135,13 @@ module _ (first : Beginning) (id : ℕ) (view : View) (other : ℕ) (its : View)
       below draw (inl has) = (kept.tickets.seats other its was).below draw has
       below draw (inr has) = (kept.tickets.seats id view is).below draw has
 
-  joined-keeps : Keeps first after
-  joined-keeps = record { journal = kept.journal; owners = joined-owners; tickets = joined-tickets; turns = kept.turns }
+  joined-keeps : KeepsWith first kept.journal after
+  joined-keeps = (record { journal = kept.journal; owners = joined-owners; tickets = joined-tickets; turns = kept.turns }, refl)
 
-pub join-kept : (first : Beginning) (id : ℕ) (view : View) (other : ℕ) (its : View) → 0 < rights view → its.claimed ≡ [] → Joins (Keeps first) id view other its (joined view its) spent
-join-kept first id view other its some_of bare s kept is apart is_its = joined-keeps first id view other its some_of bare s kept is apart is_its
+-- the journal stays as it was, and so the rule is kept
+pub join-leaves : (first : Beginning) (journal : List Entry) → JoinsUnder (KeepsWith first journal)
+join-leaves first journal id view other its some_of bare s (kept, same) is apart is_its =
+    let after = joined-keeps first id view other its some_of bare s kept is apart is_its in (after.0, after.1 ∙ same)
+
+pub join-kept : (first : Beginning) → JoinsUnder (Keeps first)
+join-kept first id view other its some_of bare s kept is apart is_its = (joined-keeps first id view other its some_of bare s kept is apart is_its).0

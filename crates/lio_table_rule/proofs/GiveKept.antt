@@ -1,10 +1,11 @@
 -- A node that is given back keeps the rule.
 use Rattle.std.proofs.Common.{◌≡◌, ◌∙◌, refl, sym, ap, subst, arith, ℕ, ◌+◌, ◌-◌, ◌<◌, inl, inr, true, true≢false, eqb, not, eq-eqb, ne_eqb, List, ◌∷◌, length, set, Option, Some, None, length-set, get_or-set_same, get_or-set_other}
-use mathlib.Core.Option.{none, some}
+use mathlib.Core.Option.{some}
 use mathlib.Core.Option as maybe
 use lib.ListN.{get_elem?}
-use Rattle.atomic_table.specs.Table.{Act, Allows, Valid, carried_after, gives, step, stepped}
+use Rattle.atomic_table.specs.Table.{Act, Valid, carried_after, gives, stepped}
 use Rattle.atomic_table.proofs.Lists.{set_else, set_here}
+use Rattle.lio_values.specs.declared.entry.Entry.{Entry}
 use Rattle.lio_calculus_logs.specs.Journals.{of_cell}
 use Rattle.lio_calculus_logs.proofs.JournalLemmas.{from-part, in-part, passes-part}
 use Rattle.lio_config.specs.declared.config.Holder.{Holder}
@@ -12,8 +13,9 @@ use Rattle.lio_table_rule.specs.declared.view.Beginning.{Beginning}
 use Rattle.lio_table_rule.specs.declared.view.Claimed.{Claimed}
 use Rattle.lio_table_rule.specs.declared.view.View.{View}
 use Rattle.lio_table_rule.specs.Views.{HasLog, rights}
-use Rattle.lio_table_rule.specs.Rule.{HaveOwners, IsAtHome, IsHeldBy, Keeps, TableState}
-use Rattle.lio_table_rule.specs.Steps.{CanGive, Gives, GivesNode, SeatState, with_given}
+use Rattle.lio_table_rule.specs.Rule.{HaveOwners, IsAtHome, IsHeldBy, Keeps, KeepsWith, TableState}
+use Rattle.lio_table_rule.specs.Laws.{GivesUnder}
+use Rattle.lio_table_rule.specs.Steps.{CanGive, GivesNode, SeatState, with_given}
 use Rattle.lio_table_rule.proofs.Seats.{owners-move}
 use Rattle.lio_table_rule.proofs.Tickets.{tickets-stay}
 
@@ -73,24 +75,32 @@ module _ (first : Beginning) (slots id n : ℕ) (me : SeatState) (some_of : 0 < 
         from-part (λ y. not (eqb y.number node.number)) me.0.claimed x has,
       ))
 
-  gives-keeps : Keeps first after
-  gives-keeps = record {
-    journal = kept.journal;
-    owners = gives-owners;
-    tickets = tickets-stay first kept.journal s kept.tickets id me.0 is (set s.words (n + 1) 0) homes new (get_or-set_other s.words (n + 1) 0 0 0 (λ e. omega arith)) some_of refl refl refl;
-    turns = kept.turns;
-  }
+  gives-keeps : KeepsWith first kept.journal after
+  gives-keeps = (
+    record {
+      journal = kept.journal;
+      owners = gives-owners;
+      tickets = tickets-stay first kept.journal s kept.tickets id me.0 is (set s.words (n + 1) 0) homes new (get_or-set_other s.words (n + 1) 0 0 0 (λ e. omega arith)) some_of refl refl refl;
+      turns = kept.turns;
+    },
+    refl,
+  )
 
   -- what a give owes, by the slots that are out with the seat
   abbrev Owes : List (ℕ × Option Holder) → Type 0
-  Owes out = (w : View) × (a : Act (Option Holder)) × Valid s.homes out a × Keeps first (stepped s (n + 1) 0 id out w a) × GivesNode n me (w, carried_after out a)
+  Owes out = (w : View) × (a : Act (Option Holder)) × Valid s.homes out a × KeepsWith first kept.journal (stepped s (n + 1) 0 id out w a) × GivesNode n me (w, carried_after out a)
 
   pub gives-node : Owes ((n, Some can.holder) ∷ can.rest)
   gives-node = (new, gives, tt, gives-keeps, record { holder = can.holder; slot = can.slot; holds = can.holds; view = refl })
 
-pub give-kept : (first : Beginning) (slots id n : ℕ) (me : SeatState) → 0 < rights me.0 → CanGive n me
-    → Allows (Keeps first) slots id me (n + 1) (λ found. 0) (λ found. Gives (step slots (n + 1) 0 0 none) me 0)
-give-kept first slots id n me some_of can s kept sized is small =
+-- the journal stays as it was
+pub give-leaves : (first : Beginning) (journal : List Entry) → GivesUnder (KeepsWith first journal)
+give-leaves first journal slots id n me some_of can s (kept, same) sized is small =
     let node : n + 1 - 1 ≡ n = omega arith in
     let owes = subst (Owes first slots id n me some_of can s kept sized is) (sym can.slot) (gives-node first slots id n me some_of can s kept sized is) in
-    (owes.0, owes.1, owes.2, owes.3, subst (λ m. GivesNode m me (owes.0, carried_after me.1 owes.1)) (sym node) owes.4)
+    (owes.0, owes.1, owes.2, (owes.3.0, owes.3.1 ∙ same), subst (λ m. GivesNode m me (owes.0, carried_after me.1 owes.1)) (sym node) owes.4)
+
+-- so the rule is kept
+pub give-kept : (first : Beginning) → GivesUnder (Keeps first)
+give-kept first slots id n me some_of can s kept sized is small =
+    let owes = give-leaves first kept.journal slots id n me some_of can s (kept, refl) sized is small in (owes.0, owes.1, owes.2, owes.3.0, owes.4)

@@ -22,14 +22,13 @@ Holding views seat n = (view : View) × (get_elem? views seat ≡ some view) × 
 
 -- a node stays where it is
 pub stays-at : (first : Beginning) (journal more : List Entry) (s t : TableState) (n : ℕ) (place : Option ℕ) → IsAt first journal s n place → slice_index t.words (n + 1) ≡ slice_index s.words (n + 1)
-    → (place ≡ None → (get_elem? t.homes n ≡ get_elem? s.homes n) × (of_cell n more ≡ of_cell n journal)) → ((seat : ℕ) (view : View) → get_elem? s.views seat ≡ some view → HoldsNode view n → Holding t.views seat n)
+    → get_elem? t.homes n ≡ get_elem? s.homes n → (place ≡ None → of_cell n more ≡ of_cell n journal) → ((seat : ℕ) (view : View) → get_elem? s.views seat ≡ some view → HoldsNode view n → Holding t.views seat n)
     → IsAt first more t n place
-stays-at first journal more s t n None is word home views =
-    let same = home refl in
-    record { word = word ∙ is.word; holder = is.holder; slot = same.0 ∙ is.slot; has_log = subst (λ log. HasLog first n log is.holder) (sym same.1) is.has_log }
-stays-at first journal more s t n (Some seat) is word home views =
+stays-at first journal more s t n None is word slot home views =
+    record { word = word ∙ is.word; holder = is.holder; slot = slot ∙ is.slot; has_log = subst (λ log. HasLog first n log is.holder) (sym (home refl)) is.has_log }
+stays-at first journal more s t n (Some seat) is word slot home views =
     let now = views seat is.view is.is_view is.holds in
-    record { word = word ∙ is.word; view = now.0; is_view = now.1; holds = now.2 }
+    record { word = word ∙ is.word; slot = slot ∙ is.slot; view = now.0; is_view = now.1; holds = now.2 }
 
 -- a node is held as before where one view has changed
 pub holding-set : (views : List View) (id : ℕ) (old new : View) (n : ℕ) → get_elem? views id ≡ some old → (HoldsNode old n → HoldsNode new n)
@@ -47,7 +46,7 @@ module _ (first : Beginning) (journal : List Entry) (s : TableState) (owners : H
     owner = owners.owner;
     words = owners.words;
     slots = owners.slots;
-    nodes = λ n within. stays-at first journal journal s _ n (owners.owner n) (owners.nodes n within) refl (λ home. (refl, refl)) (holding-set s.views id old new n is (more n));
+    nodes = λ n within. stays-at first journal journal s _ n (owners.owner n) (owners.nodes n within) refl refl (λ home. refl) (holding-set s.views id old new n is (more n));
     seats = λ seat view at node has. ⊎_elim
         (λ t. subst (λ (j : ℕ). IsHeldBy first journal owners.owner j node) (sym t.0) (owners.seats id old is node (less node (subst (λ v. Contains v.claimed node) (sym t.1) has))))
         (λ t. owners.seats seat view t.1 node has) (at-set-cases s.views id seat new view at);
@@ -87,7 +86,7 @@ module _ (first : Beginning) (journal : List Entry) (s : TableState) (owners : H
           (λ same. subst (λ k. IsAt first journal after k (owner-after k)) (sym same) (subst (IsAt first journal after n) (sym (put-here owners.owner n place)) here))
           (λ other. subst (IsAt first journal after m) (sym (put-else owners.owner n place m other))
           (stays-at first journal journal s after m (owners.owner m) (owners.nodes m inside) (get_or-set_other s.words (n + 1) (m + 1) x 0 (λ e. other (omega arith)))
-          (λ home. (others m other, refl)) (holding-set s.views id old new m is (more m other))));
+          (others m other) (λ home. refl) (holding-set s.views id old new m is (more m other))));
       seats = λ seat view at node has. ⊎_elim
           (λ t. subst (λ (j : ℕ). IsHeldBy first journal owner-after j node) (sym t.0) (mine-after node (held node (subst (λ v. Contains v.claimed node) (sym t.1) has))))
           (λ t. stays seat node (elsewhere seat node t.0 (owners.seats seat view t.1 node has)) (owners.seats seat view t.1 node has)) (at-set-cases s.views id seat new view at);
@@ -108,7 +107,7 @@ owners-push first journal s new owners none = record {
   owner = owners.owner;
   words = owners.words;
   slots = owners.slots;
-  nodes = λ n within. stays-at first journal journal s _ n (owners.owner n) (owners.nodes n within) refl (λ home. (refl, refl)) (λ seat view at holds. (view, at_longer s.views (new ∷ []) seat view at, holds));
+  nodes = λ n within. stays-at first journal journal s _ n (owners.owner n) (owners.nodes n within) refl refl (λ home. refl) (λ seat view at holds. (view, at_longer s.views (new ∷ []) seat view at, holds));
   seats = λ seat view at node has. ⊎_elim (λ there. owners.seats seat view there node has)
       (λ same. absurd (nothing node (subst (λ nodes. Contains nodes node) (ap (λ (v : View). v.claimed) (sym same) ∙ none) has))) (at_snoc s.views new view seat at);
 }

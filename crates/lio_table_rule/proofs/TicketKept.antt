@@ -1,11 +1,11 @@
 -- A ticket that is drawn for a turn keeps the rule.
-use Rattle.std.proofs.Common.{◌≡◌, ◌∙◌, refl, sym, ap, subst, arith, ℕ, ◌+◌, ◌%◌, ◌^◌, ◌<◌, ◌⊎◌, ⊎_elim, inl, inr, Bool, cond, List, [], ◌∷◌, ◌++◌, length, map, set, All, Contains, count_by, sum_by, Option, Some, None, append-nil, length-append, length-set, get_or-set_same, get_or-set_other}
+use Rattle.std.proofs.Common.{◌≡◌, ◌∙◌, refl, sym, ap, subst, arith, ℕ, ◌+◌, ◌%◌, ◌^◌, ◌<◌, ◌⊎◌, ⊎_elim, inl, inr, Bool, cond, List, [], ◌∷◌, ◌++◌, length, map, set, All, Contains, count_by, sum_by, slice_index, Option, Some, None, append-nil, length-append, length-set, get_or-set_same, get_or-set_other}
 use Rattle.std.proofs.lemmas.List.Elements.{All-contains_itself, filter-append}
 use Rattle.std.proofs.lemmas.List.Sums.{sum_by-cons, sum_by_push}
 use mathlib.Core.List.{map-append}
-use mathlib.Core.Option.{none, some}
+use mathlib.Core.Option.{some}
 use lib.ListN.{get_elem?}
-use Rattle.atomic_table.specs.Table.{Act, Allows, Valid, carried_after, keeps, step, stepped}
+use Rattle.atomic_table.specs.Table.{Act, Valid, carried_after, keeps, stepped}
 use Rattle.atomic_table.proofs.Lists.{at_set as at-set-cases}
 use Rattle.lio_values.specs.declared.entry.Entry.{Entry}
 use Rattle.lio_calculus.specs.Effect.{touches}
@@ -18,8 +18,9 @@ use Rattle.lio_table_rule.specs.declared.view.Claimed.{Claimed}
 use Rattle.lio_table_rule.specs.declared.view.Draw.{Draw}
 use Rattle.lio_table_rule.specs.declared.view.View.{View}
 use Rattle.lio_table_rule.specs.Views.{HoldsNode, configuration_from, rights}
-use Rattle.lio_table_rule.specs.Rule.{AreDrawn, AreTurns, HasRights, HaveOwners, IsHeldBy, Keeps, TableState, draws_of}
-use Rattle.lio_table_rule.specs.Steps.{CanRecord, Draws, DrawsTicket, SeatState, with_entry, with_ticket, with_turn}
+use Rattle.lio_table_rule.specs.Rule.{AreDrawn, AreTurns, HasRights, HaveOwners, IsHeldBy, Keeps, KeepsWith, TableState, draws_of}
+use Rattle.lio_table_rule.specs.Laws.{TicketAddsItsEntry, TicketKeepsTheRule}
+use Rattle.lio_table_rule.specs.Steps.{CanRecord, DrawsTicket, SeatState, with_entry, with_ticket, with_turn}
 use Rattle.lio_table_rule.proofs.Lists.{sum-set}
 use Rattle.lio_table_rule.proofs.Seats.{holding-set, stays-at}
 use Rattle.lio_table_rule.proofs.Standing.{size-from, stand}
@@ -96,7 +97,7 @@ module _ (first : Beginning) (id : ℕ) (me : SeatState) (shows : Entry) (can : 
     words = length-set s.words 0 next ∙ kept.owners.words;
     slots = kept.owners.slots;
     nodes = λ n within. stays-at first journal more s (after next) n (kept.owners.owner n) (kept.owners.nodes n within) (get_or-set_other s.words 0 (n + 1) next 0 (λ e. omega arith))
-        (λ home. (refl, same-log n (λ owned. at-home home owned))) (holding-set s.views id me.0 new n is (still n));
+        refl (λ home. same-log n (λ owned. at-home home owned)) (holding-set s.views id me.0 new n is (still n));
     seats = λ seat view at node has. ⊎_elim
         (λ t. subst (λ (j : ℕ). IsHeldBy first more kept.owners.owner j node) (sym t.0) (mine-after node (was-held entry me.0.claimed node (subst (λ v. Contains v.claimed node) (sym t.1) has))))
         (λ t. other-after seat node t.0 (kept.owners.seats seat view t.1 node has)) (at-set-cases s.views id seat new view at);
@@ -175,14 +176,24 @@ module _ (first : Beginning) (id : ℕ) (me : SeatState) (shows : Entry) (can : 
   }
 
   abbrev Owes : ℕ → Type 0
-  Owes found = (w : View) × (a : Act (Option Holder)) × Valid s.homes me.1 a × Keeps first (stepped s 0 ((found + 1) % 2 ^ 64) id me.1 w a) × DrawsTicket shows me found (w, carried_after me.1 a)
+  Owes found = (w : View) × (a : Act (Option Holder)) × Valid s.homes me.1 a × KeepsWith first (journal ++ with_ticket shows found ∷ []) (stepped s 0 ((found + 1) % 2 ^ 64) id me.1 w a) × DrawsTicket shows me found (w, carried_after me.1 a)
 
   counted : (length journal + 1) % 2 ^ 64 ≡ length journal + 1
   counted = let below = told.below in omega (arith, below)
 
-  draws : Owes (length journal)
-  draws = (new, keeps, tt, record { journal = more; owners = owners-after _; tickets = tickets-after _ counted; turns = turns-after }, told)
+  draws-keeps : KeepsWith first more (after ((length journal + 1) % 2 ^ 64))
+  draws-keeps = (record { journal = more; owners = owners-after _; tickets = tickets-after _ counted; turns = turns-after }, refl)
 
-pub ticket-kept : (first : Beginning) (slots id : ℕ) (me : SeatState) (entry : Entry) → CanRecord entry me.0
-    → Allows (Keeps first) slots id me 0 (λ found. (found + 1) % 2 ^ 64) (Draws entry (step slots 0 1 0 none) me)
-ticket-kept first slots id me entry can s kept sized is small = subst (Owes first id me entry can s kept is) (sym kept.tickets.next) (draws first id me entry can s kept is)
+  draws : Owes (length journal)
+  draws = (new, keeps, tt, draws-keeps, told)
+
+-- its entry is added to the journal
+pub ticket-adds : TicketAddsItsEntry
+ticket-adds first past slots id me entry can s (kept, same) sized is =
+    let owes = subst (Owes first id me entry can s kept is) (sym kept.tickets.next) (draws first id me entry can s kept is) in
+    (owes.0, owes.1, owes.2, (owes.3.0, owes.3.1 ∙ ap (λ (j : List Entry). j ++ with_ticket entry (slice_index s.words 0) ∷ []) same), owes.4)
+
+-- so the rule is kept
+pub ticket-kept : TicketKeepsTheRule
+ticket-kept first slots id me entry can s kept sized is small =
+    let owes = ticket-adds first kept.journal slots id me entry can s (kept, refl) sized is in (owes.0, owes.1, owes.2, owes.3.0, owes.4)

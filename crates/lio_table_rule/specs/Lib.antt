@@ -1,5 +1,6 @@
 pub mod Views
 pub mod Rule
+pub mod Logs
 pub mod Steps
 pub mod Cuts
 pub mod Ends

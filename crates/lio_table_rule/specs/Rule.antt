@@ -2,7 +2,7 @@
 -- and slot n has its holder while it is at home. The entries of all turns, in the order of their tickets, are the journal; a node's log is its part of it.
 use Rattle.std.specs.Prelude.{◌≡◌, ℕ, ◌+◌, ◌^◌, ◌<◌, ◌≤◌, Bool, List, [], map, length, slice_index, Contains, Option, Some, None}
 use Rattle.std.specs.List.{count_by, sum_by}
-use mathlib.Core.Option.{some}
+use mathlib.Core.Option.{none, some}
 use lib.ListN.{get_elem?}
 use Rattle.atomic_table.specs.Table.{State}
 use Rattle.lio_values.specs.declared.entry.Entry.{Entry}
@@ -28,9 +28,10 @@ pub record IsAtHome (first : Beginning) (journal : List Entry) (s : TableState) 
   pub slot : get_elem? s.homes n ≡ some (some (Some holder))
   pub has_log : HasLog first n (of_cell n journal) holder
 
--- a node is with the seat with a number
+-- a node is with the seat with a number: its slot is out
 pub record IsWithSeat (s : TableState) (n seat : ℕ) : Type 0 where
   pub word : slice_index s.words (n + 1) ≡ 1
+  pub slot : get_elem? s.homes n ≡ some none
   pub view : View
   pub is_view : get_elem? s.views seat ≡ some view
   pub holds : HoldsNode view n
@@ -89,3 +90,7 @@ pub record Keeps (first : Beginning) (s : TableState) : Type 0 where
   pub owners : HaveOwners first journal s
   pub tickets : AreDrawn first journal s
   pub turns : AreTurns (configuration_from first) journal
+
+-- a table keeps the rule with this journal
+abbrev pub KeepsWith : Beginning → List Entry → TableState → Type 0
+KeepsWith first journal s = (kept : Keeps first s) × (kept.journal ≡ journal)

@@ -4,6 +4,7 @@ ghost use Rattle.lio_table_rule.specs.Laws.{GiveKeepsTheRule, SplitKeepsTheRule}
 ghost use Rattle.lio_table_rule.specs.Laws.{JoinKeepsTheRule, FreshTableMeetsTheRule};
 ghost use Rattle.lio_table_rule.specs.Laws.{ClosedTableHasRun, LookKeepsTheRule};
 ghost use Rattle.lio_table_rule.specs.Laws.{LogsAreLogged, SeatsNodesStand};
+ghost use Rattle.lio_table_rule.specs.Laws.{StepsLeaveTheJournal, TicketAddsItsEntry};
 
 /// A claim keeps the rule.
 pub fn claim_keeps_the_rule()
@@ -35,8 +36,18 @@ pub fn join_keeps_the_rule()
     ensures { JoinKeepsTheRule }
 {}
 
-/// At each moment the logs of all nodes, at home and with seats, are logs of turns from where the
-/// table began.
+/// A claim, a node that is given back, a look, a split and a join leave the journal as it was.
+pub fn steps_leave_the_journal()
+    ensures { StepsLeaveTheJournal }
+{}
+
+/// A ticket adds the entry of its turn to the journal, and nothing else.
+pub fn ticket_adds_its_entry()
+    ensures { TicketAddsItsEntry }
+{}
+
+/// At each moment the logs of all nodes, as slots and seats' views have them, are logs of turns
+/// from where the table began, and the journal is their merge.
 pub fn logs_are_logged()
     ensures { LogsAreLogged }
 {}

@@ -6,6 +6,7 @@ mod by_workers;
 mod gate;
 mod run;
 mod seats;
+mod shared;
 mod worker;
 
 pub use by_workers::run_by_workers;

@@ -1,39 +1,44 @@
 //! Runs by workers.
-ghost use Rattle.std.specs.Prelude.{◌≡◌, ◌<◌, ◌≤◌, ◌^◌, [], IfOk, length};
+ghost use Rattle.std.specs.Prelude.{◌≡◌, ◌<◌, ◌≤◌, ◌+◌, ◌^◌, [], IfOk, length};
 ghost use Rattle.lio_calculus_rounds.specs.WellFormed.{IsWellFormed};
 ghost use Rattle.lio_config.specs.Configuration.{configuration_of};
 ghost use Rattle.lio_config.specs.Logs.{AreFresh};
 ghost use Rattle.lio_rounds.specs.Runs.{HasItsLogs, IsCompleteRun, ran_of};
+ghost use Rattle.lio_runq.specs.Passes.{IsPassOf, left_of};
 ghost use Rattle.lio_table.specs.Tables.{first_of, view_of};
 ghost use Rattle.lio_table_rule.specs.Views.{configuration_from};
-ghost use Rattle.lio_workers.specs.Seated.{AreSeated, HasRights, HasTheRest};
+ghost use Rattle.lio_workers.specs.Seated.{AreWorkersAt, HasRights, IsWorkerAt};
 
 use crate::gate::Gate;
 use crate::seats::{rejoin, workers};
-use crate::worker::{SharedRun, Worker, work};
+use crate::shared::Shared;
+use crate::worker::{Worker, push, work};
 use lio_clauses::NoMemory;
 use lio_config::Config;
 use lio_merge::merged;
 use lio_rounds::{Machine, Ran};
+use lio_runq::{Bound, RunPass, RunQueue};
 use lio_syntax::Script;
 use lio_table::{LioSeat, Table};
 use std::alloc::Global;
-use std::collections::VecDeque;
-use std::sync::{Mutex, Wait};
+use std::marker::Brand;
+use std::sync::Wait;
 use std::thread;
 use std::thread::Threads;
 
-/// The numbers of a configuration's tasks.
-fn numbers_of(alloc: Global, config: &Config) -> Result<VecDeque<u32>, NoMemory>
-    requires { length config.now.holders.items < 2 ^ 31 }
+/// Puts the numbers of a configuration's tasks into the queue.
+fn fill<R: Wait, B: Bound>(rt: &R, numbers: &RunQueue<B>, pass: &mut RunPass<B>, config: &Config)
+    requires pass { IsPassOf numbers.now.numbers pass.old.seat }
+    requires bound { length config.now.holders.items ≡ B.bound }
+    requires few { B.bound < 2 ^ 31 }
+    ensures pass { IsPassOf numbers.now.numbers pass.new.seat }
+    ensures left { left_of pass.old.seat ≤ left_of pass.new.seat + B.bound }
 {
-    let mut numbers = VecDeque::new(alloc);
     for (k, holder) in config.holders.iter().enumerate() {
         if holder.task.is_some() {
-            numbers.push_back(k as u32)?;
+            push(rt, numbers, pass, k as u32);
         }
     }
-    Ok(numbers)
 }
 
 /// Ends a table, takes the turns that the workers left, and ends the run.
@@ -73,71 +78,102 @@ fn close(alloc: Global, table: Table, seat: LioSeat, script: Script) -> Result<R
 }
 
 /// Lets workers take the turns of a table's tasks, until each of them ends.
-fn let_work<R: Threads + Wait + Sync, G: Gate + Sync>(
+fn let_work<R: Threads + Wait + Sync, G: Gate + Sync, B: Bound + Send + Sync>(
     rt: &R,
     alloc: Global,
-    shared: &SharedRun,
+    shared: &Shared<B>,
     script: &Script,
-    workers: &mut [Worker],
+    workers: &mut [Worker<B>],
     count: u32,
     gate: &G,
 )
     requires count { 1 ≤ count }
     requires script { script.now ≡ (first_of shared.now.table).script }
-    requires seated { AreSeated shared.now.table workers.old }
-    ensures seated { AreSeated shared.now.table workers.new }
+    requires workers { AreWorkersAt shared.now workers.old }
+    ensures workers { AreWorkersAt shared.now workers.new }
     ensures many { length workers.new ≡ length workers.old }
 {
     thread::for_each_mut(
         rt,
         workers,
         count as usize,
-        &|_: usize, worker: &mut Worker|
+        &|_: usize, worker: &mut Worker<B>|
             requires script { script.now ≡ (first_of shared.now.table).script }
-            requires seated { HasRights shared.now.table (2 ^ 55) worker.old.seat }
-            ensures { HasRights shared.entry.now.table (2 ^ 55) worker.new.seat }
+            requires worker { IsWorkerAt shared.now worker.old }
+            ensures { IsWorkerAt shared.entry.now worker.new }
         { work(rt, alloc, shared, script, gate, worker) },
     );
 }
 
-/// Lets workers take the turns of a table's tasks, and gives the table back with a seat that has all
-/// tickets.
-fn share<R: Threads + Wait + Sync, G: Gate + Sync>(
+/// Lets workers take the turns of a table's tasks. The first seat has all tickets again then.
+fn share<R: Threads + Wait + Sync, G: Gate + Sync, B: Bound + Send + Sync>(
     rt: &R,
     alloc: Global,
-    shared: SharedRun,
+    shared: &Shared<B>,
     first: &mut LioSeat,
+    mut pass: RunPass<B>,
     script: &Script,
     count: u32,
     gate: &G,
-) -> Result<Table, NoMemory>
-    requires all { HasRights shared.table (2 ^ 62) first.old }
+) -> Result<(), NoMemory>
+    requires all { HasRights shared.now.table (2 ^ 62) first.old }
     requires none_drawn { (view_of first.old).drawn ≡ [] }
-    requires script { script.now ≡ (first_of shared.table).script }
+    requires bound { B.bound ≡ shared.now.table.len }
+    requires pass { IsPassOf shared.now.numbers.numbers pass.seat }
+    requires pushes { 2 ^ 60 ≤ left_of pass.seat }
+    requires script { script.now ≡ (first_of shared.now.table).script }
     requires count { (1 ≤ count) × (count ≤ 64) }
-    ensures table { IfOk result (λ table. table ≡ shared.table) }
-    ensures seat { IfOk result (λ table. HasRights table (2 ^ 62) first.new) }
+    ensures seat { IfOk result (λ _. HasRights shared.now.table (2 ^ 62) first.new) }
 {
-    let mut workers = match workers(alloc, &shared.table, first, count) {
-        Ok(workers) => workers,
-        Err(NoMemory) => {
-            drop(shared);
-            return Err(NoMemory);
-        }
-    };
+    let mut workers = workers(alloc, shared, first, &mut pass, count)?;
     let_work(
         rt,
         alloc,
-        &shared,
+        shared,
         script,
         workers.as_mut_slice(),
         count,
         gate,
     );
-    rejoin(&shared.table, first, workers);
-    let SharedRun { table, numbers } = shared;
-    drop(numbers);
-    Ok(table)
+    rejoin(shared, first, workers);
+    Ok(())
+}
+
+/// Runs a configuration to the end by so many workers, with a queue of numbers below its size.
+fn run_below<R: Threads + Wait + Sync, G: Gate + Sync, B: Bound + Send + Sync>(
+    rt: &R,
+    alloc: Global,
+    start: Config,
+    script: &Script,
+    count: u32,
+    gate: &G,
+) -> Result<Ran, NoMemory>
+    requires well_formed { IsWellFormed (configuration_of script.now start) }
+    requires fresh { AreFresh start }
+    requires count { (1 ≤ count) × (count ≤ 64) }
+    requires bound { length start.holders.items ≡ B.bound }
+    ensures run { IfOk result (λ ran. IsCompleteRun (configuration_of script.now start)
+        (ran_of script.now ran)) }
+    ensures logs { IfOk result HasItsLogs }
+{
+    let own = script.copy(alloc)?;
+    let (numbers, mut pass) = RunQueue::<B>::new(alloc, start.holders.len() as u32)?;
+    fill(rt, &numbers, &mut pass, &start);
+    let (table, mut first) = match Table::of_config(alloc, start, script) {
+        Ok(both) => both,
+        Err(NoMemory) => {
+            numbers.destroy();
+            return Err(NoMemory);
+        }
+    };
+    let shared = Shared { table, numbers };
+    let worked = share(rt, alloc, &shared, &mut first, pass, script, count, gate);
+    let Shared { table, numbers } = shared;
+    numbers.destroy();
+    match worked {
+        Ok(()) => close(alloc, table, first, own),
+        Err(NoMemory) => Err(NoMemory),
+    }
 }
 
 /// Runs a configuration to the end by so many workers, each in a thread of its own where one can be
@@ -157,13 +193,5 @@ pub fn run_workers<R: Threads + Wait + Sync, G: Gate + Sync>(
         (ran_of script.now ran)) }
     ensures logs { IfOk result HasItsLogs }
 {
-    let own = script.copy(alloc)?;
-    let numbers = numbers_of(alloc, &start)?;
-    let (table, mut first) = Table::of_config(alloc, start, script)?;
-    let shared = SharedRun {
-        table,
-        numbers: Mutex::new(numbers),
-    };
-    let table = share(rt, alloc, shared, &mut first, script, count, gate)?;
-    close(alloc, table, first, own)
+    run_below::<R, G, Brand>(rt, alloc, start, script, count, gate)
 }

@@ -1,46 +1,57 @@
-//! The seats of workers.
-ghost use Rattle.std.specs.Prelude.{◌≡◌, ◌≤◌, ◌^◌, [], IfOk, OnOk, length};
+//! The seats and passes of workers.
+ghost use Rattle.std.specs.Prelude.{◌≡◌, ◌<◌, ◌≤◌, ◌*◌, ◌^◌, [], IfOk, length};
+ghost use Rattle.lio_runq.specs.Passes.{IsPassOf, left_of};
 ghost use Rattle.lio_table.specs.Tables.{view_of};
-ghost use Rattle.lio_workers.specs.Seated.{AreSeated, HasRights, HasTheRest};
+ghost use Rattle.lio_workers.specs.Seated.{AreWorkersAt, HasRights, HasTheRest};
 
+use crate::shared::Shared;
 use crate::worker::Worker;
 use lio_clauses::NoMemory;
-use lio_table::{LioSeat, Table};
+use lio_runq::{Bound, RunPass};
+use lio_table::LioSeat;
 use std::alloc::Global;
 
-/// How many tickets each worker is given: 2^55.
-const TICKETS_OF_A_WORKER: u64 = 1 << 55;
+/// How many tickets each worker is given: 2^40.
+const TICKETS_OF_A_WORKER: u64 = 1 << 40;
 
-/// So many workers, whose seats are cut off the table's first one.
-pub(crate) fn workers(
+/// How often each worker may put a number into the queue: 2^40 times.
+const PUSHES_OF_A_WORKER: u64 = 1 << 40;
+
+/// So many workers, whose seats are cut off the table's first one, and their passes off this one.
+pub(crate) fn workers<B: Bound>(
     alloc: Global,
-    table: &Table,
+    shared: &Shared<B>,
     first: &mut LioSeat,
+    pass: &mut RunPass<B>,
     count: u32,
-) -> Result<Vec<Worker>, NoMemory>
-    requires all { HasRights table.now (2 ^ 62) first.old }
+) -> Result<Vec<Worker<B>>, NoMemory>
+    requires all { HasRights shared.now.table (2 ^ 62) first.old }
     requires none_drawn { (view_of first.old).drawn ≡ [] }
+    requires bound { B.bound ≡ shared.now.table.len }
+    requires pass { IsPassOf shared.now.numbers.numbers pass.old.seat }
+    requires pushes { 2 ^ 60 ≤ left_of pass.old.seat }
     requires count { count ≤ 64 }
-    ensures seated { IfOk result (λ workers. AreSeated table.now workers.items) }
-    ensures rest { IfOk result (λ workers. HasTheRest table.now workers.items first.new) }
+    ensures workers { IfOk result (λ workers. AreWorkersAt shared.now workers.items) }
+    ensures rest { IfOk result (λ workers. HasTheRest shared.now.table workers.items first.new) }
 {
     let mut workers = Vec::new(alloc);
     let mut made = 0;
     while made < count {
-        let seat = table.split(first, TICKETS_OF_A_WORKER);
-        workers.push(Worker::new(seat))?;
+        let seat = shared.table.split(first, TICKETS_OF_A_WORKER);
+        let own = shared.numbers.split_pass(pass, PUSHES_OF_A_WORKER);
+        workers.push(Worker::new(seat, own))?;
         made += 1;
     }
     Ok(workers)
 }
 
 /// Joins the seats of all workers into the first one, which has all tickets again.
-pub(crate) fn rejoin(table: &Table, first: &mut LioSeat, mut workers: Vec<Worker>)
-    requires seated { AreSeated table.now workers.items }
-    requires rest { HasTheRest table.now workers.items first.old }
-    ensures { HasRights table.now (2 ^ 62) first.new }
+pub(crate) fn rejoin<B: Bound>(shared: &Shared<B>, first: &mut LioSeat, mut workers: Vec<Worker<B>>)
+    requires workers { AreWorkersAt shared.now workers.items }
+    requires rest { HasTheRest shared.now.table workers.items first.old }
+    ensures { HasRights shared.now.table (2 ^ 62) first.new }
 {
     while let Some(worker) = workers.pop() {
-        table.join(first, worker.into_seat());
+        shared.table.join(first, worker.into_seat());
     }
 }

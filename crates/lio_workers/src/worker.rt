@@ -1,36 +1,35 @@
 //! What each worker does.
-ghost use Rattle.std.specs.Prelude.{◌≡◌, ◌+◌, ◌^◌, ◌<◌, ◌≤◌, false, IsTrue};
+ghost use Rattle.std.specs.Prelude.{◌≡◌, ◌+◌, ◌<◌, ◌≤◌, false, IsTrue, if◌then◌else◌};
+ghost use Rattle.lio_runq.specs.Passes.{IsPassOf, left_of};
 ghost use Rattle.lio_table.specs.Tables.{first_of, view_of};
 ghost use Rattle.lio_workers.specs.Ends.{has_to_end};
-ghost use Rattle.lio_workers.specs.Seated.{HasRights};
+ghost use Rattle.lio_workers.specs.Seated.{IsWorkerAt};
 
 use crate::gate::Gate;
+use crate::shared::Shared;
+use lio_cells::Waiters;
 use lio_clauses::NoMemory;
+use lio_runq::{Bound, RunPass, RunQueue};
 use lio_syntax::Script;
-use lio_table::{LioSeat, Table, TurnEnd};
+use lio_table::{LioSeat, TurnEnd};
 use std::alloc::Global;
-use std::collections::VecDeque;
-use std::sync::{Mutex, Wait};
+use std::sync::Wait;
 use std::thread;
 
-/// How often in a row a worker looks for a number in vain, or tries a task that can't take a turn,
-/// before it ends.
+/// How often in a row a worker looks for a number in vain before it ends.
 const MOST_IN_VAIN: u32 = 1_000;
 
-/// What workers share: the table, and the numbers of the tasks that are to be tried.
-#[derive(Drop)]
-pub(crate) struct SharedRun {
-    pub table: Table,
-    pub numbers: Mutex<VecDeque<u32>>,
-}
+/// How many turns of one task a worker takes before it puts the task's number back. Others find
+/// numbers in the queue meanwhile, as it never takes two at once.
+const TURNS_AT_A_LOOK: u32 = 16;
 
-/// A worker: its seat at the table, how often in a row it has looked, and tried, in vain, and
-/// whether memory was refused.
+/// A worker: its seat at the table, its pass of the queue, how often in a row it has looked for a
+/// number in vain, and whether memory was refused.
 #[derive(Drop)]
-pub(crate) struct Worker {
+pub(crate) struct Worker<B: Bound> {
     pub seat: LioSeat,
+    pub pass: RunPass<B>,
     looks: u32,
-    tries: u32,
     refused: bool,
 }
 
@@ -39,21 +38,23 @@ pub(crate) struct Worker {
 enum Tried {
     /// A turn was taken.
     Moved,
-    /// The task can't take one now.
-    Still,
+    /// Another worker held a node that the turn needs.
+    Busy,
+    /// The task waits at a node, or is over: it needn't be tried before it is woken.
+    Rests,
     /// There is no memory for it.
     NoMemory,
 }
 
-impl Worker {
+impl<B: Bound> Worker<B> {
     /// One that has done nothing yet.
-    pub fn new(seat: LioSeat) -> Worker
-        ensures { result ≡ record { seat = seat; looks = 0; tries = 0; refused = false } }
+    pub fn new(seat: LioSeat, pass: RunPass<B>) -> Worker<B>
+        ensures { result ≡ record { seat = seat; pass = pass; looks = 0; refused = false } }
     {
         Worker {
             seat,
+            pass,
             looks: 0,
-            tries: 0,
             refused: false,
         }
     }
@@ -64,128 +65,152 @@ impl Worker {
     {
         let Worker {
             seat,
+            pass,
             looks: _,
-            tries: _,
             refused: _,
         } = self;
+        drop(pass);
         seat
     }
 
-    /// Whether it was refused memory, has looked or tried in vain too often, or has one ticket left.
+    /// Whether it was refused memory, has looked in vain too often, or has one ticket left.
     fn has_to_end(&self) -> bool
         ensures { result ≡ has_to_end self.now }
     {
-        self.refused
-            || self.looks >= MOST_IN_VAIN
-            || self.tries >= MOST_IN_VAIN
-            || self.seat.tickets_left() <= 1
+        self.refused || self.looks >= MOST_IN_VAIN || self.seat.tickets_left() <= 1
     }
 
-    /// It looked for a number in vain once more.
-    fn looked_in_vain(&mut self)
-        ensures looks { self.new.looks ≤ self.old.looks + 1 }
-        ensures tries { self.new.tries ≡ self.old.tries }
-        ensures refused { self.new.refused ≡ self.old.refused }
-        ensures seat { self.new.seat ≡ self.old.seat }
+    /// It looked for a number once more, in vain or not.
+    fn has_looked(&mut self, found: bool)
+        requires { self.old.looks < 1000 }
+        ensures { self.new ≡ record self.old { looks = if found then 0 else self.old.looks + 1 } }
     {
-        self.looks = self.looks.saturating_add(1);
+        self.looks = if found { 0 } else { self.looks + 1 };
     }
+}
 
-    /// It found a number, and tried its task.
-    fn has_tried(&mut self, tried: Tried)
-        ensures seat { self.new.seat ≡ self.old.seat }
-    {
-        self.looks = 0;
-        match tried {
-            Tried::Moved => self.tries = 0,
-            Tried::Still => self.tries = self.tries.saturating_add(1),
-            Tried::NoMemory => self.refused = true,
+/// Puts a number last in the queue. One for which there is no memory, or no push left, is left for
+/// the end.
+pub(crate) fn push<R: Wait, B: Bound>(rt: &R, numbers: &RunQueue<B>, pass: &mut RunPass<B>, k: u32)
+    requires pass { IsPassOf numbers.now.numbers pass.old.seat }
+    requires below { k < B.bound }
+    ensures pass { IsPassOf numbers.now.numbers pass.new.seat }
+    ensures left { left_of pass.old.seat ≤ left_of pass.new.seat + 1 }
+{
+    if pass.pushes_left() > 0 {
+        let _ = numbers.push(rt, pass, k);
+    }
+}
+
+/// Puts the numbers of those who are woken last in the queue.
+fn push_woken<R: Wait, B: Bound>(
+    rt: &R,
+    shared: &Shared<B>,
+    worker: &mut Worker<B>,
+    woken: &Waiters,
+)
+    requires worker { IsWorkerAt shared.now worker.old }
+    ensures { IsWorkerAt shared.now worker.new }
+{
+    let len = shared.table.len();
+    for waiter in woken.as_slice() {
+        if waiter.task < len {
+            push(rt, &shared.numbers, &mut worker.pass, waiter.task);
         }
     }
 }
 
-/// Puts a number last. One for which there is no room is left for the end.
-fn push<R: Wait>(rt: &R, numbers: &Mutex<VecDeque<u32>>, k: u32) {
-    let _ = numbers.lock(rt).push_back(k);
-}
-
-/// Tells of a turn, then puts the child and the task behind the other numbers.
-fn pass_on<R: Wait, G: Gate>(
-    rt: &R,
-    shared: &SharedRun,
-    gate: &G,
-    k: u32,
-    ticket: u64,
-    born: Option<u32>,
-) {
-    gate.pass(k, ticket);
-    if let Some(child) = born {
-        push(rt, &shared.numbers, child);
-    }
-    push(rt, &shared.numbers, k);
-}
-
-/// Tries to take the turn of a task of the table, if there is one with this number.
-fn try_turn<R: Wait, G: Gate>(
+/// Tries to take the turn of a task. It tells the gate of a turn that was taken, then puts the child
+/// and those who are woken last in the queue.
+fn try_turn<R: Wait, G: Gate, B: Bound>(
     rt: &R,
     alloc: Global,
-    shared: &SharedRun,
+    shared: &Shared<B>,
     script: &Script,
     gate: &G,
-    seat: &mut LioSeat,
+    worker: &mut Worker<B>,
     k: u32,
 ) -> Tried
-    requires seated { HasRights shared.now.table (2 ^ 55) seat.old }
-    requires left { 0 < (view_of seat.old).left }
+    requires worker { IsWorkerAt shared.now worker.old }
+    requires left { 0 < (view_of worker.old.seat).left }
     requires script { script.now ≡ (first_of shared.now.table).script }
-    ensures { HasRights shared.now.table (2 ^ 55) seat.new }
+    requires node { k < shared.now.table.len }
+    ensures { IsWorkerAt shared.now worker.new }
 {
-    if k >= shared.table.len() {
-        return Tried::Still;
-    }
-    match shared.table.turn(alloc, seat, script, k) {
+    match shared.table.turn(alloc, &mut worker.seat, script, k) {
         Ok(TurnEnd::Moved(ticket, born, woken)) => {
+            gate.pass(k, ticket);
+            if let Some(child) = born {
+                push(rt, &shared.numbers, &mut worker.pass, child);
+            }
+            push_woken(rt, shared, worker, &woken);
             drop(woken);
-            pass_on(rt, shared, gate, k, ticket, born);
             Tried::Moved
         }
-        Ok(TurnEnd::Busy(_) | TurnEnd::Still(_)) => {
-            push(rt, &shared.numbers, k);
-            Tried::Still
+        Ok(TurnEnd::Busy(_)) => Tried::Busy,
+        Ok(TurnEnd::Still(_) | TurnEnd::Over(_)) => Tried::Rests,
+        Err(NoMemory) => {
+            worker.refused = true;
+            Tried::NoMemory
         }
-        Ok(TurnEnd::Over(_)) => Tried::Still,
-        Err(NoMemory) => Tried::NoMemory,
     }
 }
 
-/// Takes number after number and tries the turn of its task, until it has to end.
-pub(crate) fn work<R: Wait, G: Gate>(
+/// Takes some turns of a task whose number it took out of the queue, and puts the number back where
+/// the task may go on.
+fn take_turns<R: Wait, G: Gate, B: Bound>(
     rt: &R,
     alloc: Global,
-    shared: &SharedRun,
+    shared: &Shared<B>,
     script: &Script,
     gate: &G,
-    worker: &mut Worker,
+    worker: &mut Worker<B>,
+    k: u32,
 )
-    requires seated { HasRights shared.now.table (2 ^ 55) worker.old.seat }
+    requires worker { IsWorkerAt shared.now worker.old }
+    requires script { script.now ≡ (first_of shared.now.table).script }
+    requires node { k < shared.now.table.len }
+    ensures { IsWorkerAt shared.now worker.new }
+{
+    for _ in 0..TURNS_AT_A_LOOK {
+        if worker.has_to_end() {
+            break;
+        }
+        match try_turn(rt, alloc, shared, script, gate, worker, k) {
+            Tried::Moved => {}
+            Tried::Busy => {
+                thread::yield_now();
+                break;
+            }
+            Tried::Rests | Tried::NoMemory => return,
+        }
+    }
+    push(rt, &shared.numbers, &mut worker.pass, k);
+}
+
+/// Takes number after number out of the queue and turns of its task, until it has to end.
+pub(crate) fn work<R: Wait, G: Gate, B: Bound>(
+    rt: &R,
+    alloc: Global,
+    shared: &Shared<B>,
+    script: &Script,
+    gate: &G,
+    worker: &mut Worker<B>,
+)
+    requires worker { IsWorkerAt shared.now worker.old }
     requires script { script.now ≡ (first_of shared.now.table).script }
     ensures ends { IsTrue (has_to_end worker.new) }
-    ensures seated { HasRights shared.now.table (2 ^ 55) worker.new.seat }
+    ensures worker { IsWorkerAt shared.now worker.new }
 {
     for _ in rt.forever() {
         if worker.has_to_end() {
             return;
         }
-        let next = shared.numbers.lock(rt).pop_front();
+        let next = shared.numbers.pop(rt, &mut worker.pass);
+        worker.has_looked(next.is_some());
         match next {
-            Some(k) => {
-                let tried = try_turn(rt, alloc, shared, script, gate, &mut worker.seat, k);
-                worker.has_tried(tried);
-            }
-            None => {
-                worker.looked_in_vain();
-                thread::yield_now();
-            }
+            Some(k) => take_turns(rt, alloc, shared, script, gate, worker, k),
+            None => thread::yield_now(),
         }
     }
     unreachable!()

@@ -16,9 +16,9 @@ use Rattle.lio_merge.proofs.logs.merged.Goals.{After-copies}
 is_merged : (c : After-copies) → IsMerged (log_in c.args.config.now) (lent c.deref.result.now)
 is_merged c =
     subst (λ entries. IsMerged (log_in c.args.config.now) (lent entries)) (sym c.deref.ensures.value)
-    (merged c.args.config.now.holders.items c.in_ok-entries.entries.items c.sort_unstable_by_key.new.self.items c.requires (λ n. kept-rising c.args.config.now.holders.items n c.in_ok-entries.ensures.kept)
-    c.in_ok-entries.ensures.entries c.sort_unstable_by_key.ensures.permutation
-    (IsNonDecreasingBy-from_sort_by_key (λ entry. entry.now.ticket) c.sort_unstable_by_key.new.self.items c.sort_unstable_by_key.ensures.sorted (λ a r q k. search rules)))
+    (merged c.args.config.now.holders.items c.in_ok-entries.entries.items c.sort_by_key.new.self.items c.requires (λ n. kept-rising c.args.config.now.holders.items n c.in_ok-entries.ensures.kept)
+    c.in_ok-entries.ensures.entries c.sort_by_key.ensures.permutation
+    (IsNonDecreasingBy-from_sort_by_key (λ entry. entry.now.ticket) c.sort_by_key.new.self.items c.in_ok-sort_by_key.ensures.sorted (λ a r q k. search rules)))
 
 pub returns-clause-merged : goal.returns-clause-merged
 returns-clause-merged c =

@@ -1,5 +1,5 @@
-use Rattle.lio_table_rule.proofs.Closing.{closed-run}
+use Rattle.lio_table_rule.proofs.Closing.{closed-with}
 use Rattle.lio_table_rule.proofs.laws.closed_table_has_run.Goals as goal
 
 pub returns : goal.returns
-returns c = closed-run
+returns c = closed-with

@@ -6,13 +6,13 @@ use Rattle.lio_workers.proofs.Crossing.{captures-sync, shared-sync, worker-send}
 use Rattle.lio_workers.proofs.run.let_work.Goals as goal
 
 pub for_each_mut-requires-send-T : goal.for_each_mut-requires-send-T
-for_each_mut-requires-send-T g c κs within = param_send 1 _ (arg_send _ yes _ worker-send)
+for_each_mut-requires-send-T g c κs within = param_send 1 _ (arg_send _ yes _ (worker-send _ _ c.type_bounds.send-B))
 
 pub for_each_mut-requires-sync-F : goal.for_each_mut-requires-sync-F
 for_each_mut-requires-sync-F g c κs within =
     param_sync 2 _ (arg_sync _ yes _ (captures-sync _ _ _ _ _ _
     (shr_sync _ _ _ c.type_bounds.sync-R)
     (shr_sync _ _ _ sync)
-    (shr_sync _ _ _ shared-sync)
+    (shr_sync _ _ _ (shared-sync _ _ c.type_bounds.send-B c.type_bounds.sync-B))
     (shr_sync _ _ _ script.the_sync)
     (shr_sync _ _ _ c.type_bounds.sync-G)))

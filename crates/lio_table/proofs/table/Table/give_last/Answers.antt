@@ -1,7 +1,7 @@
 use Rattle.std.proofs.Common.{◌≡◌, ◌∙◌, ap, subst, sym, ◌<◌, length}
 use Rattle.lio_table_rule.specs.declared.view.Beginning.{Beginning}
 use Rattle.lio_table_rule.specs.declared.view.View.{View}
-use Rattle.lio_table.proofs.SeatLemmas.{given-after, last-first, stands-can_give}
+use Rattle.lio_table.proofs.SeatLemmas.{given-after, given-says, last-first, stands-can_give}
 use Rattle.lio_table.proofs.table.Table.give_last.Goals as goal
 
 pub give_node-requires-clause-node : goal.give_node-requires-clause-node
@@ -33,3 +33,10 @@ returns-clause-seat c =
     let kept = given-after c.args.n seat.other seat.other seat.seat.me c.give_node.new.seat.me
     (last-first seat.seat.me.0.first seat.last seat.other c.args.n seat.seat.me.0.claimed seat.seat.me.1 held.node c.requires.seat.out seat.numbers held.has held.number c.requires.last) c.give_node.ensures.given seat.used in
     record { table_id = c.give_node.ensures.table ∙ c.requires.seat.table_id; first = ap (λ (v : View). v.first) c.give_node.ensures.given.view ∙ c.requires.seat.first; out = kept.out }
+
+pub returns-clause-given : goal.returns-clause-given
+returns-clause-given c =
+    let seat = c.args.seat.now in
+    let held = c.requires.held in
+    given-says c.args.n seat.other seat.other seat.last seat.other seat.seat.me c.give_node.new.seat.me seat.numbers
+    (last-first seat.seat.me.0.first seat.last seat.other c.args.n seat.seat.me.0.claimed seat.seat.me.1 held.node c.requires.seat.out seat.numbers held.has held.number c.requires.last) c.give_node.ensures.given

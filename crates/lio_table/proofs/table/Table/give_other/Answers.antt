@@ -4,7 +4,8 @@ use Rattle.lio_table_rule.specs.declared.view.View.{View}
 use Rattle.lio_table_rule.specs.Views.{rights}
 use Rattle.lio_table_rule.specs.Steps.{SeatState}
 use Rattle.lio_table.specs.Claims.{GiveSays}
-use Rattle.lio_table.proofs.SeatLemmas.{StandsFirst, given-after, other-first, stands-can_give}
+use Rattle.lio_table.specs.Seats.{HaveNumbers}
+use Rattle.lio_table.proofs.SeatLemmas.{StandsFirst, given-after, given-says, other-first, stands-can_give}
 use Rattle.lio_table.proofs.table.Table.give_other.Goals as goal
 
 pub give_node-requires-clause-node : goal.give_node-requires-clause-node
@@ -49,6 +50,12 @@ returns-clause-seat c =
 
 pub returns-clause-given : goal.returns-clause-given
 returns-clause-given c =
-    let given = c.give_node.ensures.given in
-    subst (λ (v : View). GiveSays c.args.n v c.give_node.new.seat.me.0) (ap (λ (m : SeatState). m.0) c.turn.ensures.2)
-    (record { holds = given.holds; waiters = given.holder.node.waiters; view = given.view })
+    let seat = c.args.seat.now in
+    let held = c.requires.held in
+    let me = c.turn.new.self.me in
+    let turned = c.turn.ensures.2 in
+    let says = given-says c.args.n seat.last seat.other seat.last seat.other me c.give_node.new.seat.me (subst (λ (m : SeatState). HaveNumbers seat.last seat.other m.0.claimed) (sym turned) seat.numbers)
+    (subst (λ (m : SeatState). StandsFirst m.0.first c.args.n seat.last seat.other m.0.claimed m.1) (sym turned)
+    (other-first seat.seat.me.0.first seat.last seat.other c.args.n seat.seat.me.0.claimed seat.seat.me.1 held.node c.requires.seat.out seat.numbers held.has held.number c.requires.other))
+    c.give_node.ensures.given in
+    subst (λ (v : View). GiveSays c.args.n v c.give_node.new.seat.me.0) (ap (λ (m : SeatState). m.0) turned) says

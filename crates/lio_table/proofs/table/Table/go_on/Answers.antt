@@ -25,7 +25,7 @@ put-requires-in-Over-clause-can_put c = one-can_put c.requires.has.0 c.args.k c.
 pub returns-in-Over-clause-ok : goal.returns-in-Over-clause-ok
 returns-in-Over-clause-ok c = λ before has.
     let script = c.args.script.now in let state = state_in script c.in-Some.task in
-    over-here before c.args.k c.args.holder c.args.seat.now.me has c.args.self.now script c.in-Some.task c.put-in-Over.new.seat.me c.requires.first c.requires.script (ap (λ (h : Holder). h.task) (sym c.get.ensures) ∙ c.in-Some.is)
+    over-here before c.args.k c.args.holder c.args.seat.now.me has c.args.self.now script c.in-Some.task c.put-in-Over.new.seat.me c.requires.turn.first c.requires.turn.script_is (ap (λ (h : Holder). h.task) (sym c.get.ensures) ∙ c.in-Some.is)
     (subst (IsPlanned (program_of script c.args.self.now.longest) state) c.in-Over.is (c.plan.ensures.plan c.args.self.now.longest)) c.put-in-Over.ensures.put
 
 pub own-requires-clause-plans : goal.own-requires-clause-plans

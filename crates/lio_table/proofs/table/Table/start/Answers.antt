@@ -1,17 +1,13 @@
-use Rattle.std.proofs.Common.{◌≡◌, ◌∙◌, ◌<◌, inl, refl, sym, ap, subst}
-use Rattle.lio_table_rule.specs.declared.view.View.{View}
+use Rattle.std.proofs.Common.{inl, refl}
 use Rattle.lio_table.proofs.AnswerLemmas.{free-seat, start-busy}
-use Rattle.lio_table.proofs.EndLemmas.{one-taken}
+use Rattle.lio_table.proofs.EndLemmas.{one-taken, taken-in_turn}
 use Rattle.lio_table.proofs.table.Table.start.Goals as goal
 
 pub take-requires-clause-not_held : goal.take-requires-clause-not_held
 take-requires-clause-not_held c = free-seat c.args.k c.args.seat.now.me c.requires.bare
 
-pub go_on-end-requires-clause-first : goal.go_on-end-requires-clause-first
-go_on-end-requires-clause-first c = ap (λ (v : View). v.first) c.in-Some.ensures.taken.view ∙ c.requires.first
-
-pub go_on-end-requires-clause-left : goal.go_on-end-requires-clause-left
-go_on-end-requires-clause-left c = subst (λ (v : View). 0 < v.left) (sym c.in-Some.ensures.taken.view) c.requires.left
+pub go_on-end-requires-clause-turn : goal.go_on-end-requires-clause-turn
+go_on-end-requires-clause-turn c = taken-in_turn c.args.self.now c.args.script.now c.args.k c.args.k c.in-Some.holder c.args.seat.now.me c.take.new.seat.me c.requires.turn c.in-Some.ensures.taken
 
 pub go_on-end-requires-clause-has : goal.go_on-end-requires-clause-has
 go_on-end-requires-clause-has c =

@@ -3,6 +3,9 @@ use Rattle.lio_table.proofs.AnswerLemmas.{few-after, left-after, left-same, numb
 use Rattle.lio_table.proofs.SeatLemmas.{bare-slots}
 use Rattle.lio_table.proofs.table.Table.turn.Goals as goal
 
+pub start-requires-clause-turn : goal.start-requires-clause-turn
+start-requires-clause-turn c = record { first = c.requires.seat.first; script_is = c.requires.script; left = c.requires.left; node = c.requires.node }
+
 pub start-requires-clause-slots : goal.start-requires-clause-slots
 start-requires-clause-slots c =
     let seat = c.args.seat.now in bare-slots seat.seat.me.0.first seat.seat.me.0.claimed seat.seat.me.1 c.requires.seat.out c.requires.bare

@@ -8,17 +8,17 @@ use Rattle.lio_rounds.specs.Runs.{IsCompleteRun, ran_of}
 use Rattle.lio_table.specs.Tables.{first_of}
 use Rattle.lio_table_rule.specs.Views.{configuration_from}
 use Rattle.lio_workers.proofs.RunLemmas.{begins-with}
-use Rattle.lio_workers.proofs.run.run_workers.Goals as goal
+use Rattle.lio_workers.proofs.run.run_below.Goals as goal
 
 pub close-requires-clause-well_formed : goal.close-requires-clause-well_formed
 close-requires-clause-well_formed g c =
-    let begun : configuration_from (first_of c.in_ok-table-2.table) ≡ configuration_of c.args.script.now c.args.start =
-    ap configuration_from (ap first_of c.in_ok-table-2.ensures.table ∙ c.in_ok-table.ensures.first) ∙ begins-with c.args.script.now c.args.start in
+    let begun : configuration_from (first_of c.in-Ok.both.0) ≡ configuration_of c.args.script.now c.args.start =
+    ap configuration_from c.in-Ok.ensures.first ∙ begins-with c.args.script.now c.args.start in
     subst IsWellFormed (sym begun) c.requires.well_formed
 
-pub returns-clause-run : goal.returns-clause-run
-returns-clause-run g c =
-    let begun : configuration_from (first_of c.in_ok-table-2.table) ≡ configuration_of c.args.script.now c.args.start =
-    ap configuration_from (ap first_of c.in_ok-table-2.ensures.table ∙ c.in_ok-table.ensures.first) ∙ begins-with c.args.script.now c.args.start in
+pub returns-in-Ok-worked-clause-run : goal.returns-in-Ok-worked-clause-run
+returns-in-Ok-worked-clause-run g c =
+    let begun : configuration_from (first_of c.in-Ok.both.0) ≡ configuration_of c.args.script.now c.args.start =
+    ap configuration_from c.in-Ok.ensures.first ∙ begins-with c.args.script.now c.args.start in
     let here = subst (λ (d : Configuration). IfOk c.close.result (λ ran. IsCompleteRun d (ran_of c.in_ok-own.own ran))) begun c.close.ensures.run in
     subst (λ (script : List Procedure). IfOk c.close.result (λ ran. IsCompleteRun (configuration_of c.args.script.now c.args.start) (ran_of script ran))) c.in_ok-own.ensures here
