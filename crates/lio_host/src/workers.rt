@@ -71,6 +71,26 @@ file out.txt
 file v
 |1 - <True %% True> raise unlabel <alice %% True> : ok
 entries 3
+case the refused send of a secret by one worker
+input a.txt
+|x~
+words
+|p.json
+|s.lio
+|--workers=1
+|--history=h
+status Done
+file out.txt
+file h
+|0 1 - <True %% True> raise unlabel <alice %% True> : ok
+|1 1 - <alice %% True> send "x" : no flow_current <alice %% True> <True %% True> at <alice %% True>
+|2 1 - <alice %% True> ended fault(flow_current <alice %% True> <True %% True> at <alice %% True>) : ok
+said
+|tasks 1
+|ended 1
+|turns 3
+|channel out 0
+entries 3
 case as many workers as there may be
 input a.txt
 |x~
