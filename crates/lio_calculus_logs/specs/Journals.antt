@@ -1,5 +1,6 @@
 -- Logs and journals: which logs can be merged into one journal, which journal is their merge, and the parts of a journal that cells have.
-use Rattle.std.specs.Prelude.{◌≡◌, ℕ, ◌+◌, ◌<◌, true, List, [], ◌∷◌, Contains, filter, map, Some}
+use Rattle.std.specs.Prelude.{◌≡◌, ℕ, ◌+◌, ◌<◌, Bool, true, List, [], ◌∷◌, Contains, filter, map, Some}
+use Rattle.std.specs.List.{count_by}
 use Rattle.lio_values.specs.declared.entry.Entry.{Entry}
 use Rattle.lio_events.specs.Rising.{AreRising}
 use Rattle.lio_calculus.specs.Step.{Configuration}
@@ -17,6 +18,10 @@ of_cell n entries = filter (touches n) entries
 -- the logs are the parts of a journal
 abbrev pub ArePartsOf : List Entry → Logs → Type 0
 ArePartsOf journal logs = (n : ℕ) → logs n ≡ of_cell n journal
+
+-- lists have the same entries, each as often
+abbrev pub HaveSameEntries : List Entry → List Entry → Type 0
+HaveSameEntries one other = (p : Entry → Bool) → count_by p one ≡ count_by p other
 
 -- the entries have the tickets from a first one on, each in its place
 abbrev pub AreNumberedFrom : ℕ → List Entry → Type 0

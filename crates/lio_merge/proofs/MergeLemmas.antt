@@ -1,5 +1,5 @@
 -- The entries of logs, each where its actor has it, in order of their tickets.
-use Rattle.std.proofs.Common.{◌≡◌, ◌∙◌, refl, sym, ap, subst, ℕ, zero, suc, ◌+◌, ◌<◌, ◌≤◌, ◌==◌, ◌⊎◌, inl, inr, arith, Bool, true, false, if◌then◌else◌, List, [], ◌∷◌, ◌++◌, length, map, get_or, AllPairs, Contains, All, add-one, append_assoc, drop, drop-cons, take}
+use Rattle.std.proofs.Common.{◌≡◌, ◌∙◌, refl, sym, ap, subst, ℕ, zero, suc, ◌+◌, ◌<◌, ◌≤◌, ◌==◌, ◌⊎◌, inl, inr, arith, Bool, true, false, if◌then◌else◌, List, [], ◌∷◌, ◌++◌, length, get_or, Contains, All, add-one, append_assoc, drop, drop-cons, take}
 use Rattle.std.specs.Borrow.{Bor}
 use Rattle.std.specs.List.{filter, sum_by}
 use Rattle.std.specs.Prelude.{IsPermutation}
@@ -20,10 +20,10 @@ use Rattle.lio_merge.specs.Acted.{acted_from, acted_in, lent}
 use Rattle.lio_calculus_logs.proofs.JournalLemmas.{from-part, has-cases, has-first, has-later, has-none, in-part, passes-part, rising-head, rising-tail}
 
 -- how many entries have a ticket
-weight : ℕ → Entry → ℕ
+unfoldable pub weight : ℕ → Entry → ℕ
 weight ticket entry = if entry.ticket == ticket then 1 else 0
 
-count : ℕ → List Entry → ℕ
+unfoldable pub count : ℕ → List Entry → ℕ
 count ticket [] = 0
 count ticket (entry ∷ entries) = weight ticket entry + count ticket entries
 
@@ -60,7 +60,7 @@ count-append ticket [] ys = omega arith
 count-append ticket (x ∷ xs) ys = let rest = count-append ticket xs ys in omega (arith, rest)
 
 -- in a list with rising tickets each stands once
-count-rising : (ticket : ℕ) (xs : List Entry) → AreRising xs → count ticket xs ≤ 1
+pub count-rising : (ticket : ℕ) (xs : List Entry) → AreRising xs → count ticket xs ≤ 1
 unfolding count
 count-rising ticket [] rising = omega arith
 count-rising ticket (x ∷ xs) rising = by (same-or-other x.ticket ticket) (count-cases ticket xs) (count-rising ticket xs (rising-tail x xs rising))
@@ -92,7 +92,7 @@ count-has ticket (x ∷ xs) e has is = by (has-cases x xs e has) (λ there. coun
     by (inr there) rest = let more : 1 ≤ count ticket xs = rest there in omega arith
 
 -- tickets that don't fall and stand once each rise
-rising-once : (xs : List Entry) → IsNonDecreasingBy (λ (e : Entry). e.ticket) xs → ((ticket : ℕ) → count ticket xs ≤ 1) → AreRising xs
+pub rising-once : (xs : List Entry) → IsNonDecreasingBy (λ (e : Entry). e.ticket) xs → ((ticket : ℕ) → count ticket xs ≤ 1) → AreRising xs
 unfolding count
 rising-once [] order once = λ i j d before within. absurd (omega arith)
 rising-once (x ∷ xs) order once =

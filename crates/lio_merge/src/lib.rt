@@ -1,6 +1,8 @@
-//! The merge of the logs of a configuration's nodes into one journal.
+//! One journal of the logs of a configuration's nodes, and of the entries that several kept.
 #![tactic(auto)]
 
 mod logs;
+mod order;
 
-pub use logs::{merge, merged};
+pub use logs::merge;
+pub use order::put_in_order;

@@ -1,7 +1,7 @@
 //! The merge of logs.
 ghost use Rattle.std.specs.Prelude.{◌≡◌, ◌++◌, All, IfOk, OnOk};
 ghost use Rattle.lio_cells.specs.Node.{IsKept};
-ghost use Rattle.lio_calculus_logs.specs.Journals.{AreMergeable, ArePartsOf, IsMerged};
+ghost use Rattle.lio_calculus_logs.specs.Journals.{AreMergeable, IsMerged};
 ghost use Rattle.lio_config.specs.Logs.{log_in};
 ghost use Rattle.lio_merge.specs.Acted.{acted_from, acted_in, lent};
 
@@ -40,7 +40,7 @@ fn acted<'a>(alloc: Global, config: &'a Config) -> Result<Vec<&'a Entry>, NoMemo
 fn copies(alloc: Global, entries: &[&Entry]) -> Result<Vec<Entry>, NoMemory>
     ensures { IfOk result (λ copies. copies.items ≡ lent entries.now) }
 {
-    let mut copies = Vec::new(alloc);
+    let mut copies = Vec::with_capacity(alloc, entries.len())?;
     for entry in entries {
         copies.push(entry.copy(alloc)?)?;
     }
@@ -48,15 +48,13 @@ fn copies(alloc: Global, entries: &[&Entry]) -> Result<Vec<Entry>, NoMemory>
 }
 
 /// The merged entries of the logs of a configuration's nodes: copies of all, each once, in the order
-/// of their tickets. Each entry stands in its actor's log, in its target's, if it has one, and in no
-/// other, and entries with the same ticket are one. The logs are the parts of what comes.
-pub fn merged(alloc: Global, config: &Config) -> Result<Vec<Entry>, NoMemory>
+/// of their tickets.
+fn merged(alloc: Global, config: &Config) -> Result<Vec<Entry>, NoMemory>
     requires { AreMergeable (log_in config.now) }
-    ensures merged { IfOk result (λ entries. IsMerged (log_in config.now) entries.items) }
-    ensures parts { IfOk result (λ entries. ArePartsOf entries.items (log_in config.now)) }
+    ensures { IfOk result (λ entries. IsMerged (log_in config.now) entries.items) }
 {
     let mut entries = acted(alloc, config)?;
-    entries.sort_by_key(|entry| entry.ticket)?;
+    entries.sort_by_cached_key(|entry| entry.ticket)?;
     copies(alloc, &entries)
 }
 

@@ -1,5 +1,5 @@
 -- What a turn answers, and what a seat keeps after it.
-use Rattle.std.proofs.Common.{◌≡◌, inl, inr, ◌∙◌, refl, sym, ap, subst, arith, ℕ, ◌+◌, ◌-◌, ◌<◌, ◌≤◌, List, [], length, Contains, Option, Some, None, true, false, if◌then◌else◌}
+use Rattle.std.proofs.Common.{◌≡◌, inl, inr, ◌∙◌, refl, sym, ap, subst, arith, ℕ, ◌+◌, ◌-◌, ◌<◌, ◌≤◌, List, [], ◌∷◌, length, Contains, Option, Some, None, true, false, if◌then◌else◌}
 use Rattle.std.specs.Option.{option_map}
 use Rattle.lio_values.specs.declared.act.Act.{Act}
 use Rattle.lio_values.specs.declared.entry.Entry.{Entry}
@@ -18,10 +18,9 @@ use Rattle.lio_config.specs.Turns.{ends, looks}
 use Rattle.lio_config.proofs.MoveLemmas.{no-task-still, over-still}
 use Rattle.lio_table_rule.specs.declared.view.Beginning.{Beginning}
 use Rattle.lio_table_rule.specs.declared.view.Claimed.{Claimed}
-use Rattle.lio_table_rule.specs.declared.view.Draw.{Draw}
 use Rattle.lio_table_rule.specs.declared.view.View.{View}
 use Rattle.lio_table_rule.specs.Views.{HoldsNode, rights}
-use Rattle.lio_table_rule.specs.Steps.{FindsTaken, SeatState, with_busy}
+use Rattle.lio_table_rule.specs.Steps.{FindsTaken, SeatState, with_busy, with_ticket}
 use Rattle.lio_table.specs.declared.table.Table.{Table}
 use Rattle.lio_table.specs.declared.turn.TurnEnd.{TurnEnd}
 use Rattle.lio_table.specs.declared.turn.TurnEnd.TheVariants.{Moved, Busy, Still}
@@ -76,17 +75,25 @@ some-busy n old new some finds = subst (λ (s : SeatState). 0 < rights s.0) (sym
 pub free-seat : (n : ℕ) (seat : SeatState) → seat.0.claimed ≡ [] → HoldsNode seat.0 n → ⊥
 free-seat n seat bare holds = no-node holds.node (subst (λ (ns : List Claimed). Contains ns holds.node) bare holds.has)
 
+-- what a turn answers that isn't taken: no slot is out with the seat, and no ticket was drawn
+abbrev pub StaysTurn : ℕ → View → TurnEnd → SeatState → Type 0
+StaysTurn k before end seat = TurnSays k before end seat.0 × (seat.1 ≡ []) × (seat.0.drawn ≡ before.drawn)
+
 -- the node of a task was found taken
-pub start-busy : (k : ℕ) (old new : SeatState) → old.1 ≡ [] → FindsTaken k old new → EndsTurn k old.0 (Busy k) new
+pub start-busy : (k : ℕ) (old new : SeatState) → old.1 ≡ [] → FindsTaken k old new → StaysTurn k old.0 (Busy k) new
 start-busy k old new none finds =
-    subst (EndsTurn k old.0 (Busy k)) (sym finds.seat) (inl (refl, record { not_alone = finds.not_alone; view = refl }), none)
+    subst (StaysTurn k old.0 (Busy k)) (sym finds.seat) (inl (refl, record { not_alone = finds.not_alone; view = refl }), none, refl)
+
+-- an entry that has its ticket
+own-ticket : (before : View) (ticket : ℕ) (entry : Entry) → entry.ticket ≡ ticket → with_ticket entry ticket ∷ before.drawn ≡ entry ∷ before.drawn
+own-ticket before ticket entry is = ap (λ (t : ℕ). with_ticket entry t ∷ before.drawn) (sym is)
 
 module _ (before : View) (k : ℕ) (holder : Holder) (old : SeatState) (has : HasOne before k holder old) where
   found-here : Found before.first has.whole k holder
   found-here = one-found before k holder old has.whole has has.stand
 
   -- there is no task
-  pub none-over : (new : SeatState) → holder.task ≡ None → PutsBack k holder old new → EndsTurn k before (turn_end.Over k) new
+  pub none-over : (new : SeatState) → holder.task ≡ None → PutsBack k holder old new → StaysTurn k before (turn_end.Over k) new
   none-over new none put = (
     (
       refl,
@@ -100,6 +107,7 @@ module _ (before : View) (k : ℕ) (holder : Holder) (old : SeatState) (has : Ha
       },
     ),
     slot-back k old.1 new.1 has.slots put.slots,
+    ap (λ (v : View). v.drawn) (one-returned before k holder old new has put.holds put.view),
   )
     where
       no-task : {task : Task} → None ≡ Some task → ⊥
@@ -107,7 +115,7 @@ module _ (before : View) (k : ℕ) (holder : Holder) (old : SeatState) (has : Ha
 
   -- the task has ended
   pub ended-over : (new : SeatState) (script : List Procedure) (longest : ℕ) (task : Task) → script ≡ before.first.script → longest ≡ before.first.longest → holder.task ≡ Some task → Over ≡ plan (program_of script longest) (state_in script task)
-      → PutsBack k holder old new → EndsTurn k before (turn_end.Over k) new
+      → PutsBack k holder old new → StaysTurn k before (turn_end.Over k) new
   ended-over new script longest task same same_length is over put = (
     (
       refl,
@@ -122,6 +130,7 @@ module _ (before : View) (k : ℕ) (holder : Holder) (old : SeatState) (has : Ha
       },
     ),
     slot-back k old.1 new.1 has.slots put.slots,
+    ap (λ (v : View). v.drawn) (one-returned before k holder old new has put.holds put.view),
   )
     where
       here : Over ≡ plan (program_of before.first.script before.first.longest) (state_in before.first.script task)
@@ -144,11 +153,15 @@ module _ (before : View) (k : ℕ) (holder : Holder) (old : SeatState) (has : Ha
   )
 
   -- the turn meets no other node
-  pub own-moved : (new : SeatState) (ticket : ℕ) (entry : Entry) (taken : Option (List Waiter)) (woken : List Waiter) → MovesAlone k holder old ticket entry taken new → woken ≡ woken_or taken → EndsTurn k before (Moved ticket None woken) new
-  own-moved new ticket entry taken woken moves is = (inl (alone-moved before k ticket holder entry taken woken old new has moves is), slot-back k old.1 new.1 has.slots moves.slots)
+  pub own-moved : (new : SeatState) (ticket : ℕ) (entry : Entry) (taken : Option (List Waiter)) (woken : List Waiter) → MovesAlone k holder old ticket entry taken new → woken ≡ woken_or taken → EndsTurn k before (Moved ticket None woken) entry new
+  own-moved new ticket entry taken woken moves is = (
+    inl (alone-moved before k ticket holder entry taken woken old new has moves is),
+    slot-back k old.1 new.1 has.slots moves.slots,
+    ap (λ (v : View). v.drawn) moves.view ∙ ap (λ (v : View). with_ticket entry ticket ∷ v.drawn) has.view ∙ own-ticket before ticket entry moves.ticket_is,
+  )
 
   -- the turn meets the task's own node
-  pub itself-still : (new : SeatState) (n : ℕ) (asked : Act) → n ≡ k → Meets before.first holder.task asked n → PutsBack k holder old new → EndsTurn k before (Still k) new
+  pub itself-still : (new : SeatState) (n : ℕ) (asked : Act) → n ≡ k → Meets before.first holder.task asked n → PutsBack k holder old new → StaysTurn k before (Still k) new
   itself-still new n asked is meets put =
       let unready : is_ready (cell_at has.whole n).state asked ≡ false = itself-unready before.first has.whole k n holder asked found-here meets is in (
         (
@@ -165,10 +178,11 @@ module _ (before : View) (k : ℕ) (holder : Holder) (old : SeatState) (has : Ha
           }),
         ),
         slot-back k old.1 new.1 has.slots put.slots,
+        ap (λ (v : View). v.drawn) (one-returned before k holder old new has put.holds put.view),
       )
 
   -- the node that the turn meets was found taken
-  pub target-busy : (mid new : SeatState) (n : ℕ) (asked : Act) → (k ≡ n → ⊥) → Meets before.first holder.task asked n → FindsTaken n old mid → PutsBack k holder mid new → EndsTurn k before (Busy n) new
+  pub target-busy : (mid new : SeatState) (n : ℕ) (asked : Act) → (k ≡ n → ⊥) → Meets before.first holder.task asked n → FindsTaken n old mid → PutsBack k holder mid new → StaysTurn k before (Busy n) new
   target-busy mid new n asked apart meets finds put =
       let busy : HasOne (with_busy n before) k holder mid = one-busy before k n holder old mid has finds in (
         inr (record {
@@ -182,11 +196,12 @@ module _ (before : View) (k : ℕ) (holder : Holder) (old : SeatState) (has : Ha
           view = one-returned (with_busy n before) k holder mid new busy put.holds put.view;
         }),
         slot-back k mid.1 new.1 busy.slots put.slots,
+        ap (λ (v : View). v.drawn) (one-returned (with_busy n before) k holder mid new busy put.holds put.view),
       )
 
 -- the same, with what the table knows
 pub over-here : (before : View) (k : ℕ) (holder : Holder) (old : SeatState) → HasOne before k holder old → (table : Table) (script : List Procedure) (task : Task) (new : SeatState) → old.0.first ≡ first_of table → script ≡ (first_of table).script
-    → holder.task ≡ Some task → Over ≡ plan (program_of script table.longest) (state_in script task) → PutsBack k holder old new → EndsTurn k before (turn_end.Over k) new
+    → holder.task ≡ Some task → Over ≡ plan (program_of script table.longest) (state_in script task) → PutsBack k holder old new → StaysTurn k before (turn_end.Over k) new
 over-here before k holder old has table script task new first same is over put =
     let there : first_of table ≡ before.first = one-first before k holder old table has first in
     ended-over before k holder old has new script table.longest task (same ∙ ap (λ (f : Beginning). f.script) there) (sym table.texts ∙ ap (λ (f : Beginning). f.longest) there) is over put
@@ -199,7 +214,7 @@ module _ (before : View) (k n : ℕ) (holder met : Holder) (old : SeatState) (ha
   target-here = two-met_found before k n holder met old has.whole has has.stand
 
   -- the node that the turn meets isn't ready
-  pub target-still : (new : SeatState) (asked : Act) → Meets before.first holder.task asked n → is_ready met.node.state asked ≡ false → LeavesBoth k n holder met asked old new → EndsTurn k before (Still k) new
+  pub target-still : (new : SeatState) (asked : Act) → Meets before.first holder.task asked n → is_ready met.node.state asked ≡ false → LeavesBoth k n holder met asked old new → StaysTurn k before (Still k) new
   target-still new asked meets unready put = (
     (
       refl,
@@ -221,13 +236,17 @@ module _ (before : View) (k n : ℕ) (holder met : Holder) (old : SeatState) (ha
       ),
     ),
     slots-back k n old.1 new.1 has.slots put.slots,
+    ap (λ (v : View). v.drawn) (two-left before k n holder met (waiting_with k asked met.node.waiters) old new has put.target put.actor put.view),
   )
 
   -- the turn was taken
   pub meet-moved : (new : SeatState) (ticket : ℕ) (asked : Act) (entry : Entry) (taken met_taken : Option (List Waiter)) (born : Option ℕ) (woken : List Waiter) → MovesBoth k n holder met old ticket entry taken met_taken new
-      → Meets before.first holder.task asked n → is_ready met.node.state asked ≡ true → born ≡ born_at entry.act entry.target → woken ≡ woken_or met_taken → EndsTurn k before (Moved ticket born woken) new
-  meet-moved new ticket asked entry taken met_taken born woken moves meets ready is_born is_woken =
-      (inr (n, meeting-moved before k n ticket holder met asked entry taken met_taken born woken old new has moves meets ready is_born is_woken), slots-back k n old.1 new.1 has.slots moves.slots)
+      → Meets before.first holder.task asked n → is_ready met.node.state asked ≡ true → born ≡ born_at entry.act entry.target → woken ≡ woken_or met_taken → EndsTurn k before (Moved ticket born woken) entry new
+  meet-moved new ticket asked entry taken met_taken born woken moves meets ready is_born is_woken = (
+    inr (n, meeting-moved before k n ticket holder met asked entry taken met_taken born woken old new has moves meets ready is_born is_woken),
+    slots-back k n old.1 new.1 has.slots moves.slots,
+    ap (λ (v : View). v.drawn) moves.view ∙ ap (λ (v : View). with_ticket entry ticket ∷ v.drawn) has.view ∙ own-ticket before ticket entry moves.ticket_is,
+  )
 
   -- memory was refused
   pub two-refused : (new : SeatState) → ReturnsBoth k n holder met old new → RefusesTurn k before new
@@ -258,9 +277,9 @@ after-same old new view some first claimed left drawn is = subst (λ (v : View).
     minus-none : (m : ℕ) → m ≡ m - 0
     minus-none m = omega arith
 
-after-draw : (old new view : View) (ticket k : ℕ) → 0 < old.left → view.first ≡ old.first → view.claimed ≡ old.claimed → view.left ≡ old.left → view.drawn ≡ old.drawn → new ≡ with_draw ticket k view → AfterTurn old new 1
-after-draw old new view ticket k some first claimed left drawn is =
-    let many : length view.drawn ≡ length old.drawn = ap (λ (ds : List Draw). length ds) drawn in
+after-draw : (old new view : View) (entry : Entry) → 0 < old.left → view.first ≡ old.first → view.claimed ≡ old.claimed → view.left ≡ old.left → view.drawn ≡ old.drawn → new ≡ with_draw entry view → AfterTurn old new 1
+after-draw old new view entry some first claimed left drawn is =
+    let many : length view.drawn ≡ length old.drawn = ap (λ (entries : List Entry). length entries) drawn in
     subst (λ (v : View). AfterTurn old v 1) (sym is) (record {
       first = first;
       claimed = claimed;
@@ -272,9 +291,9 @@ after-draw old new view ticket k some first claimed left drawn is =
 
 pub says-after : (k : ℕ) (old new : View) (end : TurnEnd) → 0 < old.left → TurnSays k old end new → AfterTurn old new (tickets_of end)
 says-after k old new (Moved ticket born woken) some (inl m) =
-    after-draw old new (with_one (grown k m.holder m.entry (if ends m.entry.act then [] else m.holder.node.waiters)) old) ticket k some refl refl refl refl m.view
+    after-draw old new (with_one (grown k m.holder m.entry (if ends m.entry.act then [] else m.holder.node.waiters)) old) m.entry some refl refl refl refl m.view
 says-after k old new (Moved ticket born woken) some (inr (n, m)) =
-    after-draw old new (with_two (grown k m.holder m.entry m.holder.node.waiters) (grown n m.met m.entry (if looks m.entry.act then m.met.node.waiters else [])) old) ticket k some refl refl refl refl m.view
+    after-draw old new (with_two (grown k m.holder m.entry m.holder.node.waiters) (grown n m.met m.entry (if looks m.entry.act then m.met.node.waiters else [])) old) m.entry some refl refl refl refl m.view
 says-after k old new (Busy n) some (inl (is, b)) = after-same old new (with_busy k old) some refl refl refl refl b.view
 says-after k old new (Busy n) some (inr b) = after-same old new (with_one (returned k b.holder) (with_busy n old)) some refl refl refl refl b.view
 says-after k old new (Still n) some (is, inl s) = after-same old new (with_one (returned k s.holder) old) some refl refl refl refl s.view

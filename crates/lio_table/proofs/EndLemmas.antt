@@ -220,14 +220,14 @@ abbrev turned_one : View → ℕ → Holder → Entry → View
 turned_one before k holder entry = with_turn entry (with_node k holder before)
 
 one-grown : (before : View) (k ticket : ℕ) (holder : Holder) (entry : Entry) (waiters : List Waiter) (new : View) → before.claimed ≡ [] → entry.actor ≡ k → (h : HoldsNode (turned_one before k holder (with_ticket entry ticket)) k)
-    → new ≡ with_given h.node waiters (turned_one before k holder (with_ticket entry ticket)) → new ≡ with_draw ticket k (with_one (grown k holder (with_ticket entry ticket) waiters) before)
+    → new ≡ with_given h.node waiters (turned_one before k holder (with_ticket entry ticket)) → new ≡ with_draw (with_ticket entry ticket) (with_one (grown k holder (with_ticket entry ticket) waiters) before)
 one-grown before k ticket holder entry waiters new bare actor h is =
     let e : Entry = with_ticket entry ticket in
     let part : of_cell k (e ∷ []) ≡ e ∷ [] = part-of-actor k e actor in
     is ∙ given-one (turned_one before k holder e) (with_entry e (claimed_with k holder)) k waiters h (ap (λ (ns : List Claimed). with_entry e (claimed_with k holder) ∷ map (with_entry e) ns) bare)
     ∙ (λ i. record before {
       claimed = sym bare i;
-      drawn = record { ticket = ticket; task = actor i } ∷ before.drawn;
+      drawn = with_ticket entry ticket ∷ before.drawn;
       left = before.left - 1;
       given = record { number = k; log = holder.node.log ++ part i; waiters = waiters; found = holder.node.waiters } ∷ take 1 before.given;
       taken = before.taken + 1;
@@ -240,7 +240,7 @@ turned_two before k n holder met entry = with_turn entry (with_node n met (with_
 two-grown : (before : View) (k n ticket : ℕ) (holder met : Holder) (entry : Entry) (waiters others : List Waiter) (new : View) → before.claimed ≡ [] → (k ≡ n → ⊥) → entry.actor ≡ k → entry.target ≡ Some n
     → (a : HoldsNode (turned_two before k n holder met (with_ticket entry ticket)) k) → (t : HoldsNode (turned_two before k n holder met (with_ticket entry ticket)) n)
     → new ≡ with_given a.node waiters (with_given t.node others (turned_two before k n holder met (with_ticket entry ticket)))
-    → new ≡ with_draw ticket k (with_two (grown k holder (with_ticket entry ticket) waiters) (grown n met (with_ticket entry ticket) others) before)
+    → new ≡ with_draw (with_ticket entry ticket) (with_two (grown k holder (with_ticket entry ticket) waiters) (grown n met (with_ticket entry ticket) others) before)
 two-grown before k n ticket holder met entry waiters others new bare apart actor target a t is =
     let e : Entry = with_ticket entry ticket in
     let part : of_cell k (e ∷ []) ≡ e ∷ [] = part-of-actor k e actor in
@@ -249,7 +249,7 @@ two-grown before k n ticket holder met entry waiters others new bare apart actor
     (ap (λ (ns : List Claimed). with_entry e (claimed_with n met) ∷ with_entry e (claimed_with k holder) ∷ map (with_entry e) ns) bare)
     ∙ (λ i. record before {
       claimed = sym bare i;
-      drawn = record { ticket = ticket; task = actor i } ∷ before.drawn;
+      drawn = with_ticket entry ticket ∷ before.drawn;
       left = before.left - 1;
       given = record { number = k; log = holder.node.log ++ part i; waiters = waiters; found = holder.node.waiters } ∷ record { number = n; log = met.node.log ++ met_part i; waiters = others; found = met.node.waiters } ∷ [];
       taken = plus-two before.taken i;
@@ -373,7 +373,7 @@ alone-moved before k ticket holder entry taken woken old new has moves is_woken 
     shown = moves.shown has.whole has.stand;
     ticket_is = refl;
     actor = moves.actor;
-    later = subst (λ (v : View). All (λ draw. draw.ticket < ticket) v.drawn) has.view moves.later;
+    later = subst (λ (v : View). All (λ b. b.ticket < ticket) v.drawn) has.view moves.later;
     logs = moves.logs;
   };
   target = moves.target;
@@ -386,7 +386,7 @@ alone-moved before k ticket holder entry taken woken old new has moves is_woken 
     waiters = if ends entry.act then [] else holder.node.waiters
 
     by : (h : HoldsNode (turned_one before k holder (with_ticket entry ticket)) k) × (new.0 ≡ with_given h.node waiters (turned_one before k holder (with_ticket entry ticket)))
-        → new.0 ≡ with_draw ticket k (with_one (grown k holder (with_ticket entry ticket) waiters) before)
+        → new.0 ≡ with_draw (with_ticket entry ticket) (with_one (grown k holder (with_ticket entry ticket) waiters) before)
     by (h, is) = one-grown before k ticket holder entry waiters new.0 has.bare moves.actor h is
 
 -- a turn that meets another node
@@ -406,7 +406,7 @@ meeting-moved before k n ticket holder found asked entry taken met_taken born wo
     shown = moves.shown has.whole has.stand;
     ticket_is = refl;
     actor = moves.actor_is;
-    later = subst (λ (v : View). All (λ draw. draw.ticket < ticket) v.drawn) has.view moves.later;
+    later = subst (λ (v : View). All (λ b. b.ticket < ticket) v.drawn) has.view moves.later;
     logs = moves.logs;
   };
   target = moves.target_is;
@@ -430,7 +430,7 @@ meeting-moved before k n ticket holder found asked entry taken met_taken born wo
 
     by : (a : HoldsNode (turned_two before k n holder found (with_ticket entry ticket)) k) × (t : HoldsNode (turned_two before k n holder found (with_ticket entry ticket)) n)
         × (new.0 ≡ with_given a.node (if ends entry.act then [] else holder.node.waiters) (with_given t.node others (turned_two before k n holder found (with_ticket entry ticket))))
-        → new.0 ≡ with_draw ticket k (with_two (grown k holder (with_ticket entry ticket) holder.node.waiters) (grown n found (with_ticket entry ticket) others) before)
+        → new.0 ≡ with_draw (with_ticket entry ticket) (with_two (grown k holder (with_ticket entry ticket) holder.node.waiters) (grown n found (with_ticket entry ticket) others) before)
     by (a, t, is) =
         two-grown before k n ticket holder found entry holder.node.waiters others new.0 has.bare has.apart moves.actor_is moves.target_is a t
         (is ∙ ap (λ (b : Bool). with_given a.node (if b then [] else holder.node.waiters) (with_given t.node others (turned_two before k n holder found (with_ticket entry ticket)))) no_end)

@@ -1,5 +1,5 @@
 -- A turn that meets another node, both of which a seat holds.
-use Rattle.std.proofs.Common.{◌≡◌, ◌∙◌, sym, ap, subst, ℕ, ◌<◌, List, [], ◌∷◌, ◌++◌, All, Option, Some, None, if◌then◌else◌}
+use Rattle.std.proofs.Common.{◌≡◌, ◌∙◌, refl, sym, ap, subst, ℕ, ◌<◌, List, [], ◌∷◌, ◌++◌, All, Option, Some, None, if◌then◌else◌}
 use Rattle.lio_values.specs.declared.entry.Entry.{Entry}
 use Rattle.lio_cells.specs.declared.waiter.Waiter.{Waiter}
 use Rattle.lio_cells.specs.Node.{IsReadyFor}
@@ -100,7 +100,7 @@ module _ (script : List Procedure) (k n : ℕ) (old mid was room : Holder) (me :
       })
 
       -- once both nodes are given back
-      pub meeting-moved : (holder found : Holder) (new : SeatState) → old ≡ holder → was ≡ found → PutsBoth k n now met after new → MovesBoth k n holder found me ticket entry woken met_woken new
+      pub meeting-moved : (holder found : Holder) (new : SeatState) → old ≡ holder → was ≡ found → PutsBoth k n now met after new → MovesBoth k n holder found me ticket (with_ticket entry ticket) woken met_woken new
       meeting-moved holder found new same_old same_met put = by (subst (λ (m : SeatState). PutsBoth k n now met m new) draws.seat put)
         where
           waited : mid.node.waiters ≡ holder.node.waiters
@@ -109,9 +109,10 @@ module _ (script : List Procedure) (k n : ℕ) (old mid was room : Holder) (me :
           met-waited : room.node.waiters ≡ found.node.waiters
           met-waited = prepared.met.waiters ∙ ap (λ (h : Holder). h.node.waiters) same_met
 
-          by : PutsBoth k n now met (with_turn (with_ticket entry ticket) me.0, me.1) new → MovesBoth k n holder found me ticket entry woken met_woken new
+          by : PutsBoth k n now met (with_turn (with_ticket entry ticket) me.0, me.1) new → MovesBoth k n holder found me ticket (with_ticket entry ticket) woken met_woken new
           by p = record {
             shown = λ c stand. shows c stand ticket;
+            ticket_is = refl;
             actor_is = prepared.actor.actor;
             target_is = prepared.actor.meets;
             later = draws.draws;

@@ -169,16 +169,17 @@ same-returned script n holder old mid me new is as_before put = record {
 
 -- a turn that meets no other node, once its node is given back
 pub moved-alone : (script : List Procedure) (k ticket : ℕ) (holder old mid mid' now : Holder) (me after new : SeatState) (entry : Entry) (woken : Option (List Waiter)) → script ≡ me.0.first.script → old ≡ holder → mid' ≡ mid → CanPut k old me
-    → Prepared script me.0.first.longest (λ c. Unit {0}) old mid k None entry → DrawsTicket entry me ticket after → PutsBack k now after new → Recorded mid' now entry ticket woken → MovesAlone k holder me ticket entry woken new
+    → Prepared script me.0.first.longest (λ c. Unit {0}) old mid k None entry → DrawsTicket entry me ticket after → PutsBack k now after new → Recorded mid' now entry ticket woken → MovesAlone k holder me ticket (with_ticket entry ticket) woken new
 moved-alone script k ticket holder old mid mid' now me after new entry woken same same_old same_mid can prepared draws put recorded =
     by (subst (λ (m : SeatState). PutsBack k now m new) draws.seat put)
   where
     waited : mid'.node.waiters ≡ holder.node.waiters
     waited = ap (λ (h : Holder). h.node.waiters) same_mid ∙ prepared.waiters ∙ ap (λ (h : Holder). h.node.waiters) same_old
 
-    by : PutsBack k now (with_turn (with_ticket entry ticket) me.0, me.1) new → MovesAlone k holder me ticket entry woken new
+    by : PutsBack k now (with_turn (with_ticket entry ticket) me.0, me.1) new → MovesAlone k holder me ticket (with_ticket entry ticket) woken new
     by p = record {
       shown = λ c stand. prepared.shown c (stands-in script k old me same can.holds can.has_log c stand) tt ticket;
+      ticket_is = refl;
       actor = prepared.actor;
       target = prepared.meets;
       later = draws.draws;

@@ -23,9 +23,10 @@ IsTurnOf k ticket seat entry = (c : Configuration) → StandIn seat.0 c → entr
 -- drawn and than those in the actor's log, and the actor's node was given back. The waiters that the node had are woken where the turn is the task's end.
 pub record MovesAlone (k : ℕ) (holder : Holder) (old : SeatState) (ticket : ℕ) (entry : Entry) (taken : Option (List Waiter)) (new : SeatState) : Type 0 where
   pub shown : IsTurnOf k ticket old entry
+  pub ticket_is : entry.ticket ≡ ticket
   pub actor : entry.actor ≡ k
   pub target : entry.target ≡ None
-  pub later : All (λ draw. draw.ticket < ticket) old.0.drawn
+  pub later : All (λ before. before.ticket < ticket) old.0.drawn
   pub logs : All (λ before. before.ticket < ticket) holder.node.log
   pub slots : old.1 ≡ (k, None) ∷ new.1
   pub holds : HoldsNode (with_turn (with_ticket entry ticket) old.0) k
@@ -44,9 +45,10 @@ pub record ReturnsBoth (k n : ℕ) (holder met : Holder) (old new : SeatState) :
 -- changes it.
 pub record MovesBoth (k n : ℕ) (holder met : Holder) (old : SeatState) (ticket : ℕ) (entry : Entry) (taken met_taken : Option (List Waiter)) (new : SeatState) : Type 0 where
   pub shown : IsTurnOf k ticket old entry
+  pub ticket_is : entry.ticket ≡ ticket
   pub actor_is : entry.actor ≡ k
   pub target_is : entry.target ≡ Some n
-  pub later : All (λ draw. draw.ticket < ticket) old.0.drawn
+  pub later : All (λ before. before.ticket < ticket) old.0.drawn
   pub logs : All (λ before. before.ticket < ticket) holder.node.log
   pub met_logs : All (λ before. before.ticket < ticket) met.node.log
   pub slots : old.1 ≡ (n, None) ∷ (k, None) ∷ new.1

@@ -1,5 +1,6 @@
 -- The nodes that a seat holds in the middle of a turn.
 use Rattle.std.specs.Prelude.{◌≡◌, ℕ, ◌<◌, List, [], ◌∷◌, length, Option, Some, None}
+use Rattle.lio_values.specs.declared.entry.Entry.{Entry}
 use Rattle.lio_cells.specs.declared.waiter.Waiter.{Waiter}
 use Rattle.lio_syntax.specs.Statements.{Procedure}
 use Rattle.lio_calculus.specs.Step.{Configuration}
@@ -11,7 +12,7 @@ use Rattle.lio_table.specs.declared.table.Table.{Table}
 use Rattle.lio_table.specs.declared.turn.TurnEnd.{TurnEnd}
 use Rattle.lio_table.specs.declared.turn.TurnEnd.TheVariants.{Moved}
 use Rattle.lio_table.specs.Tables.{first_of}
-use Rattle.lio_table.specs.Turns.{TurnRefused, TurnSays}
+use Rattle.lio_table.specs.Turns.{TurnRefused, TurnSays, drawn_after}
 
 -- Task k of a table may take its turn by a script, on a seat that has a ticket left: the seat knows what the table began with, and the script is that.
 pub record IsInTurn (table : Table) (script : List Procedure) (k : ℕ) (seat : SeatState) : Type 0 where
@@ -41,9 +42,9 @@ pub record HasTwo (before : View) (k n : ℕ) (holder met : Holder) (seat : Seat
   pub whole : Configuration
   pub stand : StandIn seat.0 whole
 
--- what a turn answers, after which no slot is out with the seat
-abbrev pub EndsTurn : ℕ → View → TurnEnd → SeatState → Type 0
-EndsTurn k before end seat = TurnSays k before end seat.0 × (seat.1 ≡ [])
+-- what a turn answers, after which no slot is out with the seat, with the turn's entry
+abbrev pub EndsTurn : ℕ → View → TurnEnd → Entry → SeatState → Type 0
+EndsTurn k before end entry seat = TurnSays k before end seat.0 × (seat.1 ≡ []) × (seat.0.drawn ≡ drawn_after end entry before.drawn)
 
 -- what holds after a refusal of memory, after which no slot is out with the seat
 abbrev pub RefusesTurn : ℕ → View → SeatState → Type 0

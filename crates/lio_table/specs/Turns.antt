@@ -44,9 +44,9 @@ with_one given view = record view { given = given ∷ take 1 view.given; taken =
 abbrev pub with_two : Given → Given → View → View
 with_two given met view = record view { given = given ∷ met ∷ []; taken = view.taken + 2 }
 
--- a view after a ticket was drawn for a task
-abbrev pub with_draw : ℕ → ℕ → View → View
-with_draw ticket k view = record view { drawn = record { ticket = ticket; task = k } ∷ view.drawn; left = view.left - 1 }
+-- a view after a ticket was drawn for the turn of an entry
+abbrev pub with_draw : Entry → View → View
+with_draw entry view = record view { drawn = entry ∷ view.drawn; left = view.left - 1 }
 
 -- A holder with which node n was claimed stands in a sound configuration of the table, which has a cell for each node, and its cell there is what its log makes of the node's first.
 pub record Found (first : Beginning) (c : Configuration) (n : ℕ) (holder : Holder) : Type 0 where
@@ -69,7 +69,7 @@ pub record IsTurn (c : Configuration) (k ticket : ℕ) (old : View) (log : List 
   pub shown : entry_in c.program (cell_at c) ticket k ≡ Some entry
   pub ticket_is : entry.ticket ≡ ticket
   pub actor : entry.actor ≡ k
-  pub later : All (λ draw. draw.ticket < ticket) old.drawn
+  pub later : All (λ before. before.ticket < ticket) old.drawn
   pub logs : All (λ before. before.ticket < ticket) log
 
 -- Task k took a turn that meets no other node: its node alone was claimed, and given back with the turn's entry last in its log. Where the turn is the
@@ -83,7 +83,7 @@ pub record MovedAlone (k : ℕ) (old : View) (ticket : ℕ) (born : Option ℕ) 
   pub target : entry.target ≡ None
   pub born_is : born ≡ None
   pub woken_is : woken ≡ (if ends entry.act then holder.node.waiters else [])
-  pub view : new ≡ with_draw ticket k (with_one (grown k holder entry (if ends entry.act then [] else holder.node.waiters)) old)
+  pub view : new ≡ with_draw entry (with_one (grown k holder entry (if ends entry.act then [] else holder.node.waiters)) old)
 
 -- the number of the task to which a turn gave birth, by its entry
 abbrev pub born_at : Act → Option ℕ → Option ℕ
@@ -107,7 +107,7 @@ pub record MovedMeeting (k n : ℕ) (old : View) (ticket : ℕ) (born : Option �
   pub met_logs : All (λ before. before.ticket < ticket) met.node.log
   pub born_is : born ≡ born_at entry.act (Some n)
   pub woken_is : woken ≡ (if looks entry.act then [] else met.node.waiters)
-  pub view : new ≡ with_draw ticket k (with_two (grown k holder entry holder.node.waiters) (grown n met entry (if looks entry.act then met.node.waiters else [])) old)
+  pub view : new ≡ with_draw entry (with_two (grown k holder entry holder.node.waiters) (grown n met entry (if looks entry.act then met.node.waiters else [])) old)
 
 -- task k took its turn
 abbrev pub HasMoved : ℕ → View → ℕ → Option ℕ → List Waiter → View → Type 0
@@ -177,6 +177,11 @@ pub record HasEnded (k : ℕ) (old new : View) : Type 0 where
   pub over : IsOver holder.task
   pub still : can whole k ≡ false
   pub view : new ≡ with_one (returned k holder) old
+
+-- the entries of a seat's turns after a turn, the last first: the turn's own has come to them where the turn was taken
+abbrev pub drawn_after : TurnEnd → Entry → List Entry → List Entry
+drawn_after (Moved ticket born woken) entry drawn = entry ∷ drawn
+drawn_after end entry drawn = drawn
 
 -- what a turn of task k answers
 abbrev pub TurnSays : ℕ → View → TurnEnd → View → Type 0

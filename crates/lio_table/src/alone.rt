@@ -47,6 +47,7 @@ impl Table {
         match prepared {
             Ok(()) => {
                 let ticket = self.draw(seat, entry);
+                entry.ticket = ticket;
                 let woken = holder.get_mut().record(ticket);
                 self.put(seat, k, holder);
                 Ok((ticket, woken))

@@ -104,6 +104,7 @@ impl Table {
         match prepared {
             Ok(child) => {
                 let ticket = self.draw(seat, entry);
+                entry.ticket = ticket;
                 let woken = holder.get_mut().record(ticket);
                 let met_woken = met.get_mut().record_met(ticket, child);
                 self.put_both(seat, k, n, holder, met);

@@ -9,8 +9,8 @@ use lio_table_rule::{Slot, View};
 /// A seat as the atomic steps take it.
 pub(crate) type NodeSeat = Seat<Slot, View>;
 
-/// A right to claim nodes of a table and to draw some of its tickets. It knows the tickets that it
-/// has drawn, each with the task for which it did. It holds two nodes at most.
+/// A right to claim nodes of a table and to draw some of its tickets. It knows the entries of the
+/// turns for which it has drawn tickets. It holds two nodes at most.
 #[derive(Drop)]
 pub struct LioSeat {
     pub(crate) seat: NodeSeat,

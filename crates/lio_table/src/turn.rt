@@ -3,7 +3,7 @@ ghost use Rattle.std.specs.Prelude.{◌≡◌, ◌<◌, [], IfErr, IfOk};
 ghost use Rattle.lio_config.specs.Takes.{PlansFull, PlansOwn, PlansVisit};
 ghost use Rattle.lio_table_rule.specs.declared.view.View.{View};
 ghost use Rattle.lio_table.specs.Tables.{IsSeatOf, first_of, view_of};
-ghost use Rattle.lio_table.specs.Turns.{TurnRefused, TurnSays, born_at};
+ghost use Rattle.lio_table.specs.Turns.{TurnRefused, TurnSays, born_at, drawn_after};
 ghost use Rattle.lio_table.specs.Taken.{EndsTurn, HasOne, HasTwo, IsInTurn, RefusesTurn};
 ghost use Rattle.lio_table.specs.Taken.{tickets_of, woken_or};
 
@@ -86,13 +86,41 @@ impl Table {
         ensures ok { IfOk result (λ end. TurnSays k (view_of seat.old) end (view_of seat.new)) }
         ensures err { IfErr result (λ _. TurnRefused k (view_of seat.old) (view_of seat.new)) }
     {
+        let mut entry = blank_entry(alloc)?;
+        let end = self.turn_into(alloc, seat, script, k, &mut entry);
+        drop(entry);
+        end
+    }
+
+    /// Lets a task take its turn, as `turn` does, and puts the turn's entry into `entry`, with its
+    /// ticket. Where the turn isn't taken, what comes to stand there says nothing.
+    pub fn turn_into(
+        &self,
+        alloc: Global,
+        seat: &mut LioSeat,
+        script: &Script,
+        k: u32,
+        entry: &mut Entry,
+    ) -> Result<TurnEnd, NoMemory>
+        requires seat { IsSeatOf self.now seat.old }
+        requires bare { (view_of seat.old).claimed ≡ [] }
+        requires left { 0 < (view_of seat.old).left }
+        requires script { script.now ≡ (first_of self.now).script }
+        requires node { k < self.now.len }
+        ensures seat { IsSeatOf self.now seat.new }
+        ensures bare { (view_of seat.new).claimed ≡ [] }
+        ensures ok { IfOk result (λ end. TurnSays k (view_of seat.old) end (view_of seat.new)) }
+        ensures entry { IfOk result (λ end. (view_of seat.new).drawn
+            ≡ drawn_after end entry.new (view_of seat.old).drawn) }
+        ensures err { IfErr result (λ _. TurnRefused k (view_of seat.old) (view_of seat.new)) }
+    {
         let LioSeat {
             seat,
             left,
             last: _,
             other: _,
         } = seat;
-        match self.start(alloc, seat, script, k) {
+        match self.start(alloc, seat, script, k, entry) {
             Ok(end) => {
                 *left -= tickets(&end);
                 Ok(end)
@@ -108,28 +136,19 @@ impl Table {
         seat: &mut NodeSeat,
         script: &Script,
         k: u32,
+        entry: &mut Entry,
     ) -> Result<TurnEnd, NoMemory>
         requires table { seat.old.table_id ≡ self.now.nodes.shared.table_id }
         requires turn { IsInTurn self.now script.now k seat.old.me }
         requires bare { seat.old.me.0.claimed ≡ [] }
         requires slots { seat.old.me.1 ≡ [] }
         ensures table { seat.new.table_id ≡ seat.old.table_id }
-        ensures ok { IfOk result (λ end. EndsTurn k seat.old.me.0 end seat.new.me) }
+        ensures ok { IfOk result (λ end. EndsTurn k seat.old.me.0 end entry.new seat.new.me) }
         ensures err { IfErr result (λ _. RefusesTurn k seat.old.me.0 seat.new.me) }
     {
-        let Ok(mut entry) = blank_entry(alloc) else {
-            return Err(NoMemory);
-        };
         match self.take(seat, k) {
-            Some(holder) => {
-                let end = self.go_on(alloc, seat, script, k, holder, &mut entry);
-                drop(entry);
-                end
-            }
-            None => {
-                drop(entry);
-                Ok(TurnEnd::Busy(k))
-            }
+            Some(holder) => self.go_on(alloc, seat, script, k, holder, entry),
+            None => Ok(TurnEnd::Busy(k)),
         }
     }
 
@@ -148,7 +167,7 @@ impl Table {
         requires has { (before : View) × HasOne before k holder seat.old.me }
         ensures table { seat.new.table_id ≡ seat.old.table_id }
         ensures ok { (before : View) → HasOne before k holder seat.old.me
-            → IfOk result (λ end. EndsTurn k before end seat.new.me) }
+            → IfOk result (λ end. EndsTurn k before end entry.new seat.new.me) }
         ensures err { (before : View) → HasOne before k holder seat.old.me
             → IfErr result (λ _. RefusesTurn k before seat.new.me) }
     {
@@ -217,7 +236,7 @@ impl Table {
         requires plans { PlansOwn script.now self.now.longest holder.task act reply way }
         ensures table { seat.new.table_id ≡ seat.old.table_id }
         ensures ok { (before : View) → HasOne before k holder seat.old.me
-            → IfOk result (λ end. EndsTurn k before end seat.new.me) }
+            → IfOk result (λ end. EndsTurn k before end entry.new seat.new.me) }
         ensures err { (before : View) → HasOne before k holder seat.old.me
             → IfErr result (λ _. RefusesTurn k before seat.new.me) }
     {
@@ -245,7 +264,7 @@ impl Table {
         requires plans { PlansFull script.now self.now.longest holder.task full }
         ensures table { seat.new.table_id ≡ seat.old.table_id }
         ensures ok { (before : View) → HasOne before k holder seat.old.me
-            → IfOk result (λ end. EndsTurn k before end seat.new.me) }
+            → IfOk result (λ end. EndsTurn k before end entry.new seat.new.me) }
         ensures err { (before : View) → HasOne before k holder seat.old.me
             → IfErr result (λ _. RefusesTurn k before seat.new.me) }
     {
@@ -302,7 +321,7 @@ impl Table {
         requires plans { PlansVisit script.now self.now.longest holder.task act n onward }
         ensures table { seat.new.table_id ≡ seat.old.table_id }
         ensures ok { (before : View) → HasOne before k holder seat.old.me
-            → IfOk result (λ end. EndsTurn k before end seat.new.me) }
+            → IfOk result (λ end. EndsTurn k before end entry.new seat.new.me) }
         ensures err { (before : View) → HasOne before k holder seat.old.me
             → IfErr result (λ _. RefusesTurn k before seat.new.me) }
     {
@@ -344,7 +363,7 @@ impl Table {
         requires plans { PlansVisit script.now self.now.longest holder.task act n onward }
         ensures table { seat.new.table_id ≡ seat.old.table_id }
         ensures ok { (before : View) → HasTwo before k n holder met seat.old.me
-            → IfOk result (λ end. EndsTurn k before end seat.new.me) }
+            → IfOk result (λ end. EndsTurn k before end entry.new seat.new.me) }
         ensures err { (before : View) → HasTwo before k n holder met seat.old.me
             → IfErr result (λ _. RefusesTurn k before seat.new.me) }
     {

@@ -6,20 +6,20 @@ use mathlib.Core.Option.{some}
 use native.Mathlib.Decide.{dec_le, ℕ_discrete}
 use lib.ListN.{get_elem?}
 use Rattle.atomic_table.specs.Table.{Final, Seen}
+use Rattle.lio_values.specs.declared.entry.Entry.{Entry}
 use Rattle.lio_calculus.specs.Run.{Ran}
 use Rattle.lio_calculus.specs.Sound.{IsSound}
 use Rattle.lio_calculus.specs.Step.{Configuration, blank, cell_at}
 use Rattle.lio_calculus_logs.specs.Logs.{folded}
-use Rattle.lio_calculus_logs.specs.Journals.{ArePartsOf, of_cell}
+use Rattle.lio_calculus_logs.specs.Journals.{ArePartsOf, HaveSameEntries, of_cell}
 use Rattle.lio_calculus_logs.proofs.JournalLemmas.{parts-mergeable, parts-merged}
 use Rattle.lio_config.specs.declared.config.Holder.{Holder}
 use Rattle.lio_config.specs.Logs.{logs_of}
 use Rattle.lio_table_rule.specs.declared.view.Beginning.{Beginning}
 use Rattle.lio_table_rule.specs.declared.view.Claimed.{Claimed}
-use Rattle.lio_table_rule.specs.declared.view.Draw.{Draw}
 use Rattle.lio_table_rule.specs.declared.view.View.{View}
 use Rattle.lio_table_rule.specs.Views.{HasLog, configuration_from, rights}
-use Rattle.lio_table_rule.specs.Rule.{HaveSameDraws, IsAt, Keeps, TableState, draws_of}
+use Rattle.lio_table_rule.specs.Rule.{IsAt, Keeps, TableState}
 use Rattle.lio_table_rule.specs.Ends.{HasRun, logs_in}
 use Rattle.lio_table_rule.specs.Laws.{ClosedTableHasRun}
 use Rattle.lio_table_rule.proofs.Lists.{all-there, at-one, sum-sole, there}
@@ -43,13 +43,13 @@ module _ (first : Beginning) (id : ℕ) (view : View) (s : TableState) (kept : K
   at-home n None home = (home.holder, home.slot, home.has_log)
   at-home n (Some seat) there = absurd (nothing there.holds.node (subst (λ nodes. Contains nodes there.holds.node) (nobody seat there.view there.is_view) there.holds.has))
 
-  -- and the tickets that the seat has drawn are all
-  all-drawn : HaveSameDraws view.drawn (draws_of kept.journal)
+  -- and the entries for whose tickets the seat has drawn are all
+  all-drawn : HaveSameEntries view.drawn kept.journal
   all-drawn p = sym (sum-sole (drawn-by p) s.views id view is (λ seat other apart at. none other.left other.drawn (alone first kept.journal s kept.tickets id view is mine seat other apart at))) ∙ kept.tickets.drawn p
     where
-      none : (left : ℕ) (draws : List Draw) → length draws + left ≡ 0 → count_by p draws ≡ 0
+      none : (left : ℕ) (drawn : List Entry) → length drawn + left ≡ 0 → count_by p drawn ≡ 0
       none left [] is_zero = refl
-      none left (draw ∷ draws) is_zero = absurd (omega (arith, is_zero))
+      none left (entry ∷ drawn) is_zero = absurd (omega (arith, is_zero))
 
   module _ (holders : List Holder) (many : length holders ≡ length first.holders) (each : (n : ℕ) (holder : Holder) → get_elem? holders n ≡ some holder → HasLog first n (of_cell n kept.journal) holder) where
     abbrev c : Configuration
@@ -89,6 +89,7 @@ module _ (first : Beginning) (id : ℕ) (view : View) (s : TableState) (kept : K
         let ran = turns-run c kept.journal kept.turns in (
           record {
             journal = kept.journal;
+            parts = logs-are;
             mergeable = parts-mergeable (logs_in holders) kept.journal logs-are kept.turns.numbered;
             merged = parts-merged (logs_in holders) kept.journal logs-are kept.turns.numbered;
             numbered = kept.turns.numbered;

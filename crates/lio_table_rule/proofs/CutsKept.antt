@@ -8,7 +8,6 @@ use Rattle.atomic_table.proofs.Lists.{set_else}
 use Rattle.lio_values.specs.declared.entry.Entry.{Entry}
 use Rattle.lio_table_rule.specs.declared.view.Beginning.{Beginning}
 use Rattle.lio_table_rule.specs.declared.view.Claimed.{Claimed}
-use Rattle.lio_table_rule.specs.declared.view.Draw.{Draw}
 use Rattle.lio_table_rule.specs.declared.view.View.{View}
 use Rattle.lio_table_rule.specs.Views.{HoldsNode, rights}
 use Rattle.lio_table_rule.specs.Rule.{AreDrawn, HaveOwners, Keeps, KeepsWith, TableState}
@@ -18,8 +17,8 @@ use Rattle.lio_table_rule.proofs.Lists.{sum-set}
 use Rattle.lio_table_rule.proofs.Seats.{owners-push, owners-set}
 use Rattle.lio_table_rule.proofs.Tickets.{drawn-by, rights-push, rights-set}
 
-no-draw : (draw : Draw) → Contains [] draw → ⊥
-no-draw draw (k, within, at) = absurd (omega arith)
+no-entry : (entry : Entry) → Contains [] entry → ⊥
+no-entry entry (k, within, at) = absurd (omega arith)
 
 no-node : (node : Claimed) → Contains [] node → ⊥
 no-node node (k, within, at) = absurd (omega arith)
@@ -56,7 +55,7 @@ module _ (first : Beginning) (id : ℕ) (view : View) (tickets : ℕ) (some_of :
         let push = sum_by_push (drawn-by p) (set s.views id left) right in
         let drawn = kept.tickets.drawn p in omega (arith, changed, push, drawn);
     seats = rights-push first (length kept.journal) (set s.views id left) right (record {
-      below = λ draw has. absurd (no-draw draw has);
+      below = λ entry has. absurd (no-entry entry has);
       knows = λ some. knows;
       spent = λ none. refl;
     }) (rights-set first (length kept.journal) s.views id left (record {
@@ -119,21 +118,21 @@ module _ (first : Beginning) (id : ℕ) (view : View) (other : ℕ) (its : View)
         let one = sum-set (drawn-by p) s.views id view both is in
         let two = sum-set (drawn-by p) (set s.views id both) other its spent is_its in
         let drawn = kept.tickets.drawn p in
-        let counts = sum_by-append (λ (d : Draw). cond (p d) 1 0) its.drawn view.drawn in omega (arith, one, two, drawn, counts);
+        let counts = sum_by-append (λ (e : Entry). cond (p e) 1 0) its.drawn view.drawn in omega (arith, one, two, drawn, counts);
     seats = rights-set first (length kept.journal) (set s.views id both) other spent (record {
-      below = λ draw has. absurd (no-draw draw has);
+      below = λ entry has. absurd (no-entry entry has);
       knows = λ none. absurd (omega (arith, none));
       spent = λ none. refl;
     }) (rights-set first (length kept.journal) s.views id both (record {
-      below = λ draw has. below draw (Contains-append_cases its.drawn view.drawn draw has);
+      below = λ entry has. below entry (Contains-append_cases its.drawn view.drawn entry has);
       knows = λ some. (kept.tickets.seats id view is).knows some_of;
       spent = λ none. let rights_are = joined-rights in absurd (omega (arith, none, rights_are, some_of));
     }) kept.tickets.seats);
   }
     where
-      below : (draw : Draw) → Contains its.drawn draw ⊎ Contains view.drawn draw → draw.ticket < length kept.journal
-      below draw (inl has) = (kept.tickets.seats other its was).below draw has
-      below draw (inr has) = (kept.tickets.seats id view is).below draw has
+      below : (entry : Entry) → Contains its.drawn entry ⊎ Contains view.drawn entry → entry.ticket < length kept.journal
+      below entry (inl has) = (kept.tickets.seats other its was).below entry has
+      below entry (inr has) = (kept.tickets.seats id view is).below entry has
 
   joined-keeps : KeepsWith first kept.journal after
   joined-keeps = (record { journal = kept.journal; owners = joined-owners; tickets = joined-tickets; turns = kept.turns }, refl)

@@ -49,7 +49,7 @@ module _ (first : Beginning) (sound : IsSound (configuration_from first)) (fresh
 
   only-seat : (seat : ℕ) (view : View) → get_elem? (with_all_tickets first ∷ []) seat ≡ some view → HasRights first 0 view
   only-seat zero view is = subst (HasRights first 0) (some-injective (with_all_tickets first) view is) (record {
-    below = λ draw has. absurd (omega (arith, has.1));
+    below = λ entry has. absurd (omega (arith, has.1));
     knows = λ some. refl;
     spent = λ none. refl;
   })

@@ -15,10 +15,9 @@ use Rattle.lio_calculus_logs.proofs.JournalLemmas.{has-cases, has-first, has-lat
 use Rattle.lio_config.specs.declared.config.Holder.{Holder}
 use Rattle.lio_table_rule.specs.declared.view.Beginning.{Beginning}
 use Rattle.lio_table_rule.specs.declared.view.Claimed.{Claimed}
-use Rattle.lio_table_rule.specs.declared.view.Draw.{Draw}
 use Rattle.lio_table_rule.specs.declared.view.View.{View}
 use Rattle.lio_table_rule.specs.Views.{HoldsNode, configuration_from, rights}
-use Rattle.lio_table_rule.specs.Rule.{AreDrawn, AreTurns, HasRights, HaveOwners, IsHeldBy, Keeps, KeepsWith, TableState, draws_of}
+use Rattle.lio_table_rule.specs.Rule.{AreDrawn, AreTurns, HasRights, HaveOwners, IsHeldBy, Keeps, KeepsWith, TableState}
 use Rattle.lio_table_rule.specs.Laws.{TicketAddsItsEntry, TicketKeepsTheRule}
 use Rattle.lio_table_rule.specs.Steps.{CanRecord, DrawsTicket, SeatState, with_entry, with_ticket, with_turn}
 use Rattle.lio_table_rule.proofs.Lists.{sum-set}
@@ -124,19 +123,14 @@ module _ (first : Beginning) (id : ℕ) (me : SeatState) (shows : Entry) (can : 
           clash : kept.owners.owner node.number ≡ Some id → seat ≡ id
           clash mine = let theirs = by.owned in cc
 
-  -- how many tickets that pass a test were drawn
-  drawn-after : (next : ℕ) (p : Draw → Bool) → sum_by (drawn-by p) (set s.views id new) ≡ count_by p (draws_of more)
+  -- for how many entries that pass a test tickets were drawn
+  drawn-after : (next : ℕ) (p : Entry → Bool) → sum_by (drawn-by p) (set s.views id new) ≡ count_by p more
   drawn-after next p =
-      let draw : Draw = record { ticket = length journal; task = shows.actor } in
       let changed = sum-set (drawn-by p) s.views id me.0 new is in
       let drawn = kept.tickets.drawn p in
-      let one_more = sum_by-cons (λ (d : Draw). cond (p d) 1 0) draw me.0.drawn in
-      let pushed = sum_by_push (λ (d : Draw). cond (p d) 1 0) (draws_of journal) draw in
-      let split : count_by p (draws_of more) ≡ count_by p (draws_of journal ++ draw ∷ []) = ap (count_by p) (map-append (λ (e : Entry). draw_of e) journal (entry ∷ [])) in
-      omega (arith, changed, drawn, one_more, pushed, split)
-    where
-      draw_of : Entry → Draw
-      draw_of e = record { ticket = e.ticket; task = e.actor }
+      let one_more = sum_by-cons (λ (e : Entry). cond (p e) 1 0) entry me.0.drawn in
+      let pushed = sum_by_push (λ (e : Entry). cond (p e) 1 0) journal entry in
+      omega (arith, changed, drawn, one_more, pushed)
 
   tickets-after : (next : ℕ) → next ≡ length journal + 1 → AreDrawn first more (after next)
   tickets-after next counted =
@@ -148,7 +142,7 @@ module _ (first : Beginning) (id : ℕ) (me : SeatState) (shows : Entry) (can : 
         all = let changed = sum-set rights s.views id me.0 new is in let all = kept.tickets.all in omega (arith, changed, all, left);
         drawn = drawn-after next;
         seats = rights-set first (length more) s.views id new (record {
-          below = λ draw has. mine-below draw (has-cases _ me.0.drawn draw has);
+          below = λ e has. mine-below e (has-cases _ me.0.drawn e has);
           knows = λ some. knows;
           spent = λ none. absurd (omega (arith, none, left));
         }) (λ seat view at. older seat view at);
@@ -157,14 +151,14 @@ module _ (first : Beginning) (id : ℕ) (me : SeatState) (shows : Entry) (can : 
       up : (ticket : ℕ) → ticket < length journal → ticket < length more
       up ticket lower = let long : length more ≡ length journal + 1 = length-append journal (entry ∷ []) in omega (arith, long, lower)
 
-      mine-below : (draw : Draw) → (record { ticket = length journal; task = shows.actor } ≡ draw) ⊎ Contains me.0.drawn draw → draw.ticket < length more
-      mine-below draw (inl same) =
+      mine-below : (e : Entry) → (entry ≡ e) ⊎ Contains me.0.drawn e → e.ticket < length more
+      mine-below e (inl same) =
           let long : length more ≡ length journal + 1 = length-append journal (entry ∷ []) in
-          let at : length journal ≡ draw.ticket = ap (λ (d : Draw). d.ticket) same in omega (arith, long, at)
-      mine-below draw (inr old) = up draw.ticket ((kept.tickets.seats id me.0 is).below draw old)
+          let at : length journal ≡ e.ticket = ap (λ (d : Entry). d.ticket) same in omega (arith, long, at)
+      mine-below e (inr old) = up e.ticket ((kept.tickets.seats id me.0 is).below e old)
 
       older : (seat : ℕ) (view : View) → get_elem? s.views seat ≡ some view → HasRights first (length more) view
-      older seat view at = let r = kept.tickets.seats seat view at in record { below = λ draw has. up draw.ticket (r.below draw has); knows = r.knows; spent = r.spent }
+      older seat view at = let r = kept.tickets.seats seat view at in record { below = λ e has. up e.ticket (r.below e has); knows = r.knows; spent = r.spent }
 
   -- what is told of the ticket
   told : DrawsTicket shows me (length journal) (new, me.1)

@@ -1,6 +1,5 @@
 -- Which tickets the seats have, after a step.
 use Rattle.std.proofs.Common.{◌≡◌, ◌∙◌, sym, ap, subst, arith, ℕ, ◌+◌, ◌^◌, ◌<◌, ⊎_elim, Bool, true, Option, List, [], ◌∷◌, ◌++◌, length, set, slice_index, Contains, count_by, sum_by}
-use Rattle.std.proofs.lemmas.List.{length-map}
 use mathlib.Core.Option.{some}
 use mathlib.Core.Option as maybe
 use lib.ListN.{get_elem?}
@@ -8,14 +7,13 @@ use Rattle.atomic_table.proofs.Lists.{at_set as at-set-cases, at_snoc}
 use Rattle.lio_values.specs.declared.entry.Entry.{Entry}
 use Rattle.lio_config.specs.declared.config.Holder.{Holder}
 use Rattle.lio_table_rule.specs.declared.view.Beginning.{Beginning}
-use Rattle.lio_table_rule.specs.declared.view.Draw.{Draw}
 use Rattle.lio_table_rule.specs.declared.view.View.{View}
 use Rattle.lio_table_rule.specs.Views.{rights}
-use Rattle.lio_table_rule.specs.Rule.{AreDrawn, HasRights, TableState, draws_of}
+use Rattle.lio_table_rule.specs.Rule.{AreDrawn, HasRights, TableState}
 use Rattle.lio_table_rule.proofs.Lists.{count-all, sum-has, sum-has_two, sum-plus, sum-set}
 
--- how many tickets that pass a test a seat has drawn
-abbrev pub drawn-by : (Draw → Bool) → View → ℕ
+-- how many entries that pass a test a seat has drawn the tickets for
+abbrev pub drawn-by : (Entry → Bool) → View → ℕ
 drawn-by p view = count_by p view.drawn
 
 -- each seat's rights, after a seat's view has changed
@@ -31,12 +29,9 @@ rights-push first count views new mine others seat view at = ⊎_elim (λ there.
 module _ (first : Beginning) (journal : List Entry) (s : TableState) (tickets : AreDrawn first journal s) where
   -- as many tickets were drawn as the journal has entries
   pub drawn-many : sum_by (λ view. length view.drawn) s.views ≡ length journal
-  drawn-many = along s.views ∙ tickets.drawn (λ draw. true) ∙ count-all (draws_of journal) ∙ length-map journal (λ (entry : Entry). draw_of entry)
+  drawn-many = along s.views ∙ tickets.drawn (λ entry. true) ∙ count-all journal
     where
-      draw_of : Entry → Draw
-      draw_of entry = record { ticket = entry.ticket; task = entry.actor }
-
-      along : (views : List View) → sum_by (λ view. length view.drawn) views ≡ sum_by (λ view. count_by (λ draw. true) view.drawn) views
+      along : (views : List View) → sum_by (λ view. length view.drawn) views ≡ sum_by (λ view. count_by (λ entry. true) view.drawn) views
       along views = λ i. sum_by (λ view. sym (count-all view.drawn) i) views
 
   -- while a seat has one left, there are fewer than all

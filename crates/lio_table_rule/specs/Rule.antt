@@ -1,6 +1,6 @@
 -- The rule of a table of nodes that threads share. Word 0 is the next ticket, word n + 1 is 0 while node n is at home and 1 while a seat holds it,
 -- and slot n has its holder while it is at home. The entries of all turns, in the order of their tickets, are the journal; a node's log is its part of it.
-use Rattle.std.specs.Prelude.{◌≡◌, ℕ, ◌+◌, ◌^◌, ◌<◌, ◌≤◌, Bool, List, [], map, length, slice_index, Contains, Option, Some, None}
+use Rattle.std.specs.Prelude.{◌≡◌, ℕ, ◌+◌, ◌^◌, ◌<◌, ◌≤◌, Bool, List, [], length, slice_index, Contains, Option, Some, None}
 use Rattle.std.specs.List.{count_by, sum_by}
 use mathlib.Core.Option.{none, some}
 use lib.ListN.{get_elem?}
@@ -13,7 +13,6 @@ use Rattle.lio_calculus_logs.specs.Journals.{AreNumberedFrom, of_cell}
 use Rattle.lio_config.specs.declared.config.Holder.{Holder}
 use Rattle.lio_table_rule.specs.declared.view.Beginning.{Beginning}
 use Rattle.lio_table_rule.specs.declared.view.Claimed.{Claimed}
-use Rattle.lio_table_rule.specs.declared.view.Draw.{Draw}
 use Rattle.lio_table_rule.specs.declared.view.View.{View}
 use Rattle.lio_table_rule.specs.Views.{HasLog, HoldsNode, configuration_from, rights}
 
@@ -55,25 +54,17 @@ pub record HaveOwners (first : Beginning) (journal : List Entry) (s : TableState
   pub nodes : (n : ℕ) → n < length first.holders → IsAt first journal s n (owner n)
   pub seats : (seat : ℕ) (view : View) → get_elem? s.views seat ≡ some view → (node : Claimed) → Contains view.claimed node → IsHeldBy first journal owner seat node
 
--- the tickets of a journal, with the tasks whose turns they are
-abbrev pub draws_of : List Entry → List Draw
-draws_of journal = map (λ entry. record { ticket = entry.ticket; task = entry.actor }) journal
-
--- lists have the same elements, each as often
-abbrev pub HaveSameDraws : List Draw → List Draw → Type 0
-HaveSameDraws one other = (p : Draw → Bool) → count_by p one ≡ count_by p other
-
 -- A seat has drawn tickets below a number. It has one drawn or left and knows what the table began with, or it is spent and holds nothing.
 pub record HasRights (first : Beginning) (count : ℕ) (view : View) : Type 0 where
-  pub below : (draw : Draw) → Contains view.drawn draw → draw.ticket < count
+  pub below : (entry : Entry) → Contains view.drawn entry → entry.ticket < count
   pub knows : 0 < rights view → view.first ≡ first
   pub spent : rights view ≡ 0 → view.claimed ≡ []
 
--- Each ticket of the journal was drawn by one seat, once, for its actor, and the seats have 2^62 tickets among them, drawn or left.
+-- Each entry of the journal is that of a turn for which one seat has drawn the ticket, once, and the seats have 2^62 tickets among them, drawn or left.
 pub record AreDrawn (first : Beginning) (journal : List Entry) (s : TableState) : Type 0 where
   pub next : slice_index s.words 0 ≡ length journal
   pub all : sum_by rights s.views ≡ 2 ^ 62
-  pub drawn : (p : Draw → Bool) → sum_by (λ view. count_by p view.drawn) s.views ≡ count_by p (draws_of journal)
+  pub drawn : (p : Entry → Bool) → sum_by (λ view. count_by p view.drawn) s.views ≡ count_by p journal
   pub seats : (seat : ℕ) (view : View) → get_elem? s.views seat ≡ some view → HasRights first (length journal) view
 
 -- A journal of turns from a sound configuration: its tickets go from 0 on, its entries show the configuration's nodes alone, and each is local to the

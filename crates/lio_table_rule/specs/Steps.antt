@@ -64,7 +64,7 @@ with_entry entry node = record node { log = node.log ++ of_cell node.number (ent
 abbrev pub with_turn : Entry → View → View
 with_turn entry view = record view {
   claimed = map (with_entry entry) view.claimed;
-  drawn = record { ticket = entry.ticket; task = entry.actor } ∷ view.drawn;
+  drawn = entry ∷ view.drawn;
   left = view.left - 1;
 }
 
@@ -81,7 +81,7 @@ pub record CanRecord (entry : Entry) (view : View) : Type 0 where
 pub record DrawsTicket (entry : Entry) (old : SeatState) (ticket : ℕ) (new : SeatState) : Type 0 where
   pub seat : new ≡ (with_turn (with_ticket entry ticket) old.0, old.1)
   pub logs : (node : Claimed) → Contains old.0.claimed node → All (λ before. before.ticket < ticket) node.log
-  pub draws : All (λ draw. draw.ticket < ticket) old.0.drawn
+  pub draws : All (λ before. before.ticket < ticket) old.0.drawn
   pub below : ticket < 2 ^ 62
 
 -- the same, of a step

@@ -9,4 +9,4 @@ mod view;
 
 pub use origin::{Origin, Rule, Slot};
 pub use steps::{Claiming, Cutting, Drawing, Giving, Joining, Looking, Recorded, Share};
-pub use view::{Beginning, Claimed, Draw, Given, View};
+pub use view::{Beginning, Claimed, Given, View};

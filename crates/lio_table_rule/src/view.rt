@@ -25,14 +25,6 @@ pub struct Claimed {
     pub found: Waiters,
 }
 
-/// A ticket that a seat has drawn.
-pub struct Draw {
-    /// The ticket.
-    pub ticket: u64,
-    /// The number of the task for which it was drawn.
-    pub task: u32,
-}
-
 /// A node that a seat has given back.
 pub struct Given {
     /// Its number.
@@ -51,8 +43,8 @@ pub struct View {
     pub first: Beginning,
     /// The nodes that it holds, the last claimed first.
     pub claimed: LinkedList<Claimed>,
-    /// The tickets that it has drawn, the last first.
-    pub drawn: LinkedList<Draw>,
+    /// The entries of the turns for which it has drawn tickets, the last first.
+    pub drawn: LinkedList<Entry>,
     /// How many tickets it has left.
     pub left: u64,
     /// The last two nodes that it gave back, the last first.

@@ -2,6 +2,7 @@
 use denote.Param.Send.{IsSend, IsSync, sendable}
 use denote.Param.SendFields.{declared_send, declared_sync, as_row_send, as_row_sync}
 use Rattle.std.proofs.Crossing.{crosses}
+use Rattle.lio_values.proofs.entry.Entry.TheSendSync as entry
 use Rattle.lio_runq.specs.declared.rule.Bound.{Ghosts}
 use Rattle.lio_runq.proofs.passes.RunPass.TheSendSync as pass
 use Rattle.lio_runq.proofs.queue.RunQueue.TheSendSync as queue
@@ -15,8 +16,13 @@ use Rattle.lio_workers.specs.contracts.shared.Shared as Shared
 use Rattle.lio_workers.specs.contracts.worker.Worker as Worker
 
 pub worker-send : (B : RattleType) (bound : Ghosts B.Denot) → IsSend B → IsSend (Worker.the_row B bound)
-worker-send B bound send = declared_send (Worker.the_type B bound)
-    (search (sendable, crosses, seat-send) depth 100 fits 20000, (search (sendable, crosses, as_row_send, pass.the_send, send) depth 100 fits 20000, (search (sendable, crosses, as_row_send), (search (sendable, crosses, as_row_send), tt))))
+worker-send B bound send = declared_send (Worker.the_type B bound) (
+  search (sendable, crosses, seat-send) depth 100 fits 20000,
+  (
+    search (sendable, crosses, as_row_send, pass.the_send, send) depth 100 fits 20000,
+    (search (sendable, crosses, as_row_send, entry.the_send) depth 100 fits 20000, (search (sendable, crosses, as_row_send), (search (sendable, crosses, as_row_send), tt))),
+  ),
+)
 
 pub shared-sync : (B : RattleType) (bound : Ghosts B.Denot) → IsSend B → IsSync B → IsSync (Shared.the_row B bound)
 shared-sync B bound send sync = declared_sync (Shared.the_type B bound)

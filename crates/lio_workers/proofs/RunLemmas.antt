@@ -5,8 +5,7 @@ use Rattle.lio_calculus.specs.Step.{Configuration}
 use Rattle.lio_calculus.specs.Run.{Ran, run}
 use Rattle.lio_syntax.specs.Statements.{Procedure}
 use Rattle.lio_task_turns.specs.StateOf.{program_of}
-use Rattle.lio_calculus_logs.specs.Journals.{AreNumberedFrom, IsMerged, actors}
-use Rattle.lio_calculus_logs.proofs.JournalLemmas.{one_merge}
+use Rattle.lio_calculus_logs.specs.Journals.{AreNumberedFrom, ArePartsOf, HaveSameEntries, actors}
 use Rattle.lio_calculus_rounds.specs.Rounds.{IsComplete}
 use Rattle.lio_calculus_rounds.specs.WellFormed.{IsWellFormed}
 use Rattle.lio_config.specs.Configuration.{cell_of, configuration_of}
@@ -33,18 +32,22 @@ closes-with : (first : Beginning) (script : List Procedure) (config : Config) �
 unfolding configuration_from
 closes-with first script config same longest = λ i. record { program = program_of (sym same i) (sym longest i); cells = map (cell_of (sym same i)) config.holders.items }
 
-module _ (first : Beginning) (view : View) (config : Config) (closed : HasRunTo first view config) (entries : List Entry) (merged : IsMerged (log_in config) entries) where
-  -- the merge of the logs of a closed table is its journal
-  merge-is : closed.has_run.journal ≡ entries
-  merge-is = one_merge (log_in config) closed.has_run.journal entries closed.has_run.merged merged
+module _ (first : Beginning) (view : View) (config : Config) (closed : HasRunTo first view config) where
+  -- the entries of the turns that were taken, in the order of their tickets, are the journal of a closed table
+  pub closed-journal : (old entries : List Entry) → HaveSameEntries old view.drawn → ((journal : List Entry) → AreNumberedFrom 0 journal → HaveSameEntries old journal → entries ≡ journal) → closed.has_run.journal ≡ entries
+  closed-journal old entries same ordered = sym (ordered closed.has_run.journal closed.has_run.numbered (λ p. same p ∙ closed.has_run.drawn p))
 
-  pub closed-numbered : AreNumberedFrom 0 entries
-  closed-numbered = subst (AreNumberedFrom 0) merge-is closed.has_run.numbered
+  module _ (entries : List Entry) (is : closed.has_run.journal ≡ entries) where
+    pub closed-numbered : AreNumberedFrom 0 entries
+    closed-numbered = subst (AreNumberedFrom 0) is closed.has_run.numbered
 
-  pub closed-run : (script : List Procedure) → script ≡ first.script → run 0 (configuration_from first) (actors entries) ≡ Some (record { entries = entries; last = configuration_of script config })
-  closed-run script same =
-      let last : configuration_from (record first { holders = config.holders.items }) ≡ configuration_of script config = closes-with first script config same closed.longest in
-      subst (λ (r : Ran). run 0 (configuration_from first) (actors r.entries) ≡ Some r) (λ i. record { entries = merge-is i; last = last i }) closed.has_run.run
+    pub closed-parts : ArePartsOf entries (log_in config)
+    closed-parts = subst (λ (journal : List Entry). ArePartsOf journal (log_in config)) is closed.has_run.parts
+
+    pub closed-run : (script : List Procedure) → script ≡ first.script → run 0 (configuration_from first) (actors entries) ≡ Some (record { entries = entries; last = configuration_of script config })
+    closed-run script same =
+        let last : configuration_from (record first { holders = config.holders.items }) ≡ configuration_of script config = closes-with first script config same closed.longest in
+        subst (λ (r : Ran). run 0 (configuration_from first) (actors r.entries) ≡ Some r) (λ i. record { entries = is i; last = last i }) closed.has_run.run
 
 -- a run goes on with what a machine has run
 pub run-goes_on : (c : Configuration) (old new : MachineState) (ks : List ℕ) → run 0 c (actors old.entries) ≡ Some (record { entries = old.entries; last = old.configuration }) → HasRun old new ks

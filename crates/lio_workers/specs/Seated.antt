@@ -1,5 +1,6 @@
 -- The seats and passes of workers.
 use Rattle.std.specs.Prelude.{◌≡◌, ℕ, ◌+◌, ◌*◌, ◌^◌, List, [], All, length}
+use Rattle.lio_calculus_logs.specs.Journals.{HaveSameEntries}
 use Rattle.lio_runq.specs.declared.rule.Bound.{Ghosts}
 use Rattle.lio_runq.specs.Passes.{IsPassOf}
 use Rattle.lio_table.specs.declared.seat.LioSeat.{LioSeat}
@@ -16,9 +17,11 @@ pub record HasRights (table : Table) (tickets : ℕ) (seat : LioSeat) : Type 0 w
   pub rights : rights (view_of seat) ≡ tickets
 
 module _ {X : Type 0} {bound : Ghosts X} where
-  -- A worker has a seat at the table, with 2^40 tickets, drawn or left, and a pass of the queue, whose numbers are below the table's size.
+  -- A worker has a seat at the table, with 2^40 tickets, drawn or left, the entries of the turns that it took, and a pass of the queue, whose numbers are
+  -- below the table's size.
   pub record IsWorkerAt (shared : Shared X) (worker : Worker X bound) : Type 0 where
     pub seated : HasRights shared.table (2 ^ 40) worker.seat
+    pub entries : HaveSameEntries worker.entries.items (view_of worker.seat).drawn
     pub pass : IsPassOf shared.numbers.numbers worker.pass.seat
     pub below : bound.bound ≡ shared.table.len
 

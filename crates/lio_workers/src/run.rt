@@ -1,5 +1,6 @@
 //! Runs by workers.
 ghost use Rattle.std.specs.Prelude.{◌≡◌, ◌<◌, ◌≤◌, ◌+◌, ◌^◌, [], IfOk, length};
+ghost use Rattle.lio_calculus_logs.specs.Journals.{HaveSameEntries};
 ghost use Rattle.lio_calculus_rounds.specs.WellFormed.{IsWellFormed};
 ghost use Rattle.lio_config.specs.Configuration.{configuration_of};
 ghost use Rattle.lio_config.specs.Logs.{AreFresh};
@@ -15,11 +16,12 @@ use crate::shared::Shared;
 use crate::worker::{Worker, push, work};
 use lio_clauses::NoMemory;
 use lio_config::Config;
-use lio_merge::merged;
+use lio_merge::put_in_order;
 use lio_rounds::{Machine, Ran};
 use lio_runq::{Bound, RunPass, RunQueue};
 use lio_syntax::Script;
 use lio_table::{LioSeat, Table};
+use lio_values::Entry;
 use std::alloc::Global;
 use std::marker::Brand;
 use std::sync::Wait;
@@ -41,26 +43,28 @@ fn fill<R: Wait, B: Bound>(rt: &R, numbers: &RunQueue<B>, pass: &mut RunPass<B>,
     }
 }
 
-/// Ends a table, takes the turns that the workers left, and ends the run.
-fn close(alloc: Global, table: Table, seat: LioSeat, script: Script) -> Result<Ran, NoMemory>
+/// Ends a table, takes the turns that the workers left, and ends the run. The entries are those of
+/// the turns that were taken.
+fn close(
+    alloc: Global,
+    table: Table,
+    seat: LioSeat,
+    script: Script,
+    mut entries: Vec<Entry>,
+) -> Result<Ran, NoMemory>
     requires seat { HasRights table (2 ^ 62) seat }
+    requires entries { HaveSameEntries entries.items (view_of seat).drawn }
     requires script { script ≡ (first_of table).script }
     requires well_formed { IsWellFormed (configuration_from (first_of table)) }
     ensures run { IfOk result
         (λ ran. IsCompleteRun (configuration_from (first_of table)) (ran_of script ran)) }
     ensures logs { IfOk result HasItsLogs }
 {
+    put_in_order(&mut entries)?;
     let config = match table.close(alloc, seat) {
         Ok(config) => config,
         Err(refused) => {
             drop(refused);
-            return Err(NoMemory);
-        }
-    };
-    let entries = match merged(alloc, &config) {
-        Ok(entries) => entries,
-        Err(NoMemory) => {
-            drop(config);
             return Err(NoMemory);
         }
     };
@@ -105,7 +109,8 @@ fn let_work<R: Threads + Wait + Sync, G: Gate + Sync, B: Bound + Send + Sync>(
     );
 }
 
-/// Lets workers take the turns of a table's tasks. The first seat has all tickets again then.
+/// Lets workers take the turns of a table's tasks. The first seat has all tickets again then. It
+/// gives the entries of the turns.
 fn share<R: Threads + Wait + Sync, G: Gate + Sync, B: Bound + Send + Sync>(
     rt: &R,
     alloc: Global,
@@ -115,7 +120,7 @@ fn share<R: Threads + Wait + Sync, G: Gate + Sync, B: Bound + Send + Sync>(
     script: &Script,
     count: u32,
     gate: &G,
-) -> Result<(), NoMemory>
+) -> Result<Vec<Entry>, NoMemory>
     requires all { HasRights shared.now.table (2 ^ 62) first.old }
     requires none_drawn { (view_of first.old).drawn ≡ [] }
     requires bound { B.bound ≡ shared.now.table.len }
@@ -124,6 +129,8 @@ fn share<R: Threads + Wait + Sync, G: Gate + Sync, B: Bound + Send + Sync>(
     requires script { script.now ≡ (first_of shared.now.table).script }
     requires count { (1 ≤ count) × (count ≤ 64) }
     ensures seat { IfOk result (λ _. HasRights shared.now.table (2 ^ 62) first.new) }
+    ensures entries { IfOk result
+        (λ entries. HaveSameEntries entries.items (view_of first.new).drawn) }
 {
     let mut workers = workers(alloc, shared, first, &mut pass, count)?;
     let_work(
@@ -135,8 +142,7 @@ fn share<R: Threads + Wait + Sync, G: Gate + Sync, B: Bound + Send + Sync>(
         count,
         gate,
     );
-    rejoin(shared, first, workers);
-    Ok(())
+    rejoin(alloc, shared, first, workers)
 }
 
 /// Runs a configuration to the end by so many workers, with a queue of numbers below its size.
@@ -171,7 +177,7 @@ fn run_below<R: Threads + Wait + Sync, G: Gate + Sync, B: Bound + Send + Sync>(
     let Shared { table, numbers } = shared;
     numbers.destroy();
     match worked {
-        Ok(()) => close(alloc, table, first, own),
+        Ok(entries) => close(alloc, table, first, own, entries),
         Err(NoMemory) => Err(NoMemory),
     }
 }

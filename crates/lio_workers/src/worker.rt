@@ -1,7 +1,8 @@
 //! What each worker does.
-ghost use Rattle.std.specs.Prelude.{◌≡◌, ◌+◌, ◌<◌, ◌≤◌, false, IsTrue, if◌then◌else◌};
+ghost use Rattle.std.specs.Prelude.{◌≡◌, ◌+◌, ◌<◌, ◌≤◌, [], false, IfOk, IsTrue, if◌then◌else◌};
 ghost use Rattle.lio_runq.specs.Passes.{IsPassOf, left_of};
 ghost use Rattle.lio_table.specs.Tables.{first_of, view_of};
+ghost use Rattle.lio_table.specs.Turns.{TurnSays};
 ghost use Rattle.lio_workers.specs.Ends.{has_to_end};
 ghost use Rattle.lio_workers.specs.Seated.{IsWorkerAt};
 
@@ -9,9 +10,11 @@ use crate::gate::Gate;
 use crate::shared::Shared;
 use lio_cells::Waiters;
 use lio_clauses::NoMemory;
+use lio_config::blank_entry;
 use lio_runq::{Bound, RunPass, RunQueue};
 use lio_syntax::Script;
 use lio_table::{LioSeat, TurnEnd};
+use lio_values::Entry;
 use std::alloc::Global;
 use std::sync::Wait;
 use std::thread;
@@ -23,12 +26,13 @@ const MOST_IN_VAIN: u32 = 1_000;
 /// numbers in the queue meanwhile, as it never takes two at once.
 const TURNS_AT_A_LOOK: u32 = 16;
 
-/// A worker: its seat at the table, its pass of the queue, how often in a row it has looked for a
-/// number in vain, and whether memory was refused.
+/// A worker: its seat at the table, its pass of the queue, the entries of the turns that it took, how
+/// often in a row it has looked for a number in vain, and whether memory was refused.
 #[derive(Drop)]
 pub(crate) struct Worker<B: Bound> {
     pub seat: LioSeat,
     pub pass: RunPass<B>,
+    entries: Vec<Entry>,
     looks: u32,
     refused: bool,
 }
@@ -48,29 +52,35 @@ enum Tried {
 
 impl<B: Bound> Worker<B> {
     /// One that has done nothing yet.
-    pub fn new(seat: LioSeat, pass: RunPass<B>) -> Worker<B>
-        ensures { result ≡ record { seat = seat; pass = pass; looks = 0; refused = false } }
+    pub fn new(alloc: Global, seat: LioSeat, pass: RunPass<B>) -> Worker<B>
+        ensures seat { result.seat ≡ seat }
+        ensures pass { result.pass ≡ pass }
+        ensures entries { result.entries.items ≡ [] }
+        ensures looks { result.looks ≡ 0 }
+        ensures refused { result.refused ≡ false }
     {
         Worker {
             seat,
             pass,
+            entries: Vec::new(alloc),
             looks: 0,
             refused: false,
         }
     }
 
-    /// Its seat.
-    pub fn into_seat(self) -> LioSeat
-        ensures { result ≡ self.seat }
+    /// Its seat, and the entries of the turns that it took.
+    pub fn into_parts(self) -> (LioSeat, Vec<Entry>)
+        ensures { result ≡ (self.seat, self.entries) }
     {
         let Worker {
             seat,
             pass,
+            entries,
             looks: _,
             refused: _,
         } = self;
         drop(pass);
-        seat
+        (seat, entries)
     }
 
     /// Whether it was refused memory, has looked in vain too often, or has one ticket left.
@@ -120,6 +130,39 @@ fn push_woken<R: Wait, B: Bound>(
     }
 }
 
+/// Lets a task take its turn, and keeps the turn's entry. There is room for it before.
+fn turn<B: Bound>(
+    alloc: Global,
+    shared: &Shared<B>,
+    script: &Script,
+    worker: &mut Worker<B>,
+    k: u32,
+) -> Result<TurnEnd, NoMemory>
+    requires worker { IsWorkerAt shared.now worker.old }
+    requires left { 0 < (view_of worker.old.seat).left }
+    requires script { script.now ≡ (first_of shared.now.table).script }
+    requires node { k < shared.now.table.len }
+    ensures worker { IsWorkerAt shared.now worker.new }
+    ensures ok { IfOk result (λ end. TurnSays k (view_of worker.old.seat) end
+        (view_of worker.new.seat)) }
+{
+    worker.entries.try_reserve(1)?;
+    let mut entry = blank_entry(alloc)?;
+    match shared
+        .table
+        .turn_into(alloc, &mut worker.seat, script, k, &mut entry)
+    {
+        Ok(TurnEnd::Moved(ticket, born, woken)) => {
+            worker.entries.push_reserved(entry);
+            Ok(TurnEnd::Moved(ticket, born, woken))
+        }
+        other => {
+            drop(entry);
+            other
+        }
+    }
+}
+
 /// Tries to take the turn of a task. It tells the gate of a turn that was taken, then puts the child
 /// and those who are woken last in the queue.
 fn try_turn<R: Wait, G: Gate, B: Bound>(
@@ -137,7 +180,7 @@ fn try_turn<R: Wait, G: Gate, B: Bound>(
     requires node { k < shared.now.table.len }
     ensures { IsWorkerAt shared.now worker.new }
 {
-    match shared.table.turn(alloc, &mut worker.seat, script, k) {
+    match turn(alloc, shared, script, worker, k) {
         Ok(TurnEnd::Moved(ticket, born, woken)) => {
             gate.pass(k, ticket);
             if let Some(child) = born {

@@ -4,7 +4,7 @@ use Rattle.lio_config.specs.Logs.{log_in}
 use Rattle.lio_merge.proofs.logs.merge.Goals as goal
 
 pub of-requires : goal.of-requires
-of-requires c = c.in_ok-entries.ensures.merged.rising
+of-requires c = c.in_ok-entries.ensures.rising
 
 pub returns : goal.returns
-returns c = subst (IsMerged (log_in c.args.config.now)) (sym c.of.ensures) c.in_ok-entries.ensures.merged
+returns c = subst (IsMerged (log_in c.args.config.now)) (sym c.of.ensures) c.in_ok-entries.ensures

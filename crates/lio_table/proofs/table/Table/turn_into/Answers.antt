@@ -1,7 +1,7 @@
 use Rattle.std.proofs.Common.{◌≡◌, ◌∙◌}
 use Rattle.lio_table.proofs.AnswerLemmas.{few-after, left-after, left-same, numbers-after, out-after, refused-after, says-after}
 use Rattle.lio_table.proofs.SeatLemmas.{bare-slots}
-use Rattle.lio_table.proofs.table.Table.turn.Goals as goal
+use Rattle.lio_table.proofs.table.Table.turn_into.Goals as goal
 
 pub start-requires-clause-turn : goal.start-requires-clause-turn
 start-requires-clause-turn c = record { first = c.requires.seat.first; script_is = c.requires.script; left = c.requires.left; node = c.requires.node }
@@ -70,3 +70,6 @@ returns-in-Ok-clause-ok c = c.in-Ok.ensures.ok.0
 
 pub returns-in-Err-clause-err : goal.returns-in-Err-clause-err
 returns-in-Err-clause-err c = c.in-Err.ensures.err.0
+
+pub returns-in-Ok-clause-entry : goal.returns-in-Ok-clause-entry
+returns-in-Ok-clause-entry c = c.in-Ok.ensures.ok.2
