@@ -28,8 +28,57 @@ fn seen(alloc: Global, journal: &Journal, observer: &Option<Label>) -> Result<Jo
     }
 }
 
-/// Writes the files of an order out of a run, and says the summary. After want of memory a first
-/// part of the files is written, none or all of them included.
+/// Writes the files of an order out of a run, with what its observer sees of it, and says the
+/// summary. After want of memory a first part of the files is written, none or all of them included.
+pub fn finish_seen<S: Store, W: Say>(
+    alloc: Global,
+    store: &mut S,
+    say: &mut W,
+    order: &Order<'_>,
+    ran: &Ran,
+    seen: &Journal,
+) -> Result<(), HostStatus>
+    requires printable { All (IsPrintable order.now.job.policy.names) ran.now.journal }
+    requires seen { seen.now ≡ seen_by order.now.observer ran.now.journal }
+    ensures count { S.faults store.old ≤ S.faults store.new }
+    ensures say_count { W.faults say.old ≤ W.faults say.new }
+    ensures ok { OnOk result (Finishes (order_of order.now) (ran_of order.now.job.script ran.now)
+        (record {
+          told = S.holds store.old;
+          faults = S.faults store.old;
+          said = W.said say.old;
+          say_faults = W.faults say.old;
+        })
+        (record {
+          told = S.holds store.new;
+          faults = S.faults store.new;
+          said = W.said say.new;
+          say_faults = W.faults say.new;
+        }) done) }
+    ensures err { IfErr result (Finishes (order_of order.now) (ran_of order.now.job.script ran.now)
+        (record {
+          told = S.holds store.old;
+          faults = S.faults store.old;
+          said = W.said say.old;
+          say_faults = W.faults say.old;
+        })
+        (record {
+          told = S.holds store.new;
+          faults = S.faults store.new;
+          said = W.said say.new;
+          say_faults = W.faults say.new;
+        })) }
+{
+    let policy = order.job.policy();
+    let text = summary(alloc, policy, &ran.config, &ran.journal)?;
+    let history = order.command.history;
+    let file = view_of(order.command);
+    write_out(alloc, store, policy, &ran.journal, history, file, seen)?;
+    say.say(alloc, text.as_slice())?;
+    Ok(())
+}
+
+/// The same, with the view that its observer has of the journal.
 pub fn finish_run<S: Store, W: Say>(
     alloc: Global,
     store: &mut S,
@@ -68,11 +117,7 @@ pub fn finish_run<S: Store, W: Say>(
         })) }
 {
     let seen = seen(alloc, &ran.journal, &order.observer)?;
-    let policy = order.job.policy();
-    let text = summary(alloc, policy, &ran.config, &ran.journal)?;
-    let history = order.command.history;
-    let file = view_of(order.command);
-    write_out(alloc, store, policy, &ran.journal, history, file, &seen)?;
-    say.say(alloc, text.as_slice())?;
-    Ok(())
+    let finished = finish_seen(alloc, store, say, order, ran, &seen);
+    drop(seen);
+    finished
 }

@@ -13,9 +13,9 @@ mod status;
 mod workload_files;
 
 pub use display::Shown;
-pub use finish::finish_run;
+pub use finish::{finish_run, finish_seen};
 pub use host::{Outcome, host_main};
 pub use order::{Loaded, Order, Way};
 pub use prepare::prepare_order;
-pub use running::expected_line;
+pub use running::{begin, expected_line};
 pub use status::HostStatus;

@@ -26,7 +26,7 @@ use std::sync::Wait;
 use std::thread::Threads;
 
 /// The configuration in which the run of a job begins.
-fn begin(alloc: Global, job: &Job) -> Result<Config, NoMemory>
+pub fn begin(alloc: Global, job: &Job) -> Result<Config, NoMemory>
     ensures first { IfOk result (λ config. configuration_of job.now.script config
         ≡ first_of job.now) }
     ensures well_formed { IfOk result (λ config. IsWellFormed

@@ -10,5 +10,5 @@ pub use detail::{
     Channels, Detail, FaultAt, HistoryAt, LineAt, TaskAt, Texts, WrongEntry, detail_of,
     refusal_detail, script_text, trouble_text,
 };
-pub use refusal::{print_refusal, refusal_text};
+pub use refusal::{print_refusal, refusal_text, told_text};
 pub use words::script_name;

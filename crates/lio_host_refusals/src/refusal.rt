@@ -168,7 +168,6 @@ fn marked(
 /// What is printed of a line with a mistake.
 fn mistake_text(
     alloc: Global,
-    status: &HostStatus,
     script: &str,
     number: u32,
     line: &LineAt,
@@ -176,17 +175,16 @@ fn mistake_text(
 ) -> Result<String, AllocError> {
     let told = mistake.text.as_str();
     if number == 0 {
-        return format!(in alloc; "lio_host: {status}: {script}: {told}");
+        return format!(in alloc; "{script}: {told}");
     }
     let column = mistake.place as u128 + 1;
     let marked = marked(alloc, line, number, mistake)?;
-    format!(in alloc; "lio_host: {status}: {script}:{number}:{column}: {told}{marked}")
+    format!(in alloc; "{script}:{number}:{column}: {told}{marked}")
 }
 
 /// What is printed of a script that breaks a rule.
 fn script_text(
     alloc: Global,
-    status: &HostStatus,
     script: &str,
     line: u32,
     rule: u32,
@@ -194,22 +192,19 @@ fn script_text(
 ) -> Result<String, AllocError> {
     if let Detail::Line(found) = detail {
         if let Some(mistake) = &found.mistake {
-            return mistake_text(alloc, status, script, line, found, mistake);
+            return mistake_text(alloc, script, line, found, mistake);
         }
         let asked = script_rule_text(rule);
         let shown = Bytes(found.text.bytes());
-        return format!(in alloc;
-            "lio_host: {status}: {script}:{line}: {asked}\n  {line} | {shown}"
-        );
+        return format!(in alloc; "{script}:{line}: {asked}\n  {line} | {shown}");
     }
     let asked = script_rule_text(rule);
-    format!(in alloc; "lio_host: {status}: {script}:{line}: {asked}")
+    format!(in alloc; "{script}:{line}: {asked}")
 }
 
 /// What is printed of a policy that breaks a rule.
 fn policy_text(
     alloc: Global,
-    status: &HostStatus,
     policy: &str,
     number: u32,
     rule: u32,
@@ -217,7 +212,7 @@ fn policy_text(
 ) -> Result<String, AllocError> {
     let Detail::Entry(found) = detail else {
         let asked = rule_text(rule);
-        return format!(in alloc; "lio_host: {status}: {policy}: {asked}");
+        return format!(in alloc; "{policy}: {asked}");
     };
     let entry = ShownEntry {
         number,
@@ -225,28 +220,25 @@ fn policy_text(
     };
     let Some(mistake) = &found.mistake else {
         let asked = rule_text(rule);
-        return format!(in alloc; "lio_host: {status}: {policy}: {entry}: {asked}");
+        return format!(in alloc; "{policy}: {entry}: {asked}");
     };
     let told = mistake.text.as_str();
     match mistake.position {
-        Some((line, column)) => {
-            format!(in alloc; "lio_host: {status}: {policy}:{line}:{column}: {told}")
-        }
-        None => format!(in alloc; "lio_host: {status}: {policy}: {entry}: {told}"),
+        Some((line, column)) => { format!(in alloc; "{policy}:{line}:{column}: {told}") }
+        None => format!(in alloc; "{policy}: {entry}: {told}"),
     }
 }
 
 /// What is printed of a task that can't begin.
 fn start_text(
     alloc: Global,
-    status: &HostStatus,
     policy: &str,
     script: &str,
     detail: &Detail,
 ) -> Result<String, AllocError> {
     let Detail::Task(task) = detail else {
         return format!(in alloc;
-            "lio_host: {status}: {policy}: a task names a procedure of the script, and gives it as many arguments as it has parameters"
+            "{policy}: a task names a procedure of the script, and gives it as many arguments as it has parameters"
         );
     };
     let name = Shown(&task.name);
@@ -254,39 +246,30 @@ fn start_text(
     let given = task.given;
     match task.wanted {
         None => format!(in alloc;
-            "lio_host: {status}: {policy}: task \"{name}\" runs the procedure `{procedure}`, which {script} doesn't have; add a line `proc {procedure}`, or name another procedure"
+            "{policy}: task \"{name}\" runs the procedure `{procedure}`, which {script} doesn't have; add a line `proc {procedure}`, or name another procedure"
         ),
         Some(wanted) => format!(in alloc;
-            "lio_host: {status}: {policy}: task \"{name}\" doesn't fit `{procedure}` of {script}; parameters: {wanted}, arguments: {given}"
+            "{policy}: task \"{name}\" doesn't fit `{procedure}` of {script}; parameters: {wanted}, arguments: {given}"
         ),
     }
 }
 
 /// What is printed of a file that couldn't be read.
-fn read_fault_text(
-    alloc: Global,
-    status: &HostStatus,
-    read: &str,
-    detail: &Detail,
-) -> Result<String, AllocError> {
+fn read_fault_text(alloc: Global, read: &str, detail: &Detail) -> Result<String, AllocError> {
     match detail {
         Detail::Fault(FaultAt { why: Some(why), .. }) => {
             let why = why.as_str();
-            format!(in alloc; "lio_host: {status}: {read} couldn't be read: {why}")
+            format!(in alloc; "{read} couldn't be read: {why}")
         }
         _ => format!(in alloc;
-            "lio_host: {status}: {read} couldn't be read; see that it is a file, and that it may be read"
+            "{read} couldn't be read; see that it is a file, and that it may be read"
         ),
     }
 }
 
 /// What is printed of a file that couldn't be written.
-fn write_fault_text(
-    alloc: Global,
-    status: &HostStatus,
-    detail: &Detail,
-) -> Result<String, AllocError> {
-    let mut text = format!(in alloc; "lio_host: {status}: the file couldn't be written")?;
+fn write_fault_text(alloc: Global, detail: &Detail) -> Result<String, AllocError> {
+    let mut text = String::from_str(alloc, "the file couldn't be written")?;
     let Detail::Fault(FaultAt { why, channels }) = detail else {
         return Ok(text);
     };
@@ -344,14 +327,13 @@ fn push_line(
 /// What is printed of a history that stops at a line: what stands there, and what should.
 fn history_text(
     alloc: Global,
-    status: &HostStatus,
     file: &str,
     line: u32,
     detail: &Detail,
 ) -> Result<String, AllocError> {
     let Detail::History(HistoryAt { found, expected }) = detail else {
         return format!(in alloc;
-            "lio_host: {status}: {file}: a history has a line for each turn of the run, and at most {MOST_HISTORY_BYTES} bytes"
+            "{file}: a history has a line for each turn of the run, and at most {MOST_HISTORY_BYTES} bytes"
         );
     };
     let (found, has_end) = match found {
@@ -369,7 +351,7 @@ fn history_text(
     } else {
         "the line has no line end"
     };
-    let mut text = format!(in alloc; "lio_host: {status}: {file}:{line}: {mistake}")?;
+    let mut text = format!(in alloc; "{file}:{line}: {mistake}")?;
     let from = shown_from(found, expected.unwrap_or(b""));
     push_line(alloc, &mut text, "found   ", found, from)?;
     match expected {
@@ -379,9 +361,9 @@ fn history_text(
     Ok(text)
 }
 
-/// What is printed of a refusal: what was refused, where, and how to mend it. Nothing where the
-/// script ran.
-pub fn refusal_text(
+/// What was refused, where, and how to mend it, without the program's name and the answer. Nothing
+/// where the script ran.
+pub fn told_text(
     alloc: Global,
     status: &HostStatus,
     words: &[String],
@@ -390,44 +372,57 @@ pub fn refusal_text(
     let FileNames { policy, script } = file_names(words);
     match status {
         HostStatus::Done => Ok(String::new(alloc)),
-        HostStatus::BadWords => {
-            let text = words_text(alloc, words)?;
-            format!(in alloc; "lio_host: {status}: {text}\n{USAGE}")
-        }
+        HostStatus::BadWords => words_text(alloc, words),
         HostStatus::Missing(name) => {
             let read = read_as(name, words);
             format!(in alloc;
-                "lio_host: {status}: {read} isn't there; names are looked up from the folder in which the command is given\n{USAGE}"
+                "{read} isn't there; names are looked up from the folder in which the command is given"
             )
         }
-        HostStatus::ReadFault(name) => read_fault_text(alloc, status, read_as(name, words), detail),
-        HostStatus::BadPolicy(rule, entry) => {
-            policy_text(alloc, status, policy, *entry, *rule, detail)
-        }
-        HostStatus::BadScript(line, rule) => {
-            script_text(alloc, status, script, *line, *rule, detail)
-        }
-        HostStatus::BadStart(_, _) => start_text(alloc, status, policy, script, detail),
-        HostStatus::WriteFault(_) => write_fault_text(alloc, status, detail),
-        HostStatus::SayFault => format!(in alloc;
-            "lio_host: {status}: the files are written, and the summary couldn't be written to standard output"
+        HostStatus::ReadFault(name) => read_fault_text(alloc, read_as(name, words), detail),
+        HostStatus::BadPolicy(rule, entry) => { policy_text(alloc, policy, *entry, *rule, detail) }
+        HostStatus::BadScript(line, rule) => { script_text(alloc, script, *line, *rule, detail) }
+        HostStatus::BadStart(_, _) => start_text(alloc, policy, script, detail),
+        HostStatus::WriteFault(_) => write_fault_text(alloc, detail),
+        HostStatus::SayFault => String::from_str(
+            alloc,
+            "the files are written, and the summary couldn't be written to standard output",
         ),
-        HostStatus::NoMemory => {
-            format!(in alloc;
-                "lio_host: {status}: no memory was left; a first part of the files may be written; give the process more memory, or the policy's tasks fewer turns"
-            )
-        }
+        HostStatus::NoMemory => String::from_str(
+            alloc,
+            "no memory was left; a first part of the files may be written; give the process more memory, or the policy's tasks fewer turns",
+        ),
         HostStatus::NotARun(line) => {
             let file = history_name(words).unwrap_or("the history");
-            history_text(alloc, status, file, *line, detail)
+            history_text(alloc, file, *line, detail)
         }
         HostStatus::Clash(name) => {
             let by = taken_by(name, words);
             let name = Shown(name);
             format!(in alloc;
-                "lio_host: {status}: {policy}: the file {name} is to be written, but {by}; give the channel or the option another file"
+                "{policy}: the file {name} is to be written, but {by}; give the channel or the option another file"
             )
         }
+    }
+}
+
+/// What is printed of a refusal: the answer, what was refused, where, and how to mend it. Nothing
+/// where the script ran.
+pub fn refusal_text(
+    alloc: Global,
+    status: &HostStatus,
+    words: &[String],
+    detail: &Detail,
+) -> Result<String, AllocError> {
+    if let HostStatus::Done = status {
+        return Ok(String::new(alloc));
+    }
+    let text = told_text(alloc, status, words, detail)?;
+    match status {
+        HostStatus::BadWords | HostStatus::Missing(_) => {
+            format!(in alloc; "lio_host: {status}: {text}\n{USAGE}")
+        }
+        _ => format!(in alloc; "lio_host: {status}: {text}"),
     }
 }
 

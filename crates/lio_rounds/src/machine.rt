@@ -123,6 +123,13 @@ impl Machine {
         self.order.as_slice()
     }
 
+    /// The journal so far: the entries of the turns taken, in order. It takes no memory.
+    pub fn entries(&self) -> &[Entry]
+        ensures { result.now ≡ (machine_of self.now).entries }
+    {
+        self.entries.as_slice()
+    }
+
     /// The task at this place of the order.
     fn task_at(&self, i: usize) -> u32
         requires { i < length (machine_of self.now).order }

@@ -11,14 +11,14 @@ use Rattle.lio_calculus.specs.Run.{Ran}
 use Rattle.lio_host_main.specs.Order.{Order, order_of, written}
 use Rattle.lio_host_main.specs.Answers.{summary_of}
 use Rattle.lio_host_main.proofs.Finishes.{finishes-unsaid, seen-printable, summary-is, written-is}
-use Rattle.lio_host_main.proofs.finish.finish_run.Goals as goal
+use Rattle.lio_host_main.proofs.finish.finish_seen.Goals as goal
 
 pub write_out-requires-clause-seen : goal.write_out-requires-clause-seen
 write_out-requires-clause-seen g c =
     let names = c.args.order.now.job.policy.names in
-    let printable : All (IsPrintable names) c.in_ok-seen.seen =
-    subst (All (IsPrintable names)) (sym c.in_ok-seen.ensures) (seen-printable names c.args.order.now.observer c.args.ran.now.journal c.requires) in
-    subst (λ (p : PolicyParts). All (IsPrintable p.names) c.in_ok-seen.seen) (sym c.policy-policy.ensures.policy) printable
+    let printable : All (IsPrintable names) c.args.seen.now =
+    subst (All (IsPrintable names)) (sym c.requires.seen) (seen-printable names c.args.order.now.observer c.args.ran.now.journal c.requires.printable) in
+    subst (λ (p : PolicyParts). All (IsPrintable p.names) c.args.seen.now) (sym c.policy-policy.ensures.policy) printable
 
 pub returns-in_err-say-clause-err : goal.returns-in_err-say-clause-err
 returns-in_err-say-clause-err g c =
@@ -27,8 +27,8 @@ returns-in_err-say-clause-err g c =
     let ran : Ran = ran_of c.args.order.now.job.script c.args.ran.now in
     let told = g.S.Store.holds c.args.store.now in
     let file : Option (List ℕ) = option_map (λ name. name.now) c.view_of-file.result in
-    let same : outputs c.policy-policy.result.now ran.entries order.command.history file c.in_ok-seen.seen ≡ written order ran.entries =
-    written-is order ran.entries c.policy-policy.result.now file c.in_ok-seen.seen c.policy-policy.ensures.policy c.view_of-file.ensures c.in_ok-seen.ensures in
+    let same : outputs c.policy-policy.result.now ran.entries order.command.history file c.args.seen.now ≡ written order ran.entries =
+    written-is order ran.entries c.policy-policy.result.now file c.args.seen.now c.policy-policy.ensures.policy c.view_of-file.ensures c.requires.seen in
     let text : c.as_slice.result.now ≡ summary_of order ran =
     summary-is order ran c.policy-policy.result.now c.in_ok-text.text.items c.as_slice.result.now c.policy-policy.ensures.policy (c.in_ok-text.ensures c.args.order.now.job.script) c.as_slice.ensures.value in
     rw (p.1, p.2) (finishes-unsaid order ran _ _ c.in_err-say.field-0.0 (c.in_ok-write_out.ensures.ok ∙ ap (kept told) same)
@@ -43,8 +43,8 @@ returns-clause-ok g c =
     let told = g.S.Store.holds c.args.store.now in
     let said = g.W.Say.said c.args.say.now in
     let file : Option (List ℕ) = option_map (λ name. name.now) c.view_of-file.result in
-    let same : outputs c.policy-policy.result.now ran.entries order.command.history file c.in_ok-seen.seen ≡ written order ran.entries =
-    written-is order ran.entries c.policy-policy.result.now file c.in_ok-seen.seen c.policy-policy.ensures.policy c.view_of-file.ensures c.in_ok-seen.ensures in
+    let same : outputs c.policy-policy.result.now ran.entries order.command.history file c.args.seen.now ≡ written order ran.entries =
+    written-is order ran.entries c.policy-policy.result.now file c.args.seen.now c.policy-policy.ensures.policy c.view_of-file.ensures c.requires.seen in
     let text : c.as_slice.result.now ≡ summary_of order ran =
     summary-is order ran c.policy-policy.result.now c.in_ok-text.text.items c.as_slice.result.now c.policy-policy.ensures.policy (c.in_ok-text.ensures c.args.order.now.job.script) c.as_slice.ensures.value in
     (c.in_ok-write_out.ensures.ok ∙ ap (kept told) same, c.in_ok-say.ensures.ok ∙ ap (said_with said) text)

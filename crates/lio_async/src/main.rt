@@ -1,0 +1,96 @@
+//! Runs a script under a policy in rounds, as a future, writes what it sends to its channels and what
+//! an observer sees, and says a summary.
+#![tactic(auto)]
+
+ghost use Rattle.std.specs.Prelude.{◌≡◌, ◌≤◌, List};
+ghost use Rattle.std.specs.Process.{exit_status};
+ghost use Rattle.lio_values.specs.declared.entry.Entry.{Entry};
+ghost use Rattle.lio_host_main.specs.Answers.{EndsWith};
+ghost use Rattle.lio_host_main.specs.ExitStatus.{exit_status as status_number};
+ghost use Rattle.lio_host_words.specs.Sorted.{bytes_of_words};
+ghost use Rattle.lio_async_main.specs.Status.{host_of};
+ghost use Rattle.lio_async_main.specs.Words.{host_words};
+
+#[cfg(test)]
+mod cases;
+#[cfg(test)]
+mod polled;
+mod refusal;
+#[cfg(test)]
+mod rows;
+#[cfg(test)]
+mod tests;
+
+use crate::refusal::print_refusal;
+use lio_async_main::{CoopOutcome, CoopStatus, coop_main};
+use lio_clauses::NoMemory;
+use lio_host_main::HostStatus;
+use lio_outside::{Say, Store};
+use lio_system::{RealSay, RealStore};
+use std::fs::Files;
+use std::process::ExitCode;
+use std::random::RandomSource;
+use std::sync::Wait;
+use std::thread::Threads;
+use std::{env, io, mem};
+
+/// The words after the program's name. Words that can't be had as text are wrong words, as none are.
+fn words(rt: &HostRuntime) -> Result<Vec<String>, NoMemory> {
+    match env::args(rt) {
+        Ok(args) => Ok(args.skip(1).collect(rt.alloc())?),
+        Err(error) if error.kind() == io::ErrorKind::OutOfMemory => Err(NoMemory),
+        Err(_) => Ok(Vec::new(rt.alloc())),
+    }
+}
+
+/// The exit status of an answer.
+fn exit_code(status: &CoopStatus) -> ExitCode
+    ensures { exit_status result ≡ status_number (host_of status.now) }
+{
+    ExitCode::from(status.number())
+}
+
+/// Runs the script that the words name, says on standard error what was refused, if anything was, and
+/// gives the exit status of the answer.
+fn respond<R, S: Store, W: Say>(rt: &R, words: &[String], store: &mut S, say: &mut W) -> ExitCode
+where
+    R: AllocGlobal + Files + Eprint + RandomSource + Threads + Wait + Sync,
+    ensures { EndsWith (λ (journal : List Entry). record {
+      words = host_words (bytes_of_words words.now);
+      before = record {
+        told = S.holds store.old;
+        faults = S.faults store.old;
+        said = W.said say.old;
+        say_faults = W.faults say.old;
+      };
+      after = record {
+        told = S.holds store.new;
+        faults = S.faults store.new;
+        said = W.said say.new;
+        say_faults = W.faults say.new;
+      };
+      journal = journal;
+    }) (exit_status result) }
+{
+    let CoopOutcome { status, journal } = coop_main(rt, rt.alloc(), words, store, say);
+    // Giving back a long journal piece by piece would take a good part of the run.
+    mem::forget(journal);
+    let exit = exit_code(&status);
+    print_refusal(rt, words, store, HostStatus::from(status));
+    exit
+}
+
+/// The answer where there is no memory for the words themselves.
+fn without_memory(rt: &HostRuntime) -> ExitCode {
+    let _ = eprintln!(rt; "lio_async: {}", HostStatus::NoMemory);
+    exit_code(&CoopStatus::NoMemory)
+}
+
+fn main(rt: HostRuntime) -> ExitCode {
+    let Ok(words) = words(&rt) else {
+        return without_memory(&rt);
+    };
+    let mut store = RealStore::new(rt.alloc(), &rt);
+    let mut say = RealSay::new(&rt);
+    respond(&rt, words.as_slice(), &mut store, &mut say)
+}

@@ -1,0 +1,3 @@
+pub mod WordLemmas
+pub mod CoopLemmas
+pub mod ViewLemmas

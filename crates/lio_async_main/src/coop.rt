@@ -1,0 +1,218 @@
+//! The top call over futures: words, policy, script, inputs, run, view, files, summary.
+
+ghost use Rattle.std.specs.Prelude.{◌≡◌, ◌≤◌, [], IfOk, IfSome};
+ghost use Rattle.lio_host_words.specs.Sorted.{bytes_of_words};
+ghost use Rattle.lio_start.specs.Job.{IsJob, first_of};
+ghost use Rattle.lio_rounds.specs.Runs.{RunsRounds, ran_of};
+ghost use Rattle.lio_host_main.specs.Answers.{Follows, Says, journal_with};
+ghost use Rattle.lio_host_main.specs.Order.{seen_by};
+ghost use Rattle.lio_async_main.specs.Answers.{GivesRounds};
+ghost use Rattle.lio_async_main.specs.Status.{host_of};
+ghost use Rattle.lio_async_main.specs.Words.{host_words};
+
+use crate::running::{run_polled, seen_polled};
+use crate::status::{CoopStatus, coop_status};
+use crate::words::read_words;
+use lio_clauses::NoMemory;
+use lio_events::Journal;
+use lio_events_fits::journal_fits;
+use lio_host_main::{Order, finish_seen, prepare_order};
+use lio_labels::Label;
+use lio_outside::{Say, Store};
+use lio_rounds::Ran;
+use lio_start::Job;
+use std::alloc::{AllocGlobal, Global};
+use std::random::RandomSource;
+use std::sync::Wait;
+use std::thread::Threads;
+
+/// How a call of the host over futures ended, and the journal of what it ran.
+#[derive(Drop)]
+pub struct CoopOutcome {
+    pub status: CoopStatus,
+    pub journal: Journal,
+}
+
+/// The outcome of a call that gives no journal.
+fn refused(alloc: Global, status: CoopStatus) -> CoopOutcome
+    ensures status { result.status ≡ status }
+    ensures journal { result.journal ≡ [] }
+{
+    CoopOutcome {
+        status,
+        journal: Journal::new(alloc),
+    }
+}
+
+/// The outcome of a run whose files weren't all written, or whose summary wasn't said.
+fn unfinished(alloc: Global, status: CoopStatus, journal: Journal) -> CoopOutcome
+    ensures status { result.status ≡ status }
+    ensures journal { result.journal ≡ journal_with (host_of status) journal }
+{
+    match status {
+        CoopStatus::NoMemory => {
+            drop(journal);
+            refused(alloc, CoopStatus::NoMemory)
+        }
+        status => CoopOutcome { status, journal },
+    }
+}
+
+/// Runs a job by rounds, and gives what its observer sees of them, where there is one.
+fn run_seen<R: Wait + RandomSource + AllocGlobal>(
+    rt: &R,
+    alloc: Global,
+    job: &Job,
+    observer: &Option<Label>,
+) -> Result<(Ran, Journal), NoMemory>
+    ensures rounds { IfOk result
+        (λ both. RunsRounds (first_of job.now) (ran_of job.now.script both.0)) }
+    ensures job { IfOk result (λ both. IsJob job.now) }
+    ensures seen { IfOk result (λ both. both.1 ≡ seen_by observer.now both.0.journal) }
+{
+    let ran = run_polled(rt, alloc, job)?;
+    match seen_polled(rt, alloc, job, observer, &ran) {
+        Ok(seen) => Ok((ran, seen)),
+        Err(NoMemory) => {
+            drop(ran);
+            Err(NoMemory)
+        }
+    }
+}
+
+/// Gives up what was to be run.
+fn give_up(order: Order<'_>) {
+    let Order {
+        job,
+        observer,
+        way,
+        ..
+    } = order;
+    drop(job);
+    drop(observer);
+    drop(way);
+}
+
+/// What `coop_main` answers.
+fn answer<R: Wait + RandomSource + AllocGlobal, S: Store, W: Say>(
+    rt: &R,
+    alloc: Global,
+    words: &[String],
+    store: &mut S,
+    say: &mut W,
+) -> CoopOutcome
+    ensures count { S.faults store.old ≤ S.faults store.new }
+    ensures say_count { W.faults say.old ≤ W.faults say.new }
+    ensures says { Says (record {
+      words = host_words (bytes_of_words words.now);
+      before = record {
+        told = S.holds store.old;
+        faults = S.faults store.old;
+        said = W.said say.old;
+        say_faults = W.faults say.old;
+      };
+      after = record {
+        told = S.holds store.new;
+        faults = S.faults store.new;
+        said = W.said say.new;
+        say_faults = W.faults say.new;
+      };
+      journal = result.journal;
+    }) (host_of result.status) }
+{
+    let Some(command) = read_words(words) else {
+        return refused(alloc, CoopStatus::BadWords);
+    };
+    let order = match prepare_order(alloc, store, command) {
+        Ok(order) => order,
+        Err(status) => return refused(alloc, coop_status(status)),
+    };
+    let (ran, seen) = match run_seen(rt, alloc, &order.job, &order.observer) {
+        Ok(both) => both,
+        Err(NoMemory) => {
+            give_up(order);
+            return refused(alloc, CoopStatus::NoMemory);
+        }
+    };
+    journal_fits(&ran.journal);
+    let finished = finish_seen(alloc, store, say, &order, &ran, &seen);
+    give_up(order);
+    drop(seen);
+    let Ran { journal, config } = ran;
+    drop(config);
+    match finished {
+        Ok(()) => CoopOutcome {
+            status: CoopStatus::Done,
+            journal,
+        },
+        Err(status) => unfinished(alloc, coop_status(status), journal),
+    }
+}
+
+/// Does what the words ask for: runs the script under the policy in rounds, as a future that is polled
+/// by hand, writes the files, and says the summary. What is promised is what `host_main` promises of
+/// the words of the host that ask for the same. It may wait, and then doesn't return.
+pub fn coop_main<R, S: Store, W: Say>(
+    rt: &R,
+    alloc: Global,
+    words: &[String],
+    store: &mut S,
+    say: &mut W,
+) -> CoopOutcome
+where
+    R: Threads + Wait + Sync + RandomSource + AllocGlobal,
+    ensures count { S.faults store.old ≤ S.faults store.new }
+    ensures say_count { W.faults say.old ≤ W.faults say.new }
+    ensures says { Says (record {
+      words = host_words (bytes_of_words words.now);
+      before = record {
+        told = S.holds store.old;
+        faults = S.faults store.old;
+        said = W.said say.old;
+        say_faults = W.faults say.old;
+      };
+      after = record {
+        told = S.holds store.new;
+        faults = S.faults store.new;
+        said = W.said say.new;
+        say_faults = W.faults say.new;
+      };
+      journal = result.journal;
+    }) (host_of result.status) }
+    ensures follows { IfSome (S.holds store.old) (Follows (record {
+      words = host_words (bytes_of_words words.now);
+      before = record {
+        told = S.holds store.old;
+        faults = S.faults store.old;
+        said = W.said say.old;
+        say_faults = W.faults say.old;
+      };
+      after = record {
+        told = S.holds store.new;
+        faults = S.faults store.new;
+        said = W.said say.new;
+        say_faults = W.faults say.new;
+      };
+      journal = result.journal;
+    }) (host_of result.status)) }
+    ensures rounds { GivesRounds (record {
+      words = host_words (bytes_of_words words.now);
+      before = record {
+        told = S.holds store.old;
+        faults = S.faults store.old;
+        said = W.said say.old;
+        say_faults = W.faults say.old;
+      };
+      after = record {
+        told = S.holds store.new;
+        faults = S.faults store.new;
+        said = W.said say.new;
+        say_faults = W.faults say.new;
+      };
+      journal = result.journal;
+    }) result.status }
+    ensures bad_words { host_words (bytes_of_words words.now) ≡ []
+        → result.status ≡ CoopStatus.BadWords }
+{
+    answer(rt, alloc, words, store, say)
+}

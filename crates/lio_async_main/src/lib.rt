@@ -1,0 +1,13 @@
+//! The host over futures: the words, the policy, the script, the inputs, the rounds as a future, the
+//! view as a stream, the files, and the summary.
+#![tactic(auto)]
+
+mod coop;
+mod running;
+mod status;
+mod words;
+
+pub use coop::{CoopOutcome, coop_main};
+pub use running::first_machine;
+pub use status::CoopStatus;
+pub use words::read_words;

@@ -1,0 +1,5 @@
+pub mod RoundLemmas
+pub mod FutureLemmas
+pub mod ViewLemmas
+pub mod StreamLemmas
+pub mod LawLemmas

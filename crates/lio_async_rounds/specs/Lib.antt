@@ -1,0 +1,3 @@
+pub mod RoundsFuture
+pub mod ViewStream
+pub mod Laws
