@@ -5,7 +5,7 @@ use futures::task::Poll;
 use futures::test::MockTask;
 use lio_async_main::{first_machine, read_words};
 use lio_async_rounds::{RoundsFuture, ViewStream};
-use lio_clauses::{Names, NoMemory};
+use lio_clauses::{Names, NoMemory, beside};
 use lio_events_reading::read_seen;
 use lio_host_main::{Order, prepare_order};
 use lio_labels::Label;
@@ -164,18 +164,47 @@ fn entry_of<R: Abort + AllocGlobal>(rt: &R, line: &str) -> Result<Entry, Fail> {
     }
 }
 
+/// Asserts that a stream gives the entry of this line of a view at its next poll, and no wake with
+/// it.
+fn assert_gives_line<R: Abort + AllocGlobal>(
+    rt: &R,
+    task: &MockTask,
+    stream: &mut ViewStream,
+    line: &str,
+) -> Result<(), Fail> {
+    let expected = entry_of(rt, line)?;
+    assert_gives(rt, task, stream, &expected)
+}
+
+/// Asserts that a stream isn't ready at its next poll, and asks for another.
+fn assert_pending<R: Abort + AllocGlobal>(
+    rt: &R,
+    task: &MockTask,
+    stream: &mut ViewStream,
+) -> Result<(), Fail> {
+    assert!(rt; task.poll(&mut stream.next()).is_pending());
+    assert!(rt; task.is_woken());
+    Ok(())
+}
+
+/// The stream of what everyone sees of a script.
+fn stream_of<R: Abort + AllocGlobal + RandomSource>(
+    rt: &R,
+    script: &str,
+) -> Result<ViewStream, Fail> {
+    let observer = Label::public(rt.alloc())?;
+    let (observer, machine) = beside(observer, machine_of(rt, script))?;
+    Ok(ViewStream::new(rt.alloc(), machine, observer))
+}
+
 #[test]
 fn a_stream_of_what_everyone_sees(rt: HostRuntime) -> Result<(), Fail> {
     let rt = &rt;
     let task = MockTask::new(rt)?;
-    let expected = entry_of(rt, SEEN)?;
-    let observer = Label::public(rt.alloc())?;
-    let mut stream = ViewStream::new(rt.alloc(), machine_of(rt, LEARNS)?, observer);
-    assert_gives(rt, &task, &mut stream, &expected)?;
-    for _round in 0..2 {
-        assert!(rt; task.poll(&mut stream.next()).is_pending());
-        assert!(rt; task.is_woken());
-    }
+    let mut stream = stream_of(rt, LEARNS)?;
+    assert_gives_line(rt, &task, &mut stream, SEEN)?;
+    assert_pending(rt, &task, &mut stream)?;
+    assert_pending(rt, &task, &mut stream)?;
     assert_ended(rt, &task, &mut stream)?;
     assert_ended(rt, &task, &mut stream)
 }

@@ -14,7 +14,7 @@ use Rattle.lio_cells.specs.declared.state.State.TheVariants.{Job}
 use Rattle.lio_cells.specs.State.{Result, is_job, label_of, result_of, state_after}
 use Rattle.lio_task_control.specs.Items.{rest_of}
 use Rattle.lio_calculus.specs.Task.{TaskState}
-use Rattle.lio_calculus.specs.Going.{Onward, Bind, Seal, Call, Return, Leave, Unlabel, Release, HoldReference, HoldVariable, Fork, Spawn, Throw, gone, gone_on}
+use Rattle.lio_calculus.specs.Going.{Onward, Bind, Seal, Call, Return, Leave, Unlabel, Release, Expose, HoldReference, HoldVariable, Fork, Spawn, Throw, gone, gone_on}
 use Rattle.lio_calculus.specs.Guarded.{label_after}
 use Rattle.lio_calculus.specs.Step.{Configuration, cell_at}
 use Rattle.lio_calculus.specs.Sound.{ValueNames, IsOpen, EachInTask, EachInState, EachInItem, ItemSays, IsTaskOf, IsInRange, IsSound}
@@ -36,6 +36,7 @@ onward-map P Q implies asked (Return value) p = implies value p
 onward-map P Q implies asked (Leave caller name) p = bound-map P Q implies caller p
 onward-map P Q implies asked (Unlabel name label source content) p = implies _ p
 onward-map P Q implies asked (Release name label) p = implies _ p
+onward-map P Q implies asked (Expose name label) p = implies _ p
 onward-map P Q implies asked (Throw fault) p = implies _ p
 onward-map P Q implies asked onward p = tt
 

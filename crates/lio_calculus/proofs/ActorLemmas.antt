@@ -18,7 +18,7 @@ use Rattle.lio_cells.specs.declared.state.State.TheVariants.{Absent, Ref, Var, C
 use Rattle.lio_cells.specs.State.{state_after}
 use Rattle.lio_calculus.specs.Task.{TaskState}
 use Rattle.lio_task_control.specs.Items.{Item, rest_of}
-use Rattle.lio_calculus.specs.Going.{Onward, Raise, Unlabel, Release, released, gone, gone_on}
+use Rattle.lio_calculus.specs.Going.{Onward, Raise, Unlabel, Release, Expose, released, gone, gone_on}
 use Rattle.lio_calculus.specs.Hiding.{hide_task, hide_onward}
 use Rattle.lio_calculus.specs.Step.{Cell, Move, actor_after}
 use Rattle.lio_calculus.specs.Erased.{hide_state, hide_cell, erase_cell}
@@ -62,13 +62,23 @@ released-same observer label source target power content (act.Release source' ta
     ap (λ (l : Label). erase_content observer l content') (sym (here ∙ to)) ∙ same ∙ ap (λ (l : Label). erase_content observer l content) to
 released-same observer label source target power content asked alike to = absurd (cc)
 
+exposed-same : (observer label source target : Label) (power : Priv) (content : Content) (seen : Act) → erase_act observer seen ≡ act.Expose source target power (erase_content observer target content) → target ≡ label
+    → erase_content observer label (released seen) ≡ erase_content observer label content
+exposed-same observer label source target power content (act.Expose source' target' power' content') alike to =
+    let here : target' ≡ target = cc in
+    let same : erase_content observer target' content' ≡ erase_content observer target content = cc in
+    ap (λ (l : Label). erase_content observer l content') (sym (here ∙ to)) ∙ same ∙ ap (λ (l : Label). erase_content observer l content) to
+exposed-same observer label source target power content asked alike to = absurd (cc)
+
 released-alike : (observer label : Label) (asked seen : Act) → erase_act observer seen ≡ erase_act observer asked → IsReleaseOf asked label → erase_content observer label (released seen) ≡ erase_content observer label (released asked)
 released-alike observer label (act.Release source target power content) seen alike is = released-same observer label source target power content seen alike is
+released-alike observer label (act.Expose source target power content) seen alike is = exposed-same observer label source target power content seen alike is
 released-alike observer label asked seen alike is = absurd is
 
 agrees : (observer : Label) (current : Label) (onward : Onward) (asked seen : Act) → erase_act observer seen ≡ erase_act observer asked → IsAllowed asked onward → IsTrue (flows (label_after onward current) observer) → Agrees observer onward asked seen
 agrees observer current (Unlabel name label source content) asked seen alike allowed visible = flow_is_transitive source label observer allowed visible
 agrees observer current (Release name label) asked seen alike allowed visible = released-alike observer label asked seen alike allowed
+agrees observer current (Expose name label) asked seen alike allowed visible = (visible, released-alike observer label asked seen alike allowed)
 agrees observer current onward asked seen alike allowed visible = tt
 
 -- the actor's task goes on as it is seen

@@ -7,7 +7,7 @@ use Rattle.lio_syntax_lines.specs.declared.line.Simple.{Simple}
 use Rattle.lio_syntax.specs.Statements.{Statement, Statements, Procedure}
 use Rattle.lio_syntax.specs.Statements as statement
 use Rattle.lio_syntax.proofs.BeginningLemmas.{position_from-within}
-use Rattle.lio_guards.proofs.GuardLemmas.{current_flows_to_written, label_flows_to_clearance, current_flows_to_lowered}
+use Rattle.lio_guards.proofs.GuardLemmas.{current_flows_to_written, label_flows_to_clearance, current_flows_to_lowered, exposed_flows_to_clearance}
 use Rattle.lio_task_control.specs.Items.{Item, Do, rest_of}
 use Rattle.lio_calculus.specs.Task.{TaskState}
 use Rattle.lio_calculus.specs.Plan.{Program, Plan, procedure_at}
@@ -35,6 +35,7 @@ in-front task item items is = is ∙ ap (λ (rest : List Item). item ∷ rest) (
 module _ (program : Program) (task : TaskState) (below : IsTrue (flows task.label task.clearance)) where
   outcome-affords : {s : Simple} {p : Plan} → task.items ≡ Do (statement.Do s) ∷ rest_of task.items → Outcome program task s p → AffordsPlan program task p
   outcome-affords front (out.Unlabels e f) = label_flows_to_clearance op.Unlabel task.label task.clearance _ _ below f
+  outcome-affords front (out.Exposes asks e f) = exposed_flows_to_clearance task.label task.clearance _ _ _ f
   outcome-affords front (out.Taints e f) = label_flows_to_clearance op.Taint task.label task.clearance _ _ below f
   outcome-affords front (out.Lowers e f) = current_flows_to_lowered task.label task.clearance _ _ f
   outcome-affords front (out.IsRaised {o = o} r e) = (label_flows_to_clearance o task.label task.clearance _ _ below e, front)

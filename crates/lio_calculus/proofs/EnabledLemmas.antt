@@ -75,7 +75,7 @@ seen_task_is_enabled_below observer c k sound = record {
   absent = λ none. can-absent (erase observer c) k (task-absent observer c k none);
 }
 
--- a released content is all that an act can lack
+-- a released or exposed content is all that an act can lack
 release-opened : (observer : Label) (asked : Act) (target : Label) (into : Content → Act) (hidden content : Content) (contents : List Content) → is_some (opened_release observer asked target into hidden (content ∷ contents)) ≡ true
 release-opened observer asked target into Hidden content contents = by (flows target observer)
   where
@@ -89,6 +89,8 @@ supplied-opened : (observer : Label) (asked : Act) (reply : Reply) (content : Co
 unfolding opened
 supplied-opened observer (act.Release source target power hidden) Done content contents =
     release-opened observer (act.Release source target power hidden) target (act.Release source target power) hidden content contents
+supplied-opened observer (act.Expose source target power hidden) Done content contents =
+    release-opened observer (act.Expose source target power hidden) target (act.Expose source target power) hidden content contents
 supplied-opened observer asked reply content contents = refl
 
 -- the erased step, where the number is no task's, and where it is

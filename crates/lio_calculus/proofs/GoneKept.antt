@@ -16,7 +16,7 @@ use Rattle.lio_task_control.specs.Environment.{Environment}
 use Rattle.lio_task_control.specs.Items.{Item, Do, Access, Mark, Back, Fail, open_calls}
 use Rattle.lio_task_control.specs.Throwing.{thrown}
 use Rattle.lio_calculus.specs.Task.{TaskState}
-use Rattle.lio_calculus.specs.Going.{Onward, Bind, Seal, Enter, Repeat, Try, Call, Return, Leave, RaiseTo, Unlabel, Release, HoldReference, HoldVariable, Fork, Spawn, BindReply, Throw, End, released, given, newest, gone}
+use Rattle.lio_calculus.specs.Going.{Onward, Bind, Seal, Enter, Repeat, Try, Call, Return, Leave, RaiseTo, Unlabel, Release, Expose, HoldReference, HoldVariable, Fork, Spawn, BindReply, Throw, End, released, given, newest, gone}
 use Rattle.lio_calculus.specs.Guarded.{label_after}
 use Rattle.lio_calculus.specs.Sound.{EachBound, EachInItem, EachInTask, ItemSays, IsRaised, IsNoAccess, FrontIsRaised, AccessIsRaised, statement_says}
 use Rattle.lio_calculus.proofs.Closed.{IsClosed}
@@ -67,6 +67,7 @@ gone-each P closed task (Leave caller name) asked reply each p r h = record { en
 gone-each P closed task (RaiseTo label access) asked reply each p r h = record { environment = each.environment; items = All-cons (EachInItem P) (Access access) task.items tt each.items }
 gone-each P closed task (Unlabel name label source content) asked reply each p r h = given-each P closed (record task { label = label }) name content source (record { environment = each.environment; items = each.items }) p
 gone-each P closed task (Release name label) asked reply each p r h = record { environment = bind-each P task.environment name (Sealed label (released asked)) each.environment p; items = each.items }
+gone-each P closed task (Expose name label) asked reply each p r h = given-each P closed (record task { label = label }) name (released asked) label (record { environment = each.environment; items = each.items }) p
 gone-each P closed task (HoldReference name label) asked reply each p r h = record { environment = bind-each P task.environment name _ each.environment h; items = each.items }
 gone-each P closed task (HoldVariable name label) asked reply each p r h = record { environment = bind-each P task.environment name _ each.environment h; items = each.items }
 gone-each P closed task (Fork name label cells turns) asked reply each p r h = record { environment = bind-each P task.environment name _ each.environment h; items = each.items }
@@ -101,6 +102,7 @@ gone-says before task (Call name environment body) asked reply all suits = enter
 gone-says before task (Return value) asked reply all suits = returned-all ItemSays value task.environment task.items all
 gone-says before task (RaiseTo label access) asked reply all suits = All-cons ItemSays (Access access) task.items suits.1 all
 gone-says before task (Unlabel name label source content) asked reply all suits = given-items ItemSays (λ fault. tt) says-handlers (record task { label = label }) name content all
+gone-says before task (Expose name label) asked reply all suits = given-items ItemSays (λ fault. tt) says-handlers (record task { label = label }) name (released asked) all
 gone-says before task (BindReply name) asked (Told content) all suits = given-items ItemSays (λ fault. tt) says-handlers task name content all
 gone-says before task (Throw fault) asked reply all suits = thrown-all ItemSays fault tt says-handlers task.environment task.items all
 gone-says before task End asked reply all suits = All-nil _
@@ -126,6 +128,7 @@ gone-accesses before task (Return value) asked reply same all suits = none-raise
 gone-accesses before task (RaiseTo label access) asked reply same all suits =
     record { front = subst (λ (e : Environment). IsRaised (record before { environment = e; label = label }) access) same suits.0; behind = all }
 gone-accesses before task (Unlabel name label source content) asked reply same all suits = none-raised _ (given-items IsNoAccess (λ fault. tt) no_access-handlers (record task { label = label }) name content all)
+gone-accesses before task (Expose name label) asked reply same all suits = none-raised _ (given-items IsNoAccess (λ fault. tt) no_access-handlers (record task { label = label }) name (released asked) all)
 gone-accesses before task (BindReply name) asked (Told content) same all suits = none-raised _ (given-items IsNoAccess (λ fault. tt) no_access-handlers task name content all)
 gone-accesses before task (Throw fault) asked reply same all suits = none-raised _ (thrown-all IsNoAccess fault tt no_access-handlers task.environment task.items all)
 gone-accesses before task End asked reply same all suits = none-raised _ (All-nil _)
@@ -145,6 +148,7 @@ gone-calls before task (Try block code payload handler) asked reply fewer few su
 gone-calls before task (Call name environment body) asked reply fewer few suits = let room : open_calls before.items < 64 = suits.1 in omega (arith, room, enter-calls body (Back task.environment name ∷ task.items))
 gone-calls before task (Return value) asked reply fewer few suits = omega (arith, returned-calls value task.environment task.items)
 gone-calls before task (Unlabel name label source content) asked reply fewer few suits = omega (arith, given-calls (record task { label = label }) name content)
+gone-calls before task (Expose name label) asked reply fewer few suits = omega (arith, given-calls (record task { label = label }) name (released asked))
 gone-calls before task (BindReply name) asked (Told content) fewer few suits = omega (arith, given-calls task name content)
 gone-calls before task (Throw fault) asked reply fewer few suits = omega (arith, thrown-calls fault task.environment task.items)
 gone-calls before task onward asked reply fewer few suits = omega arith
@@ -165,26 +169,31 @@ taken onward = 0
 
 pub gone-label : (task : TaskState) (onward : Onward) (asked : Act) (reply : Reply) → (gone task onward asked reply).label ≡ label_after onward task.label
 gone-label task (Unlabel name label source content) asked reply = (given-labels (record task { label = label }) name content).0
+gone-label task (Expose name label) asked reply = (given-labels (record task { label = label }) name (released asked)).0
 gone-label task (BindReply name) asked (Told content) = (given-labels task name content).0
 gone-label task onward asked reply = refl
 
 pub gone-clearance : (task : TaskState) (onward : Onward) (asked : Act) (reply : Reply) → (gone task onward asked reply).clearance ≡ clearance_after onward task.clearance
 gone-clearance task (Unlabel name label source content) asked reply = (given-labels (record task { label = label }) name content).1
+gone-clearance task (Expose name label) asked reply = (given-labels (record task { label = label }) name (released asked)).1
 gone-clearance task (BindReply name) asked (Told content) = (given-labels task name content).1
 gone-clearance task onward asked reply = refl
 
 pub gone-first : (task : TaskState) (onward : Onward) (asked : Act) (reply : Reply) → (gone task onward asked reply).first ≡ task.first + taken onward
 gone-first task (Unlabel name label source content) asked reply = omega (arith, (given-labels (record task { label = label }) name content).2)
+gone-first task (Expose name label) asked reply = omega (arith, (given-labels (record task { label = label }) name (released asked)).2)
 gone-first task (BindReply name) asked (Told content) = omega (arith, (given-labels task name content).2)
 gone-first task onward asked reply = omega arith
 
 pub gone-cells : (task : TaskState) (onward : Onward) (asked : Act) (reply : Reply) → (gone task onward asked reply).cells ≡ task.cells - taken onward
 gone-cells task (Unlabel name label source content) asked reply = omega (arith, (given-labels (record task { label = label }) name content).3)
+gone-cells task (Expose name label) asked reply = omega (arith, (given-labels (record task { label = label }) name (released asked)).3)
 gone-cells task (BindReply name) asked (Told content) = omega (arith, (given-labels task name content).3)
 gone-cells task onward asked reply = omega arith
 
 pub gone-ended : (task : TaskState) (onward : Onward) (asked : Act) (reply : Reply) → task.ended ≡ false → (gone task onward asked reply).ended ≡ is_end onward
 gone-ended task (Unlabel name label source content) asked reply going = (given-labels (record task { label = label }) name content).4 ∙ going
+gone-ended task (Expose name label) asked reply going = (given-labels (record task { label = label }) name (released asked)).4 ∙ going
 gone-ended task (BindReply name) asked (Told content) going = (given-labels task name content).4 ∙ going
 gone-ended task End asked reply going = refl
 gone-ended task onward asked reply going = going

@@ -13,7 +13,7 @@ use Rattle.lio_values.specs.Erasure.{erase_content, erase_value, erase_reply}
 use Rattle.lio_syntax.specs.Statements.{While}
 use Rattle.lio_calculus.specs.Task.{TaskState}
 use Rattle.lio_task_control.specs.Items.{Item, Do, Mark, Back, enter}
-use Rattle.lio_calculus.specs.Going.{Onward, Advance, Bind, Seal, Enter, Repeat, Try, Call, Return, Leave, Unlabel, Release, HoldReference, HoldVariable, Fork, BindReply, Throw, End, binding, throwing, given, replied, released, taking, newest, gone}
+use Rattle.lio_calculus.specs.Going.{Onward, Advance, Bind, Seal, Enter, Repeat, Try, Call, Return, Leave, Unlabel, Release, Expose, HoldReference, HoldVariable, Fork, BindReply, Throw, End, binding, throwing, given, replied, released, taking, newest, gone}
 use Rattle.lio_task_control.specs.Hiding.{hide_environment}
 use Rattle.lio_task_control.proofs.HidingLemmas.{enter-hidden}
 use Rattle.lio_calculus.specs.Hiding.{hide_task, hide_onward}
@@ -21,10 +21,11 @@ use Rattle.lio_calculus.proofs.GoingLemmas.{returned-hidden, at-hidden, binding-
 use Rattle.lio_calculus.proofs.TwiceLemmas.{hide_task-twice}
 
 -- what a way of going on asks of the task's act and of what the observer may learn: an unlabelled content is one that it may learn, since the task is seen at
--- a label above the content's; and what is released is the same to the observer
+-- a label above the content's; what is released is the same to the observer; and so is what is exposed, which it may learn for the same reason
 abbrev pub Agrees : Label → Onward → Act → Act → Type 0
 Agrees observer (Unlabel name label source content) act seen = IsTrue (flows source observer)
 Agrees observer (Release name label) act seen = erase_content observer label (released seen) ≡ erase_content observer label (released act)
+Agrees observer (Expose name label) act seen = IsTrue (flows label observer) × (erase_content observer label (released seen) ≡ erase_content observer label (released act))
 Agrees observer onward act seen = Unit {0}
 
 learned : (observer source : Label) (content : Content) → IsTrue (flows source observer) → erase_content observer source content ≡ content
@@ -74,6 +75,10 @@ gone-hidden observer task (Leave caller name) act seen reply agrees =
 gone-hidden observer task (Unlabel name label source content) act seen reply agrees =
     rw (learned observer source content agrees) (once_more observer _ (given (record task { label = label }) name content) (given-hidden observer (record task { label = label }) name content))
 gone-hidden observer task (Release name label) act seen reply agrees = bound-alike observer task name _ _ (ap (Sealed label) agrees)
+gone-hidden observer task (Expose name label) act seen reply agrees =
+    let same : released seen ≡ released act = sym (learned observer label (released seen) agrees.0) ∙ agrees.1 ∙ learned observer label (released act) agrees.0 in
+    ap (λ (content : Content). hide_task observer (given (record (hide_task observer task) { label = label }) name content)) same
+    ∙ once_more observer _ (given (record task { label = label }) name (released act)) (given-hidden observer (record task { label = label }) name (released act))
 gone-hidden observer task (HoldReference name label) act seen reply agrees = once_more observer _ (gone task (HoldReference name label) act reply) (holding-hidden observer task name (Bare (RefOf (newest task label))) 0 refl)
 gone-hidden observer task (HoldVariable name label) act seen reply agrees = once_more observer _ (gone task (HoldVariable name label) act reply) (holding-hidden observer task name (Bare (VarOf (newest task label))) 0 refl)
 gone-hidden observer task (Fork name label cells turns) act seen reply agrees =

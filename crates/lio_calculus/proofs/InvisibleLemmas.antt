@@ -13,7 +13,7 @@ use Rattle.lio_values.specs.declared.act.Act.{Act}
 use Rattle.lio_values.specs.declared.act.Reply.{Reply}
 use Rattle.lio_values.specs.declared.act.Reply.TheVariants.{Done, Got, Told, Refused}
 use Rattle.lio_calculus.specs.Task.{TaskState}
-use Rattle.lio_calculus.specs.Going.{Onward, Unlabel, BindReply, given, replied, gone, gone_on}
+use Rattle.lio_calculus.specs.Going.{Onward, Unlabel, Expose, BindReply, released, given, replied, gone, gone_on}
 use Rattle.lio_values.specs.declared.act.Act.TheVariants as act
 use Rattle.lio_cells.specs.State.{label_of, ready, answer, state_after}
 use Rattle.lio_calculus.specs.Plan.{Program, Plan, Over, Own, Visit, Target, Node, New, plan}
@@ -34,6 +34,7 @@ replied-label task name (Refused fault) = refl
 
 gone-label : (task : TaskState) (onward : Onward) (act : Act) (reply : Reply) → (gone task onward act reply).label ≡ label_after onward task.label
 gone-label task (Unlabel name label source content) act reply = given-label (record task { label = label }) name content
+gone-label task (Expose name label) act reply = given-label (record task { label = label }) name (released act)
 gone-label task (BindReply name) act reply = replied-label task name reply
 gone-label task onward act reply = refl
 

@@ -25,15 +25,15 @@ use Rattle.lio_syntax_lines.specs.declared.line.Simple.TheVariants as line
 use Rattle.lio_syntax.specs.Statements.{Procedure}
 use Rattle.lio_guards.specs.declared.verdict.Verdict.{Verdict}
 use Rattle.lio_guards.specs.declared.verdict.Verdict.TheVariants.{Go, No}
-use Rattle.lio_guards.specs.Guard.{guarded_relabel}
+use Rattle.lio_guards.specs.Guard.{guarded_relabel, guarded_expose}
 use Rattle.lio_operators.specs.Operators.{operate1, operate2}
 use Rattle.lio_cells.specs.State.{Kind, Reference, Variable, Channel, Result as result}
 use Rattle.lio_task_control.specs.Environment.{bind_all}
 use Rattle.lio_task_control.specs.Items.{open_calls}
 use Rattle.lio_calculus.specs.Operands.{bound, all_bound, Labelled, sealed_of, seen_as, label_of, power_of, text_of, reference_of, variable_of, result_of, channel_of, count_of}
 use Rattle.lio_calculus.specs.Task.{TaskState}
-use Rattle.lio_calculus.specs.Going.{Onward, Bind, Seal, Call, Return, Raise, RaiseTo, Unlabel, Lower, Release, HoldReference, HoldVariable, Fork, Spawn, BindReply, Advance}
-use Rattle.lio_calculus.specs.Plan.{Program, Plan, Own, Visit, Node, New, stepping, refused, bad_type, ending, verdict_on, procedure_at, birth_of, with_seen, with_verdict, with_cells, with_turns, computed, calling, returning, raising, new_variable, plan_simple}
+use Rattle.lio_calculus.specs.Going.{Onward, Bind, Seal, Call, Return, Raise, RaiseTo, Unlabel, Lower, Release, Expose, HoldReference, HoldVariable, Fork, Spawn, BindReply, Advance}
+use Rattle.lio_calculus.specs.Plan.{Program, Plan, Own, Visit, Node, New, stepping, refused, bad_type, ending, verdict_on, procedure_at, birth_of, with_seen, with_verdict, with_cells, with_turns, computed, calling, returning, raising, new_variable, exposed_to, plan_simple}
 use Rattle.lio_calculus.proofs.SoundLemmas.{seen-plain}
 
 -- a statement with an access: the operation of its raise; and the act, the node and the way of going on of the access, whose handle it names
@@ -47,16 +47,22 @@ pub data Reaches (task : TaskState) : Simple → Op → Act → Kind → Handle 
   Waits : {x : List ℕ} {r : Operand} {handle : Handle} → seen_as result_of task.environment r ≡ Some handle
       → Reaches task (line.Wait x r) op.Wait act.Wait result handle (BindReply x)
 
--- what a guard tests of an act: an operation on a label, a release from a label to another, or nothing
+-- what a guard tests of an act: an operation on a label, a release from a label to another, an exposure of what has a label, or nothing
 pub data Test : Type 0 where
   On : Op → Label → Test
   Between : Label → Label → Priv → Test
+  Using : Label → Priv → Test
   Free : Test
 
 abbrev pub verdict_of : TaskState → Test → Verdict
 verdict_of task (On o target) = verdict_on task o target
 verdict_of task (Between source target power) = guarded_relabel task.label task.clearance source target power
+verdict_of task (Using source power) = guarded_expose task.label task.clearance source power
 verdict_of task Free = Go task.label
+
+-- what an exposure shows where it is refused
+abbrev pub exposure : TaskState → Labelled → Priv → Act
+exposure task sealed power = act.Expose sealed.label (exposed_to sealed.label (guarded_expose task.label task.clearance sealed.label power)) power Hidden
 
 -- the act that a statement asks for, with what it looked up, and its test
 pub data Asks (program : Program) (task : TaskState) : Simple → Act → Test → Type 0 where
@@ -72,6 +78,9 @@ pub data Asks (program : Program) (task : TaskState) : Simple → Act → Test �
       → option_and_then sealed_of (bound task.environment a) ≡ Some sealed → seen_as label_of task.environment l ≡ Some target
       → seen_as power_of task.environment p ≡ Some power
       → Asks program task (line.Relabel x a l p) (act.Release sealed.label target power Hidden) (Between sealed.label target power)
+  Exposing : {x : List ℕ} {a p : Operand} {sealed : Labelled} {power : Priv}
+      → option_and_then sealed_of (bound task.environment a) ≡ Some sealed → seen_as power_of task.environment p ≡ Some power
+      → Asks program task (line.UnlabelUsing x a p) (exposure task sealed power) (Using sealed.label power)
   Referring : {x : List ℕ} {l a : Operand} {label : Label} {value : Value} → seen_as label_of task.environment l ≡ Some label
       → bound task.environment a ≡ Some value → Asks program task (line.NewRef x l a) (act.NewRef label value) (On op.NewRef label)
   Holding : {x : List ℕ} {l : Operand} {label : Label} → seen_as label_of task.environment l ≡ Some label
@@ -136,6 +145,11 @@ pub data Outcome (program : Program) (task : TaskState) : Simple → Plan → Ty
       → option_and_then sealed_of (bound task.environment a) ≡ Some sealed
       → guarded_relabel task.label task.clearance sealed.label target power ≡ Go current
       → Outcome program task (line.Relabel x a l p) (Own (act.Release sealed.label target power sealed.content) Done (Release x target))
+  Exposes : {x : List ℕ} {a p : Operand} {sealed : Labelled} {power : Priv} {current : Label}
+      → Asks program task (line.UnlabelUsing x a p) (exposure task sealed power) (Using sealed.label power)
+      → option_and_then sealed_of (bound task.environment a) ≡ Some sealed
+      → guarded_expose task.label task.clearance sealed.label power ≡ Go current
+      → Outcome program task (line.UnlabelUsing x a p) (Own (act.Expose sealed.label current power sealed.content) Done (Expose x current))
   MakesReference : {x : List ℕ} {l a : Operand} {label : Label} {value : Value} {current : Label}
       → Asks program task (line.NewRef x l a) (act.NewRef label value) (On op.NewRef label) → verdict_on task op.NewRef label ≡ Go current
       → 1 ≤ task.cells → Outcome program task (line.NewRef x l a) (Visit (act.NewRef label value) (New task.first) (HoldReference x label))
@@ -253,6 +267,9 @@ outcome program task (line.Label x l a) =
 outcome program task (line.Unlabel x a) =
     seen-out (option_and_then sealed_of (bound task.environment a)) _
     (λ s e. tested (act.Raise op.Unlabel s.label) (On op.Unlabel s.label) _ (Unlabelling e) (λ current g. Unlabels e g))
+outcome program task (line.UnlabelUsing x a p) =
+    seen-out (option_and_then sealed_of (bound task.environment a)) _ (λ s e. seen-out (seen_as power_of task.environment p) _
+    (λ power f. tested (exposure task s power) (Using s.label power) _ (Exposing e f) (λ current g. Exposes (Exposing e f) e g)))
 outcome program task (line.Taint l) =
     seen-out (seen_as label_of task.environment l) _ (λ label e. tested (act.Raise op.Taint label) (On op.Taint label) _ (Tainting e) (λ current g. Taints e g))
 outcome program task (line.Lower l) =

@@ -6,6 +6,7 @@ use Rattle.std.specs.List.{list_all}
 use Rattle.std.proofs.lemmas.Bool.{and_parts}
 use Rattle.std.proofs.lemmas.List.Elements.{All-nil, All-head, All-tail, All-cons}
 use Rattle.lio_labels.specs.declared.label.Label.{Label}
+use Rattle.lio_labels.specs.declared.privilege.Priv.{Priv}
 use Rattle.lio_values.specs.declared.fault.FaultKind.{FaultKind}
 use Rattle.lio_values.specs.declared.fault.FaultKind.TheVariants.{BadType, NoTurns, Depth, User}
 use Rattle.lio_values.specs.declared.value.Plain.TheVariants.{Unit as unit}
@@ -18,8 +19,8 @@ use Rattle.lio_syntax_lines.specs.declared.line.Operand.{Operand}
 use Rattle.lio_syntax_lines.specs.declared.line.Simple.{Simple}
 use Rattle.lio_syntax_lines.specs.Operands.{is_said}
 use Rattle.lio_guards.specs.declared.verdict.Verdict.TheVariants.{No}
-use Rattle.lio_guards.specs.Laws.{Fails as FailsFor}
-use Rattle.lio_guards.proofs.GuardLemmas.{refused_where_test_fails, release_refused_where_test_fails}
+use Rattle.lio_guards.specs.Laws.{Fails as FailsFor, FailsToExpose}
+use Rattle.lio_guards.proofs.GuardLemmas.{refused_where_test_fails, release_refused_where_test_fails, expose_refused_where_test_fails}
 use Rattle.lio_operators.specs.Operators.{operate1, operate2}
 use Rattle.lio_operators.specs.Laws.{IsUnthrown, IsPublic}
 use Rattle.lio_operators.proofs.OperatorLemmas.{one_gives_simple, two_give_simple}
@@ -30,16 +31,16 @@ use Rattle.lio_task_control.specs.Environment.{Environment, bind_before, bind, b
 use Rattle.lio_task_control.specs.Items.{Item}
 use Rattle.lio_calculus.specs.Operands.{bound, all_bound, Labelled, sealed_of}
 use Rattle.lio_calculus.specs.Task.{TaskState}
-use Rattle.lio_calculus.specs.Going.{Onward, Bind, Seal, Call, Return, Leave, Unlabel, Release, Throw, released}
+use Rattle.lio_calculus.specs.Going.{Onward, Bind, Seal, Call, Return, Leave, Unlabel, Release, Expose, Throw, released}
 use Rattle.lio_calculus.specs.Plan.{Program, Plan, Over, Own, Visit, fault_at, plan}
 use Rattle.lio_calculus.specs.Sound.{EachBound, EachInItem, EachInTask, says, statement_says, ItemSays}
 use Rattle.lio_calculus.proofs.SoundLemmas.{first-said, rest-said, second-said, bound-each}
-use Rattle.lio_calculus.proofs.Outcome.{Puts, Test, On, Between, Free, verdict_of, Asks, Outcome}
+use Rattle.lio_calculus.proofs.Outcome.{Puts, Test, On, Between, Using, Free, verdict_of, Asks, Outcome}
 use Rattle.lio_calculus.proofs.Outcome as out
 use Rattle.lio_calculus.proofs.PlanCases.{ItemsCase, Ends, Does, IsMistyped, Visits, Leaves, Fails, plan-by}
 use Rattle.lio_calculus.proofs.Closed.{IsClosed}
 
--- a property of each value in the ways of going on, in an act, in a plan; what is released counts as sealed under the label that it comes to
+-- a property of each value in the ways of going on, in an act, in a plan; what is released or exposed counts as sealed under the label that it comes to
 abbrev pub EachInOnward : (Value → Type 0) → Act → Onward → Type 0
 EachInOnward P asked (Bind name value) = P value
 EachInOnward P asked (Seal name label plain) = P (Bare plain)
@@ -48,6 +49,7 @@ EachInOnward P asked (Return value) = P value
 EachInOnward P asked (Leave caller name) = EachBound P caller
 EachInOnward P asked (Unlabel name label source content) = P (Sealed source content)
 EachInOnward P asked (Release name label) = P (Sealed label (released asked))
+EachInOnward P asked (Expose name label) = P (Sealed label (released asked))
 EachInOnward P asked (Throw fault) = P (Sealed fault.at (Faulted fault))
 EachInOnward P asked onward = Unit {0}
 
@@ -114,10 +116,15 @@ fails-unthrown : (kind : FaultKind) → FailsFor kind → IsUnthrown kind
 fails-unthrown (User plain) fails = absurd fails
 fails-unthrown kind fails = tt
 
+expose-unthrown : (power : Priv) (kind : FaultKind) → FailsToExpose power kind → IsUnthrown kind
+expose-unthrown power (User plain) fails = absurd fails
+expose-unthrown power kind fails = tt
+
 -- a test's fault is none that a script throws
 test-unthrown : (task : TaskState) (test : Test) (kind : FaultKind) → verdict_of task test ≡ No kind → IsUnthrown kind
 test-unthrown task (On o target) kind e = fails-unthrown kind (refused_where_test_fails o task.label task.clearance target kind e)
 test-unthrown task (Between source target power) kind e = fails-unthrown kind (release_refused_where_test_fails task.label task.clearance source target power kind e)
+test-unthrown task (Using source power) kind e = expose-unthrown power kind (expose_refused_where_test_fails task.label task.clearance source power kind e)
 test-unthrown task Free kind e = absurd (cc)
 
 made-each : (P : Value → Type 0) → IsClosed P → (made : Value) (given : Result Value FaultKind) → given ≡ Ok made → IsPublic given → P made
@@ -176,6 +183,8 @@ module _ (P : Value → Type 0) (closed : IsClosed P) (task : TaskState) (each :
   outcome-each program said (out.Unlabels {a = a} {sealed = s} e f) = (tt, sealed-at a s (first-said a [] said) e)
   outcome-each program said (out.Releases {a = a} {l = l} {p = p} {sealed = s} {target = target} asks e f) =
       (tt, closed.again s.label target s.content (sealed-at a s (first-said a (l ∷ p ∷ []) said) e))
+  outcome-each program said (out.Exposes {a = a} {p = p} {sealed = s} {current = current} asks e f) =
+      (tt, closed.again s.label current s.content (sealed-at a s (first-said a (p ∷ []) said) e))
   outcome-each program said (out.MakesReference asks e room) = (asks-each said asks, tt)
   outcome-each program said (out.MakesVariable asks e room) = (asks-each said asks, tt)
   outcome-each program said (out.Writes {r = r} {a = a} e f g) = (value-at a (second-said r a [] said) f, tt)

@@ -28,7 +28,7 @@ use Rattle.lio_calculus.specs.Plan.{Program, Plan, Over, fault_at, bad_type, ref
 use Rattle.lio_task_control.specs.Hiding.{hide_environment, hide_item}
 use Rattle.lio_calculus.specs.Hiding.{hide_task, hide_asked, hide_onward, hide_plan}
 use Rattle.lio_calculus.proofs.HidingLemmas.{bound-hidden, seen_as-hidden, open_calls-hidden, all_bound-hidden, bind_all-hidden}
-use Rattle.lio_calculus.proofs.PlanLemmas.{bad_type-hidden, with_seen-same, with_seen-mapped, with_verdict-hidden, raising-hidden, sealing-hidden, releasing-hidden, new_reference-hidden, new_variable-hidden, writing-hidden, sending-hidden, forking-hidden, spawning-hidden, unlabelling-hidden}
+use Rattle.lio_calculus.proofs.PlanLemmas.{bad_type-hidden, with_seen-same, with_seen-mapped, with_verdict-hidden, raising-hidden, sealing-hidden, releasing-hidden, exposing-hidden, new_reference-hidden, new_variable-hidden, writing-hidden, sending-hidden, forking-hidden, spawning-hidden, unlabelling-hidden}
 
 -- a view of an operand
 seen : {X : Type 0} (view : Plain → Option X) (observer : Label) (task : TaskState) (operand : Operand) (next hidden : X → Plan) → ((x : X) → hidden x ≡ hide_plan observer (next x))
@@ -101,6 +101,7 @@ plan_simple-hidden program observer task line.Stop = refl
 plan_simple-hidden program observer task (line.Throw a) = seen Some observer task a _ _ (λ plain. refl)
 plan_simple-hidden program observer task (line.Label x l a) = seen label_of observer task l _ _ (λ label. seen Some observer task a _ _ (sealing-hidden observer task x label))
 plan_simple-hidden program observer task (line.Unlabel x a) = labelled observer task a _ _ (unlabelling-hidden observer task x)
+plan_simple-hidden program observer task (line.UnlabelUsing x a p) = labelled observer task a _ _ (λ s. seen power_of observer task p _ _ (exposing-hidden observer task x s))
 plan_simple-hidden program observer task (line.Taint l) =
     seen label_of observer task l _ _ (λ label. with_verdict-hidden observer task (act.Raise op.Taint label) (verdict_on task op.Taint label) _ _ (λ current. refl))
 plan_simple-hidden program observer task (line.Lower l) =

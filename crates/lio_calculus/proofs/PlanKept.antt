@@ -17,7 +17,7 @@ use Rattle.lio_values.specs.declared.act.Reply.TheVariants.{Done, Got, Told, Ref
 use Rattle.lio_syntax_lines.specs.declared.line.Simple.{Simple}
 use Rattle.lio_syntax_lines.specs.Operands.{is_said}
 use Rattle.lio_syntax.specs.Statements.{Procedure}
-use Rattle.lio_guards.proofs.GuardLemmas.{current_flows_to_written, learnt_flows_to_label, label_flows_to_clearance, exchange_takes_label, current_flows_to_lowered, lowered_flows_to_clearance}
+use Rattle.lio_guards.proofs.GuardLemmas.{current_flows_to_written, learnt_flows_to_label, label_flows_to_clearance, exchange_takes_label, current_flows_to_lowered, lowered_flows_to_clearance, exposed_flows_to_clearance}
 use Rattle.lio_cells.specs.State.{Kind}
 use Rattle.lio_task_control.specs.Items.{Item, open_calls}
 use Rattle.lio_calculus.specs.Task.{TaskState}
@@ -163,6 +163,7 @@ module _ (program : Program) (task : TaskState) (below : IsTrue (flows task.labe
   outcome-kept said (out.LacksTurns asks) = (kept task _ below refl refl tt, asks-unended asks, refl, refl)
   outcome-kept said (out.Calls {p = name} e f shallow) = (kept task _ below refl refl (found-says program name _ all f, shallow), refl, refl, refl)
   outcome-kept said (out.Unlabels {current = current} e f) = (raised task _ current refl refl (label_flows_to_clearance op.Unlabel task.label task.clearance _ current below f) tt, refl, refl, refl)
+  outcome-kept said (out.Exposes {current = current} asks e f) = (raised task _ current refl refl (exposed_flows_to_clearance task.label task.clearance _ current _ f) tt, refl, refl, refl)
   outcome-kept said (out.Taints {current = current} e f) = (raised task _ current refl refl (label_flows_to_clearance op.Taint task.label task.clearance _ current below f) tt, refl, refl, refl)
   outcome-kept said (out.Lowers e f) =
       (record { label = current_flows_to_lowered task.label task.clearance _ _ f; lowered = lowered_flows_to_clearance task.label task.clearance _ _ f; suits = tt }, refl, refl, refl)

@@ -22,10 +22,10 @@ use Rattle.lio_guards.specs.declared.verdict.Verdict.TheVariants.{Go, No}
 use Rattle.lio_calculus.specs.Operands.{Labelled}
 use Rattle.lio_calculus.specs.Task.{TaskState}
 use Rattle.lio_values.specs.declared.act.Reply.TheVariants.{Done}
-use Rattle.lio_guards.specs.Guard.{guarded_relabel}
+use Rattle.lio_guards.specs.Guard.{guarded_relabel, guarded_expose}
 use Rattle.lio_cells.specs.State.{Reference, Channel}
-use Rattle.lio_calculus.specs.Going.{Advance, Seal, RaiseTo, Unlabel, Release, HoldReference, HoldVariable, Fork, Spawn}
-use Rattle.lio_calculus.specs.Plan.{Plan, Own, Visit, Node, New, bad_type, refused, with_seen, with_verdict, verdict_on, with_cells, with_turns, with_room, raising, releasing, new_reference, new_variable, birth_of, forking, spawning}
+use Rattle.lio_calculus.specs.Going.{Advance, Seal, RaiseTo, Unlabel, Release, Expose, HoldReference, HoldVariable, Fork, Spawn}
+use Rattle.lio_calculus.specs.Plan.{Plan, Own, Visit, Node, New, bad_type, refused, with_seen, with_verdict, verdict_on, with_cells, with_turns, with_room, raising, releasing, exposed_to, exposing, new_reference, new_variable, birth_of, forking, spawning}
 use Rattle.lio_calculus.specs.Hiding.{hide_task, hide_asked, hide_onward, hide_plan}
 
 -- a refusal looks at the label alone
@@ -100,6 +100,20 @@ releasing-hidden observer task name source target power =
     let same : hide_asked observer asked ≡ asked = ap (λ (content : Content). act.Release source.label target power content) (hidden-twice observer source.label) in
     subst (λ (a : Act). with_verdict (hide_task observer task) a verdict hidden ≡ hide_plan observer (with_verdict task asked verdict next)) same
     (with_verdict-hidden observer task asked verdict next hidden (λ current. refl))
+
+-- exposures
+pub exposing-hidden : (observer : Label) (task : TaskState) (name : List ℕ) (source : Labelled) (power : Priv)
+    → exposing (hide_task observer task) name (record source { content = erase_content observer source.label source.content }) power ≡ hide_plan observer (exposing task name source power)
+unfolding hide_asked hide_onward
+exposing-hidden observer task name source power =
+    let verdict : Verdict = guarded_expose task.label task.clearance source.label power in
+    let target : Label = exposed_to source.label verdict in
+    let asked : Act = act.Expose source.label target power Hidden in
+    let next : Label → Plan = λ label. Own (act.Expose source.label label power source.content) Done (Expose name label) in
+    let hidden : Label → Plan = λ label. Own (act.Expose source.label label power (erase_content observer source.label source.content)) Done (Expose name label) in
+    let same : hide_asked observer asked ≡ asked = ap (λ (content : Content). act.Expose source.label target power content) (hidden-twice observer source.label) in
+    subst (λ (a : Act). with_verdict (hide_task observer task) a verdict hidden ≡ hide_plan observer (with_verdict task asked verdict next)) same
+    (with_verdict-hidden observer task asked verdict next hidden (λ label. refl))
 
 -- new references and variables
 pub new_reference-hidden : (observer : Label) (task : TaskState) (name : List ℕ) (label : Label) (value : Value)

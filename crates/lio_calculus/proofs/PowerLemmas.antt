@@ -197,7 +197,7 @@ after-each powers c k task move each mine p =
       task = λ x e. let is : gone_on task move.onward move.act move.reply ≡ x = cc in subst (EachInTask P) is gone;
     })
 
--- the privilege of a release is one that the task holds
+-- the privilege of a release or an exposure is one that the task holds
 abbrev PlanReleases : List Priv → Plan → Type 0
 PlanReleases powers Over = Unit {0}
 PlanReleases powers (Own asked reply onward) = ReleasesBy powers asked
@@ -214,6 +214,10 @@ module _ (powers : List Priv) (task : TaskState) (each : EachBound (ValueIsAmong
       let seen = seen-plain power_of task.environment p power g in
       power-among powers seen.0 power seen.2
       (bound-each (ValueIsAmong powers) task.environment p (Bare seen.0) (among-said powers) each (first-said p [] (rest-said l (p ∷ []) (rest-said a (l ∷ p ∷ []) said))) seen.1)
+  asks-released said (out.Exposing {a = a} {p = p} {power = power} e f) =
+      let seen = seen-plain power_of task.environment p power f in
+      power-among powers seen.0 power seen.2
+      (bound-each (ValueIsAmong powers) task.environment p (Bare seen.0) (among-said powers) each (first-said p [] (rest-said a (p ∷ []) said)) seen.1)
   asks-released said asks = tt
 
   items-released : {program : Program} {items : List Item} {p : Plan} → All ItemSays items → ItemsCase program task items p → PlanReleases powers p
@@ -222,6 +226,7 @@ module _ (powers : List Priv) (task : TaskState) (each : EachBound (ValueIsAmong
   items-released said (Does (out.LacksCells asks)) = asks-released (All-head ItemSays _ _ said) asks
   items-released said (Does (out.LacksTurns asks)) = asks-released (All-head ItemSays _ _ said) asks
   items-released said (Does (out.Releases asks e f)) = asks-released (All-head ItemSays _ _ said) asks
+  items-released said (Does (out.Exposes asks e f)) = asks-released (All-head ItemSays _ _ said) asks
   items-released said (Visits (Reads e)) = tt
   items-released said (Visits r) = tt
   items-released said o = tt

@@ -12,7 +12,7 @@ use Rattle.lio_values.specs.declared.act.Reply.{Reply}
 use Rattle.lio_values.specs.declared.act.Reply.TheVariants.{Done, Got, Told, Refused}
 use Rattle.lio_values.specs.declared.entry.Entry.{Entry}
 use Rattle.lio_values.specs.Erasure.{erase_entry}
-use Rattle.lio_guards.proofs.GuardLemmas.{current_flows_to_released}
+use Rattle.lio_guards.proofs.GuardLemmas.{current_flows_to_released, current_flows_to_exposed}
 use Rattle.lio_cells.specs.State.{ready, answer}
 use Rattle.lio_task_control.specs.Items.{Item}
 use Rattle.lio_calculus.specs.Task.{TaskState}
@@ -32,9 +32,10 @@ use Rattle.lio_calculus.proofs.StepKept.{turn-kept}
 use Rattle.lio_calculus.proofs.Outcome as out
 use Rattle.lio_calculus.proofs.PlanCases.{ItemsCase, Does, plan-by}
 
--- what is released comes to a label above the task's
+-- what is released or exposed comes to a label above the task's
 abbrev UpAct : TaskState → Act → Type 0
 UpAct task (act.Release source target power content) = IsTrue (flows task.label target)
+UpAct task (act.Expose source target power content) = IsTrue (flows task.label target)
 UpAct task asked = Unit {0}
 
 abbrev UpReply : TaskState → Reply → Act → Type 0
@@ -50,6 +51,7 @@ Up task (Visit asked target onward) = Unit {0}
 
 items-up : {program : Program} {items : List Item} {p : Plan} (task : TaskState) → ItemsCase program task items p → Up task p
 items-up task (Does (out.Releases asks e f)) = current_flows_to_released task.label task.clearance _ _ _ _ f
+items-up task (Does (out.Exposes asks e f)) = current_flows_to_exposed task.label task.clearance _ _ _ f
 items-up task o = tt
 
 plan-up : (program : Program) (task : TaskState) → Up task (plan program task)
@@ -60,18 +62,24 @@ and_false : (b : Bool) → (b && false) ≡ false
 and_false true = refl
 and_false false = refl
 
-none-released : (observer : Label) (task : TaskState) (asked : Act) (reply : Reply) → flows task.label observer ≡ false → UpReply task reply asked → released_to observer asked reply ≡ []
-unfolding released_to
-none-released observer task (act.Release source target power content) Done above up = by (flows target observer) refl
+unreleased : (observer : Label) (task : TaskState) (source target : Label) (content : Content) → flows task.label observer ≡ false → IsTrue (flows task.label target)
+    → (if not (flows source observer) && flows target observer then content ∷ [] else []) ≡ []
+unreleased observer task source target content above up = by (flows target observer) refl
   where
     by : (b : Bool) → flows target observer ≡ b → (if not (flows source observer) && b then content ∷ [] else []) ≡ []
     by true e = let seen : IsTrue (flows task.label observer) = flow_is_transitive task.label target observer up e in absurd (true≢false (sym seen ∙ above))
     by false e = ap (λ (t : Bool). if t then content ∷ [] else []) (and_false (not (flows source observer)))
+
+none-released : (observer : Label) (task : TaskState) (asked : Act) (reply : Reply) → flows task.label observer ≡ false → UpReply task reply asked → released_to observer asked reply ≡ []
+unfolding released_to
+none-released observer task (act.Release source target power content) Done above up = unreleased observer task source target content above up
+none-released observer task (act.Expose source target power content) Done above up = unreleased observer task source target content above up
 none-released observer task asked reply above up = refl
 
 quiet-released : (observer : Label) (asked : Act) (reply : Reply) → IsNoRelease asked → released_to observer asked reply ≡ []
 unfolding released_to
 quiet-released observer (act.Release source target power content) reply quiet = absurd quiet
+quiet-released observer (act.Expose source target power content) reply quiet = absurd quiet
 quiet-released observer asked reply quiet = refl
 
 move-released : (observer : Label) (c : Configuration) (k : ℕ) (task : TaskState) (p : Plan) (move : Move) → flows task.label observer ≡ false → IsGuarded c k task p → Up task p → move_of (cell_at c) p ≡ Some move → released_to observer move.act move.reply ≡ []
@@ -85,14 +93,15 @@ move-released observer c k task (Visit asked target onward) move above guarded u
     let equal : made ≡ move = visit-move asked target onward (waits asked && not (ready (met target (cell_at c (number_of target)).state) asked)) made move moves in
     subst (λ (m : Move). released_to observer m.act m.reply ≡ []) equal (quiet-released observer asked made.reply guarded.quiet)
 
--- a release that is carried out shows its content, so what a turn releases isn't hidden
+-- a release or an exposure that is carried out shows its content, so what a turn releases isn't hidden
+if-shown : (b : Bool) (content : Content) → IsShownContent content → All IsShownContent (if b then content ∷ [] else [])
+if-shown true content shown = All-cons IsShownContent content [] shown (All-nil IsShownContent)
+if-shown false content shown = All-nil IsShownContent
+
 own-shown : (observer : Label) (asked : Act) (reply : Reply) → IsShown asked reply → All IsShownContent (released_to observer asked reply)
 unfolding released_to
-own-shown observer (act.Release source target power content) Done shown = by (not (flows source observer) && flows target observer)
-  where
-    by : (b : Bool) → All IsShownContent (if b then content ∷ [] else [])
-    by true = All-cons IsShownContent content [] shown (All-nil IsShownContent)
-    by false = All-nil IsShownContent
+own-shown observer (act.Release source target power content) Done shown = if-shown (not (flows source observer) && flows target observer) content shown
+own-shown observer (act.Expose source target power content) Done shown = if-shown (not (flows source observer) && flows target observer) content shown
 own-shown observer asked reply shown = All-nil IsShownContent
 
 move-shown : (observer : Label) (c : Configuration) (k : ℕ) (task : TaskState) (p : Plan) (move : Move) → IsGuarded c k task p → move_of (cell_at c) p ≡ Some move → All IsShownContent (released_to observer move.act move.reply)

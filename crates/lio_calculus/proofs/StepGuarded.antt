@@ -11,7 +11,7 @@ use Rattle.lio_values.specs.declared.act.Act.{Act}
 use Rattle.lio_values.specs.declared.fault.Fault.{Fault}
 use Rattle.lio_values.specs.declared.act.Op.TheVariants as op
 use Rattle.lio_syntax_lines.specs.declared.line.Simple.{Simple}
-use Rattle.lio_guards.proofs.GuardLemmas.{current_flows_to_written, learnt_flows_to_label, current_flows_to_label}
+use Rattle.lio_guards.proofs.GuardLemmas.{current_flows_to_written, learnt_flows_to_label, current_flows_to_label, current_flows_to_exposed}
 use Rattle.lio_task_control.specs.Items.{Item}
 use Rattle.lio_calculus.specs.Operands.{bound, Labelled, sealed_of}
 use Rattle.lio_values.specs.declared.act.Reply.TheVariants.{Refused}
@@ -38,6 +38,7 @@ sealed-shown (Some (Sealed label content)) sealed e shown hidden =
 -- a refused act shows no content
 asks-shown : {program : Program} {task : TaskState} {s : Simple} {asked : Act} {test : Test} → Asks program task s asked test → (fault : Fault) → IsShown asked (Refused fault)
 asks-shown (out.Releasing e f g) fault = refl
+asks-shown (out.Exposing e f) fault = refl
 asks-shown asks fault = tt
 
 -- the handle of an access whose raise is done is the one that the raise learnt
@@ -63,6 +64,9 @@ module _ (c : Configuration) (k : ℕ) (task : TaskState) (sound : IsSound c) (i
   outcome-guarded said (out.Releases {a = a} {l = l} {p = p} {sealed = sealed} asks e f) =
       own-guarded c k task _ _ _ refl refl (sealed-shown (bound task.environment a) sealed e
       (λ value found. bound-each IsOpen task.environment a value said-open (sound.shown k task is).environment (first-said a (l ∷ p ∷ []) said) found))
+  outcome-guarded said (out.Exposes {a = a} {p = p} {sealed = sealed} asks e f) =
+      raise-guarded c k task _ _ _ (current_flows_to_exposed task.label task.clearance _ _ _ f) refl (sealed-shown (bound task.environment a) sealed e
+      (λ value found. bound-each IsOpen task.environment a value said-open (sound.shown k task is).environment (first-said a (p ∷ []) said) found))
   outcome-guarded said (out.MakesReference {x = x} {label = label} asks e room) =
       visit-guarded c k task _ _ _ (new_reference-guarded c k task x label _ sound is room (current_flows_to_written op.NewRef task.label task.clearance label _ refl e))
   outcome-guarded said (out.MakesVariable {x = x} {label = label} asks e room) =

@@ -148,9 +148,10 @@ next-alike observer c k task (Visit asked target onward) move seen is visible gu
     subst (λ (a : Act). erase observer (after (erase observer c) k (hide_task observer task) (low_move observer move a)) ≡ erase observer (after c k task move)) (sym asked_is)
     (visit-alike observer c k task move target is visible (subst (λ (m : Move). IsVisitGuarded c k task m.act target m.onward) equal guarded) (subst (λ (a : Act). Appears observer move.act a) asked_is appears) (sym (ap (λ (m : Move). m.target) equal)))
 
--- what is no release shows nothing
+-- what is no release and no exposure shows nothing
 quiet-shown : (asked : Act) (reply : Reply) → IsNoRelease asked → IsShown asked reply
 quiet-shown (act.Release source target power content) reply quiet = absurd quiet
+quiet-shown (act.Expose source target power content) reply quiet = absurd quiet
 quiet-shown asked reply quiet = tt
 
 -- what a turn shows of a release

@@ -39,6 +39,7 @@ met-hidden observer target state =
 waits-hidden : (observer : Label) (asked : Act) → waits (hide_asked observer asked) ≡ waits asked
 unfolding hide_asked
 waits-hidden observer (act.Release source target power content) = refl
+waits-hidden observer (act.Expose source target power content) = refl
 waits-hidden observer asked = refl
 
 -- what doesn't wait is answered alike by each node

@@ -9,7 +9,7 @@ use Rattle.lio_syntax.specs.Statements as statement
 use Rattle.lio_cells.specs.State.{Kind, Reference, Variable, Channel, Result as result}
 use Rattle.lio_task_control.specs.Items.{Do, rest_of}
 use Rattle.lio_calculus.specs.Task.{TaskState}
-use Rattle.lio_calculus.specs.Going.{Onward, Raise, RaiseTo, Unlabel, Lower, HoldReference, HoldVariable, Fork, Spawn}
+use Rattle.lio_calculus.specs.Going.{Onward, Raise, RaiseTo, Unlabel, Expose, Lower, HoldReference, HoldVariable, Fork, Spawn}
 use Rattle.lio_calculus.specs.Plan.{Program, Plan, Over, Own, Visit, Target, Node, New, plan}
 
 -- what a way of going on needs: a raised label below the clearance, with the statement of the access in front; a clearance above the label; or numbers that are left
@@ -17,6 +17,7 @@ abbrev pub Affords : TaskState → Onward → Type 0
 Affords task (Raise label) = IsTrue (flows label task.clearance)
 Affords task (RaiseTo label access) = IsTrue (flows label task.clearance) × (task.items ≡ Do (statement.Do access) ∷ rest_of task.items)
 Affords task (Unlabel name label source content) = IsTrue (flows label task.clearance)
+Affords task (Expose name label) = IsTrue (flows label task.clearance)
 Affords task (Lower clearance) = IsTrue (flows task.label clearance)
 Affords task (HoldReference name label) = 1 ≤ task.cells
 Affords task (HoldVariable name label) = 1 ≤ task.cells

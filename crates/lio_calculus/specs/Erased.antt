@@ -64,17 +64,19 @@ abbrev pub taking_front : Act → (Content → Act) → List Content → Option 
 taking_front asked into [] = None
 taking_front asked into (content ∷ contents) = Some (record { act = into content; left = contents })
 
--- a hidden content that comes to a label below the observer's is the next one that was released
+-- a hidden content that comes to a label below the observer's is the next one that was released or exposed
 abbrev pub opened_release : Label → Act → Label → (Content → Act) → Content → List Content → Option Opened
 opened_release observer asked target into Hidden contents =
     if flows target observer then taking_front asked into contents else Some (record { act = asked; left = contents })
 opened_release observer asked target into (Kept plain) contents = Some (record { act = asked; left = contents })
 opened_release observer asked target into (Faulted fault) contents = Some (record { act = asked; left = contents })
 
--- a release that was refused opens nothing
+-- a release or an exposure that was refused opens nothing
 unfoldable pub opened : Label → Act → Reply → List Content → Option Opened
 opened observer (act.Release source target power content) Done contents =
     opened_release observer (act.Release source target power content) target (act.Release source target power) content contents
+opened observer (act.Expose source target power content) Done contents =
+    opened_release observer (act.Expose source target power content) target (act.Expose source target power) content contents
 opened observer asked reply contents = Some (record { act = asked; left = contents })
 
 -- a turn with the contents that it opened, erased

@@ -51,6 +51,8 @@ pub data Onward : Type 0 where
   Lower : Label → Onward
   -- and a name is bound to the content that was released, sealed under a label
   Release : List ℕ → Label → Onward
+  -- at a raised label, and a name is bound to the content that was exposed, or the fault that it is is thrown
+  Expose : List ℕ → Label → Onward
   -- and a name is bound to the handle of the new reference or variable, with this label
   HoldReference : List ℕ → Label → Onward
   HoldVariable : List ℕ → Label → Onward
@@ -89,9 +91,10 @@ replied task name (Told content) = given task name content
 replied task name Done = task
 replied task name (Refused fault) = task
 
--- the content that an act releases
+-- the content that an act releases or exposes
 abbrev pub released : Act → Content
 released (act.Release source target power content) = content
+released (act.Expose source target power content) = content
 released act = Hidden
 
 -- a task that has taken numbers of its range, the first and so many behind it
@@ -118,6 +121,7 @@ gone task (RaiseTo label access) act reply = record task { label = label; items 
 gone task (Unlabel name label source content) act reply = given (record task { label = label }) name content
 gone task (Lower clearance) act reply = record task { clearance = clearance }
 gone task (Release name label) act reply = binding task name (Sealed label (released act))
+gone task (Expose name label) act reply = given (record task { label = label }) name (released act)
 gone task (HoldReference name label) act reply = taking (binding task name (Bare (RefOf (newest task label)))) 0
 gone task (HoldVariable name label) act reply = taking (binding task name (Bare (VarOf (newest task label)))) 0
 gone task (Fork name label cells turns) act reply = record (taking (binding task name (Bare (ResultOf (newest task label)))) cells) { turns = task.turns - turns }

@@ -6,7 +6,7 @@ use Rattle.lio_values.specs.declared.value.Content.TheVariants.{Hidden}
 use Rattle.lio_values.specs.declared.act.Act.{Act}
 use Rattle.lio_values.specs.declared.act.Act.TheVariants as act
 use Rattle.lio_calculus.specs.Task.{TaskState}
-use Rattle.lio_calculus.specs.Going.{Onward, Advance, Bind, Seal, Enter, Repeat, Try, Call, Return, Leave, Raise, RaiseTo, Unlabel, Lower, Release, HoldReference, HoldVariable, Fork, Spawn, BindReply, Throw, End}
+use Rattle.lio_calculus.specs.Going.{Onward, Advance, Bind, Seal, Enter, Repeat, Try, Call, Return, Leave, Raise, RaiseTo, Unlabel, Lower, Release, Expose, HoldReference, HoldVariable, Fork, Spawn, BindReply, Throw, End}
 use Rattle.lio_values.specs.declared.act.Reply.{Reply}
 use Rattle.lio_values.specs.declared.act.Reply.TheVariants.{Done, Got, Told, Refused}
 use Rattle.lio_calculus.specs.Plan.{plan, Plan, Over, Own, Visit, Target, Node, New}
@@ -14,11 +14,12 @@ use Rattle.lio_calculus.specs.Step.{Cell, Configuration, Turn, step, blank, cell
 use Rattle.lio_calculus.specs.Erased.{label_of_cell}
 use Rattle.lio_calculus.specs.Sound.{IsTaskOf, IsSound}
 
--- the current label after a turn: raised by a raise, and else as it was
+-- the current label after a turn: raised by a raise or an exposure, and else as it was
 abbrev pub label_after : Onward → Label → Label
 label_after (Raise label) current = label
 label_after (RaiseTo label access) current = label
 label_after (Unlabel name label source content) current = label
+label_after (Expose name label) current = label
 label_after Advance current = current
 label_after (Bind name value) current = current
 label_after (Seal name label plain) current = current
@@ -44,23 +45,29 @@ changes act.Read = false
 changes act.Wait = false
 changes act = true
 
--- a release to a label
+-- a release or an exposure to a label
 abbrev pub IsReleaseOf : Act → Label → Type 0
 IsReleaseOf (act.Release source target power content) label = target ≡ label
+IsReleaseOf (act.Expose source target power content) label = target ≡ label
 IsReleaseOf asked label = ⊥
 
--- a release that is carried out shows its content, and a refused one shows none
+-- a release or an exposure that is carried out shows its content, and a refused one shows none
 abbrev pub IsShown : Act → Reply → Type 0
 IsShown (act.Release source target power content) Done = content ≡ Hidden → ⊥
 IsShown (act.Release source target power content) (Got value) = content ≡ Hidden
 IsShown (act.Release source target power content) (Told told) = content ≡ Hidden
 IsShown (act.Release source target power content) (Refused fault) = content ≡ Hidden
+IsShown (act.Expose source target power content) Done = content ≡ Hidden → ⊥
+IsShown (act.Expose source target power content) (Got value) = content ≡ Hidden
+IsShown (act.Expose source target power content) (Told told) = content ≡ Hidden
+IsShown (act.Expose source target power content) (Refused fault) = content ≡ Hidden
 IsShown asked reply = Unit {0}
 
--- an act of the task's own: the label rises; what is unlabelled is below the new label; and what is released comes to the label that is bound
+-- an act of the task's own: the label rises; what is unlabelled is below the new label; and what is released or exposed comes to the label that is bound or raised to
 abbrev pub IsAllowed : Act → Onward → Type 0
 IsAllowed asked (Unlabel name label source content) = IsTrue (flows source label)
 IsAllowed asked (Release name label) = IsReleaseOf asked label
+IsAllowed asked (Expose name label) = IsReleaseOf asked label
 IsAllowed asked onward = Unit {0}
 
 -- an act of the task's own: its label never falls
@@ -74,9 +81,10 @@ abbrev pub IsBefore : Target → Cell → Cell → Type 0
 IsBefore (Node kind handle) cell next = label_of_cell cell ≡ label_of_cell next
 IsBefore (New number) cell next = cell ≡ blank
 
--- an act that is no release
+-- an act that is no release and no exposure
 abbrev pub IsNoRelease : Act → Type 0
 IsNoRelease (act.Release source target power content) = ⊥
+IsNoRelease (act.Expose source target power content) = ⊥
 IsNoRelease asked = Unit {0}
 
 -- a visit: it meets another cell; what it waits for is at a label below; a changed node is at a label above, and has it before too, unless it is new; and the label stays

@@ -7,7 +7,7 @@ use Rattle.lio_values.specs.declared.act.Act.TheVariants as act
 use Rattle.lio_values.specs.Erasure.{erase_content, erase_value, erase_act, erase_reply}
 use Rattle.lio_task_control.specs.Hiding.{hide_environment, hide_item}
 use Rattle.lio_calculus.specs.Task.{TaskState}
-use Rattle.lio_calculus.specs.Going.{Onward, Advance, Bind, Seal, Enter, Repeat, Try, Call, Return, Leave, Raise, RaiseTo, Unlabel, Lower, Release, HoldReference, HoldVariable, Fork, Spawn, BindReply, Throw, End}
+use Rattle.lio_calculus.specs.Going.{Onward, Advance, Bind, Seal, Enter, Repeat, Try, Call, Return, Leave, Raise, RaiseTo, Unlabel, Lower, Release, Expose, HoldReference, HoldVariable, Fork, Spawn, BindReply, Throw, End}
 use Rattle.lio_calculus.specs.Plan.{Program, Plan, Over, Own, Visit, plan}
 
 -- a task, with its values hidden
@@ -15,9 +15,10 @@ abbrev pub hide_task : Label → TaskState → TaskState
 hide_task observer task =
     record task { environment = hide_environment observer task.environment; items = map (hide_item observer) task.items }
 
--- what a task that is seen so asks for. It differs from the entry that is seen at a release: there the content that the task holds is under the source
+-- what a task that is seen so asks for. It differs from the entry that is seen at a release and at an exposure: there the content that the task holds is under the source
 unfoldable pub hide_asked : Label → Act → Act
 hide_asked observer (act.Release source target power content) = act.Release source target power (erase_content observer source content)
+hide_asked observer (act.Expose source target power content) = act.Expose source target power (erase_content observer source content)
 hide_asked observer asked = erase_act observer asked
 
 -- how a task that is seen so goes on
@@ -36,6 +37,7 @@ hide_onward observer (Raise label) = Raise label
 hide_onward observer (RaiseTo label access) = RaiseTo label access
 hide_onward observer (Lower clearance) = Lower clearance
 hide_onward observer (Release name label) = Release name label
+hide_onward observer (Expose name label) = Expose name label
 hide_onward observer (HoldReference name label) = HoldReference name label
 hide_onward observer (HoldVariable name label) = HoldVariable name label
 hide_onward observer (Fork name label cells turns) = Fork name label cells turns

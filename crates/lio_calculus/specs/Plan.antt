@@ -5,7 +5,7 @@ use Rattle.lio_labels.specs.declared.label.Label.{Label}
 use Rattle.lio_labels.specs.declared.privilege.Priv.{Priv}
 use Rattle.lio_values.specs.declared.fault.Fault.{Fault}
 use Rattle.lio_values.specs.declared.fault.FaultKind.{FaultKind}
-use Rattle.lio_values.specs.declared.fault.FaultKind.TheVariants.{BadType, NoTurns, NoCells, ChildTurns, Depth, User}
+use Rattle.lio_values.specs.declared.fault.FaultKind.TheVariants.{BadType, NoTurns, NoCells, ChildTurns, Depth, User, FlowRaise}
 use Rattle.lio_values.specs.declared.value.Handle.{Handle}
 use Rattle.lio_values.specs.declared.value.Plain.{Plain}
 use Rattle.lio_values.specs.declared.value.Plain.TheVariants.{Unit as unit}
@@ -25,7 +25,7 @@ use Rattle.lio_syntax_lines.specs.declared.line.Simple.TheVariants as line
 use Rattle.lio_syntax.specs.Statements.{Statement, Statements, Nothing, Procedure}
 use Rattle.lio_syntax.specs.Statements as statement
 use Rattle.lio_syntax.specs.Beginnings.{number_of}
-use Rattle.lio_guards.specs.Guard.{guarded, guarded_relabel}
+use Rattle.lio_guards.specs.Guard.{guarded, guarded_relabel, guarded_expose}
 use Rattle.lio_guards.specs.declared.verdict.Verdict.{Verdict}
 use Rattle.lio_guards.specs.declared.verdict.Verdict.TheVariants.{Go, No}
 use Rattle.lio_operators.specs.Operators.{operate1, operate2}
@@ -34,7 +34,7 @@ use Rattle.lio_task_control.specs.Environment.{bind_all}
 use Rattle.lio_calculus.specs.Operands.{bound, all_bound, bare_of, Labelled, sealed_of, flag_of, label_of, power_of, text_of, count_of, reference_of, variable_of, result_of, channel_of, seen_as}
 use Rattle.lio_calculus.specs.Task.{TaskState}
 use Rattle.lio_task_control.specs.Items.{Item, Do, Access, Mark, Back, Fail, open_calls}
-use Rattle.lio_calculus.specs.Going.{Onward, Advance, Bind, Seal, Enter, Repeat, Try, Call, Return, Leave, Raise, RaiseTo, Unlabel, Lower, Release, HoldReference, HoldVariable, Fork, Spawn, BindReply, Throw, End}
+use Rattle.lio_calculus.specs.Going.{Onward, Advance, Bind, Seal, Enter, Repeat, Try, Call, Return, Leave, Raise, RaiseTo, Unlabel, Lower, Release, Expose, HoldReference, HoldVariable, Fork, Spawn, BindReply, Throw, End}
 
 -- what the turns of a script go by: its procedures, and how long a text may become
 pub record Program : Type 0 where
@@ -169,6 +169,22 @@ releasing task name source target power =
     with_verdict task (act.Release source.label target power Hidden) (guarded_relabel task.label task.clearance source.label target power)
     (λ current. Own (act.Release source.label target power source.content) Done (Release name target))
 
+-- the second label of an exposure: the one that the task is raised to; of a refused one, that which doesn't flow to the clearance, or the source's where a label is too wide
+abbrev pub exposed_to : Label → Verdict → Label
+exposed_to source (Go label) = label
+exposed_to source (No (FlowRaise raised clearance)) = raised
+exposed_to source (No kind) = source
+
+-- what an exposure by a privilege does at a verdict; a refused one shows no content
+abbrev pub exposing_at : TaskState → List ℕ → Labelled → Priv → Verdict → Plan
+exposing_at task name source power verdict =
+    with_verdict task (act.Expose source.label (exposed_to source.label verdict) power Hidden) verdict
+    (λ label. Own (act.Expose source.label label power source.content) Done (Expose name label))
+
+-- what was sealed is unlabelled with a privilege: the label rises by what the privilege doesn't cover alone
+abbrev pub exposing : TaskState → List ℕ → Labelled → Priv → Plan
+exposing task name source power = exposing_at task name source power (guarded_expose task.label task.clearance source.label power)
+
 -- the plan of a statement that opens no block
 unfoldable pub plan_simple : Program → TaskState → Simple → Plan
 plan_simple program task (line.Let x a) = with_seen task (bound task.environment a) (λ value. stepping (Bind x value))
@@ -187,6 +203,9 @@ plan_simple program task (line.Unlabel x a) =
     with_seen task (option_and_then sealed_of (bound task.environment a))
     (λ sealed. with_verdict task (act.Raise op.Unlabel sealed.label) (verdict_on task op.Unlabel sealed.label)
     (λ current. Own (act.Raise op.Unlabel sealed.label) Done (Unlabel x current sealed.label sealed.content)))
+plan_simple program task (line.UnlabelUsing x a p) =
+    with_seen task (option_and_then sealed_of (bound task.environment a))
+    (λ sealed. with_seen task (seen_as power_of task.environment p) (exposing task x sealed))
 plan_simple program task (line.Taint l) =
     with_seen task (seen_as label_of task.environment l)
     (λ label. with_verdict task (act.Raise op.Taint label) (verdict_on task op.Taint label) (λ current. Own (act.Raise op.Taint label) Done (Raise current)))

@@ -11,7 +11,7 @@ use Rattle.lio_values.specs.declared.value.Content.TheVariants.{Kept, Faulted, H
 use Rattle.lio_values.specs.declared.value.Value.{Value}
 use Rattle.lio_values.specs.declared.value.Value.TheVariants.{Bare, Sealed}
 use Rattle.lio_values.specs.declared.act.Act.{Act}
-use Rattle.lio_values.specs.declared.act.Act.TheVariants.{Step, Seal, Raise, Lower, Release, NewRef, NewVar, Fork, Spawn, Read, Write, Take, Put, Wait, Send, Ended}
+use Rattle.lio_values.specs.declared.act.Act.TheVariants.{Step, Seal, Raise, Lower, Release, Expose, NewRef, NewVar, Fork, Spawn, Read, Write, Take, Put, Wait, Send, Ended}
 use Rattle.lio_calculus.specs.Task.{TaskState}
 use Rattle.lio_calculus.specs.Step.{Configuration, Turn, cell_at, step}
 use Rattle.lio_calculus.specs.Sound.{EachInTask, EachInState, IsTaskOf, IsSound}
@@ -41,9 +41,10 @@ pub record PowersAreAmong (powers : List Priv) (c : Configuration) : Type 0 wher
   pub tasks : (k : ℕ) (task : TaskState) → IsTaskOf c k task → EachInTask (ValueIsAmong powers) task
   pub nodes : (n : ℕ) → EachInState (ValueIsAmong powers) (cell_at c n).state
 
--- the privilege by which an act releases, or tries to, is one of these
+-- the privilege by which an act releases or exposes, or tries to, is one of these
 abbrev pub ReleasesBy : List Priv → Act → Type 0
 ReleasesBy powers (Release source target power content) = Contains powers power
+ReleasesBy powers (Expose source target power content) = Contains powers power
 ReleasesBy powers Step = Unit {0}
 ReleasesBy powers (Seal label) = Unit {0}
 ReleasesBy powers (Raise op label) = Unit {0}
@@ -60,7 +61,7 @@ ReleasesBy powers Wait = Unit {0}
 ReleasesBy powers (Send text) = Unit {0}
 ReleasesBy powers (Ended content) = Unit {0}
 
--- A turn makes no privilege and releases by none but these.
+-- A turn makes no privilege, and releases and exposes by none but these.
 pub record MakesNoPower (powers : List Priv) (turn : Turn) : Type 0 where
   pub after : PowersAreAmong powers turn.next
   pub released : ReleasesBy powers turn.entry.act

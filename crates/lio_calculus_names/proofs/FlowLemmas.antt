@@ -1,10 +1,10 @@
--- A release that is carried out passed its test: the source flows to the target with the privilege.
+-- A release or an exposure that is carried out passed its test: the source flows to the target with the privilege.
 use Rattle.std.proofs.Common.{◌≡◌, ◌∙◌, ap, subst, ℕ, List, Some}
 use Rattle.lio_values.specs.declared.act.Act.{Act}
 use Rattle.lio_values.specs.declared.act.Act.TheVariants as act
 use Rattle.lio_values.specs.declared.act.Reply.{Reply}
 use Rattle.lio_values.specs.declared.act.Reply.TheVariants.{Done, Got, Told, Refused}
-use Rattle.lio_guards.proofs.GuardLemmas.{source_flows_with_privilege}
+use Rattle.lio_guards.proofs.GuardLemmas.{source_flows_with_privilege, exposed_flows_with_privilege}
 use Rattle.lio_task_control.specs.Items.{Item}
 use Rattle.lio_calculus.specs.Task.{TaskState}
 use Rattle.lio_calculus.specs.Plan.{Program, Plan, Over, Own, Visit, plan}
@@ -31,6 +31,7 @@ PlanFlows (Visit asked target onward) = Unit {0}
 
 items-flow : {program : Program} {items : List Item} {p : Plan} (task : TaskState) → ItemsCase program task items p → PlanFlows p
 items-flow task (Does (out.Releases asks e f)) = source_flows_with_privilege task.label task.clearance _ _ _ _ f
+items-flow task (Does (out.Exposes asks e f)) = exposed_flows_with_privilege task.label task.clearance _ _ _ f
 items-flow task o = tt
 
 plan-flows : (program : Program) (task : TaskState) → PlanFlows (plan program task)
@@ -39,6 +40,7 @@ plan-flows program task = plan-by PlanFlows program task tt tt (λ p going o. it
 -- a visit releases nothing
 quiet-flows : (asked : Act) → IsNoRelease asked → FlowsByPower asked
 quiet-flows (act.Release source target power content) quiet = absurd quiet
+quiet-flows (act.Expose source target power content) quiet = absurd quiet
 quiet-flows asked quiet = tt
 
 move-flows : (c : Configuration) (k : ℕ) (task : TaskState) (p : Plan) (move : Move) → IsGuarded c k task p → PlanFlows p → move_of (cell_at c) p ≡ Some move → move.reply ≡ Done → FlowsByPower move.act

@@ -26,7 +26,7 @@ use Rattle.lio_calculus.specs.Task.{TaskState}
 use Rattle.lio_calculus.specs.Plan.{Program, plan}
 use Rattle.lio_calculus.specs.Step.{Cell, Configuration, blank, cell_at, Move, move_of, after, entry_of}
 use Rattle.lio_calculus.specs.Hiding.{hide_task}
-use Rattle.lio_calculus.specs.Erased.{sees, hide_state, hide_cell, erase_cell, erase, Opened, taking_front, opened, low_with, low_turn, low}
+use Rattle.lio_calculus.specs.Erased.{sees, hide_state, hide_cell, erase_cell, erase, Opened, taking_front, opened_release, opened, low_with, low_turn, low}
 use Rattle.lio_calculus.specs.Sound.{EachBound}
 use Rattle.lio_calculus.proofs.ConfigLemmas.{cell_at-erased}
 use Rattle.lio_calculus_names.specs.Script.{IsScriptNamed}
@@ -122,22 +122,34 @@ same_named names asked contents o a raise all e =
     let is : same ≡ o = cc in
     subst (IsOpenedNamed names) is (record { act = a; raise = raise; left = all })
 
+-- a release or an exposure, whatever act its content makes
+opening_named : (names : List (List ℕ)) (observer target : Label) (into : Content → Act) (hidden : Content) (contents : List Content) (o : Opened)
+    → ((content : Content) → IsContentNamed names content → IsActNamed names (into content) × IsRaiseOf (into content)) → IsContentNamed names hidden → All (IsContentNamed names) contents
+    → opened_release observer (into hidden) target into hidden contents ≡ Some o → IsOpenedNamed names o
+opening_named names observer target into Hidden contents o each n all e = by (flows target observer) contents all e
+  where
+    by : (b : Bool) (rest : List Content) → All (IsContentNamed names) rest
+        → (if b then taking_front (into Hidden) into rest else Some (record { act = into Hidden; left = rest })) ≡ Some o → IsOpenedNamed names o
+    by true [] rest e = absurd (cc)
+    by true (content ∷ rest) all e =
+        let p = each content (All-head (IsContentNamed names) content rest all) in same_named names (into content) rest o p.0 p.1 (All-tail (IsContentNamed names) content rest all) e
+    by false rest all e = let p = each Hidden n in same_named names (into Hidden) rest o p.0 p.1 all e
+opening_named names observer target into (Kept plain) contents o each n all e = let p = each (Kept plain) n in same_named names (into (Kept plain)) contents o p.0 p.1 all e
+opening_named names observer target into (Faulted fault) contents o each n all e = let p = each (Faulted fault) n in same_named names (into (Faulted fault)) contents o p.0 p.1 all e
+
 opened_named : (names : List (List ℕ)) (observer : Label) (asked : Act) (reply : Reply) (contents : List Content) (o : Opened) → IsActNamed names asked → IsRaiseOf asked → All (IsContentNamed names) contents
     → opened observer asked reply contents ≡ Some o → IsOpenedNamed names o
 unfolding opened
-opened_named names observer (act.Release source target power Hidden) Done contents o a raise all e = by (flows target observer) contents all e
-  where
-    by : (b : Bool) (rest : List Content) → All (IsContentNamed names) rest
-        → (if b then taking_front (act.Release source target power Hidden) (act.Release source target power) rest else Some (record { act = act.Release source target power Hidden; left = rest })) ≡ Some o → IsOpenedNamed names o
-    by true [] rest e = absurd (cc)
-    by true (content ∷ rest) all e =
-        same_named names (act.Release source target power content) rest o (a.0, a.1, a.2, All-head (IsContentNamed names) content rest all) tt (All-tail (IsContentNamed names) content rest all) e
-    by false rest all e = same_named names (act.Release source target power Hidden) rest o a raise all e
-opened_named names observer (act.Release source target power (Kept plain)) Done contents o a raise all e = same_named names (act.Release source target power (Kept plain)) contents o a raise all e
-opened_named names observer (act.Release source target power (Faulted fault)) Done contents o a raise all e = same_named names (act.Release source target power (Faulted fault)) contents o a raise all e
+opened_named names observer (act.Release source target power content) Done contents o a raise all e =
+    opening_named names observer target (act.Release source target power) content contents o (λ c n. ((a.0, a.1, a.2, n), tt)) a.3 all e
 opened_named names observer (act.Release source target power content) (Got value) contents o a raise all e = same_named names (act.Release source target power content) contents o a raise all e
 opened_named names observer (act.Release source target power content) (Told told) contents o a raise all e = same_named names (act.Release source target power content) contents o a raise all e
 opened_named names observer (act.Release source target power content) (Refused fault) contents o a raise all e = same_named names (act.Release source target power content) contents o a raise all e
+opened_named names observer (act.Expose source target power content) Done contents o a raise all e =
+    opening_named names observer target (act.Expose source target power) content contents o (λ c n. ((a.0, a.1, a.2, n), tt)) a.3 all e
+opened_named names observer (act.Expose source target power content) (Got value) contents o a raise all e = same_named names (act.Expose source target power content) contents o a raise all e
+opened_named names observer (act.Expose source target power content) (Told told) contents o a raise all e = same_named names (act.Expose source target power content) contents o a raise all e
+opened_named names observer (act.Expose source target power content) (Refused fault) contents o a raise all e = same_named names (act.Expose source target power content) contents o a raise all e
 opened_named names observer asked reply contents o a raise all e = same_named names asked contents o a raise all e
 
 -- a turn of the erased calculus

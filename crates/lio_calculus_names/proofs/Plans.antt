@@ -6,7 +6,7 @@ use Rattle.lio_values.specs.PlainText.{IsPlainNamed}
 use Rattle.lio_events.specs.Named.{IsFaultNamed, IsContentNamed, IsValueNamed}
 use Rattle.lio_events.specs.Printable.{IsActNamed, IsRaiseOf, IsReplyNamed}
 use Rattle.lio_syntax.specs.Statements.{Procedure}
-use Rattle.lio_calculus.specs.Going.{Onward, Bind, Seal, Enter, Repeat, Try, Call, Return, Leave, Raise, RaiseTo, Unlabel, Lower, Release, HoldReference, HoldVariable, Fork, Throw}
+use Rattle.lio_calculus.specs.Going.{Onward, Bind, Seal, Enter, Repeat, Try, Call, Return, Leave, Raise, RaiseTo, Unlabel, Lower, Release, Expose, HoldReference, HoldVariable, Fork, Throw}
 use Rattle.lio_calculus.specs.Plan.{Plan, Over, Own, Visit}
 use Rattle.lio_calculus.specs.Step.{body_of}
 use Rattle.lio_calculus.specs.Sound.{EachBound}
@@ -28,6 +28,7 @@ IsOnwardNamed names (RaiseTo label access) = AreNamed names label × IsSimpleNam
 IsOnwardNamed names (Unlabel name label source content) = AreNamed names label × IsContentNamed names content
 IsOnwardNamed names (Lower label) = AreNamed names label
 IsOnwardNamed names (Release name label) = AreNamed names label
+IsOnwardNamed names (Expose name label) = AreNamed names label
 IsOnwardNamed names (HoldReference name label) = AreNamed names label
 IsOnwardNamed names (HoldVariable name label) = AreNamed names label
 IsOnwardNamed names (Fork name label cells turns) = AreNamed names label

@@ -1,5 +1,5 @@
 -- Each principal in the plan of a task has a name, where each in the task and in its program has one.
-use Rattle.std.proofs.Common.{◌≡◌, subst, ℕ, ◌-◌, List, [], ◌∷◌, All, Option, Some}
+use Rattle.std.proofs.Common.{◌≡◌, refl, subst, ℕ, ◌-◌, List, [], ◌∷◌, All, Option, Some}
 use Rattle.std.specs.Prelude.{option_and_then}
 use Rattle.std.proofs.lemmas.List.Elements.{All-nil, All-head, All-tail}
 use Rattle.lio_labels.specs.declared.label.Label.{Label}
@@ -27,14 +27,14 @@ use Rattle.lio_calculus.specs.Task.{TaskState}
 use Rattle.lio_calculus.specs.Going.{Onward}
 use Rattle.lio_calculus.specs.Plan.{Program, Plan, refused, procedure_at, plan}
 use Rattle.lio_calculus.specs.Step.{body_of}
-use Rattle.lio_calculus.proofs.Outcome.{Reaches, Reads, Takes, Puts, Waits, Test, On, Between, Free, verdict_of, Asks, Outcome}
+use Rattle.lio_calculus.proofs.Outcome.{Reaches, Reads, Takes, Puts, Waits, Test, On, Between, Using, Free, verdict_of, Asks, Outcome}
 use Rattle.lio_calculus.proofs.Outcome as out
 use Rattle.lio_calculus.proofs.PlanCases.{ItemsCase, Does, IsMistyped, Enters, Chooses, ChoosesOther, Repeats, Tries, Visits, Leaves, Fails, plan-by}
 use Rattle.lio_calculus.proofs.PlanEach.{bind_all-each}
 use Rattle.lio_calculus_names.specs.Script.{IsOperandNamed, IsSimpleNamed, IsStatementNamed, IsBlockNamed, IsScriptNamed}
 use Rattle.lio_calculus_names.specs.Configuration.{IsItemNamed, IsTaskNamed}
 use Rattle.lio_calculus_names.proofs.Operators.{IsGivenNamed, one_named, two_named}
-use Rattle.lio_calculus_names.proofs.Guards.{IsVerdictNamed, guarded_named, relabel_named}
+use Rattle.lio_calculus_names.proofs.Guards.{IsVerdictNamed, guarded_named, relabel_named, expose_named, exposed_to_named}
 use Rattle.lio_calculus_names.proofs.Lookups.{IsLabelledNamed, IsHandleNamed, bound_named, all_bound_named, sealed_named, seen_named, label_shown, power_shown, reference_shown, variable_shown, result_shown, channel_shown}
 use Rattle.lio_calculus_names.proofs.Plans.{IsOnwardNamed, IsPlanNamed, found_named}
 
@@ -52,6 +52,7 @@ second names a b operands said = first names b operands (rest names a (b ∷ ope
 abbrev IsTestNamed : List (List ℕ) → Test → Type 0
 IsTestNamed names (On o target) = AreNamed names target
 IsTestNamed names (Between source target power) = AreNamed names source × AreNamed names target × IsPowerNamed names power
+IsTestNamed names (Using source power) = AreNamed names source × IsPowerNamed names power
 IsTestNamed names Free = Unit {0}
 
 -- what a task of these names looks up
@@ -72,6 +73,7 @@ module _ (names : List (List ℕ)) (task : TaskState) (t : IsTaskNamed names tas
       by : (u : Test) → IsTestNamed names u → IsVerdictNamed names (verdict_of task u)
       by (On o target) m = guarded_named names o task.label task.clearance target t.label t.clearance m
       by (Between source target power) m = relabel_named names task.label task.clearance source target power t.label t.clearance m.0 m.1 m.2
+      by (Using source power) m = expose_named names task.label task.clearance source power t.label t.clearance m.0 m.1
       by Free m = t.label
 
   refused_named : (asked : Act) (kind : FaultKind) → IsActNamed names asked → IsRaiseOf asked → IsKindNamed names kind → IsPlanNamed names (refused task asked kind)
@@ -97,6 +99,11 @@ module _ (names : List (List ℕ)) (task : TaskState) (t : IsTaskNamed names tas
       let n = label_at l _ (second names a l (p ∷ []) said) f in
       let w = seen_named names power_of (IsPowerNamed names) (power_shown names) task.environment p _ t.environment (second names l p [] (rest names a (l ∷ p ∷ []) said)) g in
       ((s.0, n, w, tt), tt, (s.0, n, w))
+  asks_named said (out.Exposing {a = a} {p = p} {sealed = sealed} {power = power} e f) =
+      let s = sealed_at a sealed (first names a (p ∷ []) said) e in
+      let w = seen_named names power_of (IsPowerNamed names) (power_shown names) task.environment p power t.environment (second names a p [] said) f in
+      let v = verdict_named (Using sealed.label power) (verdict_of task (Using sealed.label power)) (s.0, w) refl in
+      ((s.0, exposed_to_named names sealed.label (verdict_of task (Using sealed.label power)) s.0 v, w, tt), tt, (s.0, w))
   asks_named said (out.Referring {l = l} {a = a} e f) = let n = label_at l _ (first names l (a ∷ []) said) e in ((n, value_at a _ (second names l a [] said) f), tt, n)
   asks_named said (out.Holding {l = l} e) = let n = label_at l _ (first names l [] said) e in ((n, tt), tt, n)
   asks_named said (out.Filling {l = l} {a = a} e f) = let n = label_at l _ (first names l (a ∷ []) said) e in ((n, value_at a _ (second names l a [] said) f), tt, n)
@@ -144,6 +151,10 @@ module _ (names : List (List ℕ)) (task : TaskState) (t : IsTaskNamed names tas
   outcome_named program script said (out.Lowers {l = l} {label = label} e f) = let n = label_at l label (first names l [] said) e in (n, tt, tt, n)
   outcome_named program script said (out.Releases {a = a} {l = l} {p = p} asks e f) =
       let n = asks_named said asks in ((n.0.0, n.0.1, n.0.2, (sealed_at a _ (first names a (l ∷ p ∷ []) said) e).1), tt, tt, n.0.1)
+  outcome_named program script said (out.Exposes {a = a} {p = p} {sealed = s} {power = power} {current = current} asks e f) =
+      let n = asks_named said asks in
+      let current_named = verdict_named (Using s.label power) (Go current) n.2 f in
+      ((n.0.0, current_named, n.0.2, (sealed_at a s (first names a (p ∷ []) said) e).1), tt, tt, current_named)
   outcome_named program script said (out.MakesReference asks e room) = let n = asks_named said asks in (n.0, tt, n.0.0)
   outcome_named program script said (out.MakesVariable asks e room) = let n = asks_named said asks in (n.0, tt, n.0.0)
   outcome_named program script said (out.IsRaised {o = o} {handle = handle} {current = current} r e) =

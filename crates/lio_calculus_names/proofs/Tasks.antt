@@ -21,7 +21,7 @@ use Rattle.lio_task_control.specs.Environment.{Environment, bind}
 use Rattle.lio_task_control.specs.Items.{Item, Do, Access, Mark, Back, Fail, enter, rest_of}
 use Rattle.lio_task_control.specs.Throwing.{code_of, payload_of, thrown, returned}
 use Rattle.lio_calculus.specs.Task.{TaskState}
-use Rattle.lio_calculus.specs.Going.{Onward, Bind, Seal, Enter, Repeat, Try, Call, Return, Leave, Raise, RaiseTo, Unlabel, Lower, Release, HoldReference, HoldVariable, Fork, BindReply, Throw, End, released, given, throwing, gone, gone_on}
+use Rattle.lio_calculus.specs.Going.{Onward, Bind, Seal, Enter, Repeat, Try, Call, Return, Leave, Raise, RaiseTo, Unlabel, Lower, Release, Expose, HoldReference, HoldVariable, Fork, BindReply, Throw, End, released, given, throwing, gone, gone_on}
 use Rattle.lio_calculus.specs.Sound.{EachBound}
 use Rattle.lio_calculus.proofs.PlanEach.{bind-each}
 use Rattle.lio_calculus.proofs.PlacesKept.{rest-all, thrown-all, returned-all}
@@ -90,6 +90,7 @@ given_named names task name Hidden t c = binding_named names task name (Bare uni
 
 released_named : (names : List (List ℕ)) (asked : Act) → IsActNamed names asked → IsContentNamed names (released asked)
 released_named names (act.Release source target power content) a = a.3
+released_named names (act.Expose source target power content) a = a.3
 released_named names asked a = tt
 
 -- a task goes on
@@ -121,6 +122,8 @@ gone_named names task (Unlabel name label source content) asked reply t a o r =
     given_named names (record task { label = label }) name content (record { environment = t.environment; items = t.items; label = o.0; clearance = t.clearance }) o.1
 gone_named names task (Lower label) asked reply t a o r = record { environment = t.environment; items = t.items; label = t.label; clearance = o }
 gone_named names task (Release name label) asked reply t a o r = binding_named names task name (Sealed label (released asked)) t (o, released_named names asked a)
+gone_named names task (Expose name label) asked reply t a o r =
+    given_named names (record task { label = label }) name (released asked) (record { environment = t.environment; items = t.items; label = o; clearance = t.clearance }) (released_named names asked a)
 gone_named names task (HoldReference name label) asked reply t a o r = record { environment = bind-each (IsValueNamed names) task.environment name _ t.environment o; items = t.items; label = t.label; clearance = t.clearance }
 gone_named names task (HoldVariable name label) asked reply t a o r = record { environment = bind-each (IsValueNamed names) task.environment name _ t.environment o; items = t.items; label = t.label; clearance = t.clearance }
 gone_named names task (Fork name label cells turns) asked reply t a o r = record { environment = bind-each (IsValueNamed names) task.environment name _ t.environment o; items = t.items; label = t.label; clearance = t.clearance }

@@ -24,8 +24,8 @@ pub fn low_turn_names_only()
     ensures { LowTurnNamesOnly }
 {}
 
-/// A run from a sound configuration releases by the privileges in it alone, and each release that
-/// it carries out is one that the privilege allows.
+/// A run from a sound configuration releases and exposes by the privileges in it alone, and each
+/// release and each exposure that it carries out is one that the privilege allows.
 pub fn run_releases_by_powers()
     ensures { RunReleasesByPowers }
 {}

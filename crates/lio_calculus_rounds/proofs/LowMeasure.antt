@@ -3,7 +3,6 @@ use Rattle.std.proofs.Common.{◌≡◌, ◌∙◌, refl, sym, ap, subst, ℕ, �
 use Rattle.std.specs.Prelude.{sum_by}
 use Rattle.std.proofs.lemmas.List.Sums.{sum_by-cons}
 use Rattle.lio_labels.specs.declared.label.Label.{Label}
-use Rattle.lio_labels.specs.declared.privilege.Priv.{Priv}
 use Rattle.lio_labels.specs.Flow.{flows}
 use Rattle.lio_values.specs.declared.value.Content.{Content}
 use Rattle.lio_values.specs.declared.value.Content.TheVariants.{Kept, Faulted, Hidden}
@@ -13,7 +12,7 @@ use Rattle.lio_values.specs.declared.act.Reply.{Reply}
 use Rattle.lio_values.specs.declared.act.Reply.TheVariants.{Done}
 use Rattle.lio_task_control.specs.Items.{rest_of}
 use Rattle.lio_calculus.specs.Task.{TaskState}
-use Rattle.lio_calculus.specs.Going.{Onward, Advance, gone, gone_on}
+use Rattle.lio_calculus.specs.Going.{Onward, Expose, given, released, gone, gone_on}
 use Rattle.lio_calculus.specs.Plan.{Program, Target, plan}
 use Rattle.lio_calculus.specs.Step.{Cell, Configuration, cell_at, born, Move, move_of, after}
 use Rattle.lio_calculus.specs.Erased.{sees, hide_cell, erase_cell, erase, LowTurn, Opened, taking_front, opened_release, opened}
@@ -25,8 +24,16 @@ use Rattle.lio_calculus_rounds.proofs.LowTurnLemmas.{low-parts}
 use Rattle.lio_calculus_rounds.proofs.MeasureLemmas.{newborn, measure-after, move-lowers}
 
 -- what a task that goes on weighs doesn't depend on the act
+given-weight : (task : TaskState) (name : List ℕ) (one two : Content) → weight (Some (given task name one)) ≡ weight (Some (given task name two))
+given-weight task name one two = by one ∙ sym (by two)
+  where
+    by : (content : Content) → weight (Some (given task name content)) ≡ weight (Some task)
+    by (Kept plain) = refl
+    by (Faulted fault) = refl
+    by Hidden = refl
+
 gone-weight : (task : TaskState) (onward : Onward) (one two : Act) (reply : Reply) → weight (Some (gone task onward one reply)) ≡ weight (Some (gone task onward two reply))
-gone-weight task Advance one two reply = refl
+gone-weight task (Expose name label) one two reply = given-weight (record task { label = label }) name (released one) (released two)
 gone-weight task onward one two reply = refl
 
 gone_on-weight : (task : TaskState) (onward : Onward) (one two : Act) (reply : Reply) → weight (Some (gone_on task onward one reply)) ≡ weight (Some (gone_on task onward two reply))
@@ -34,12 +41,13 @@ unfolding gone_on
 gone_on-weight task onward one two reply = gone-weight (record task { items = rest_of task.items; turns = task.turns - 1 }) onward one two reply
 
 -- an act whose content was opened gives birth to whom it did
-taking-born : (program : Program) (label source target : Label) (power : Priv) (asked : Act) (contents : List Content) (o : Opened) → taking_front asked (act.Release source target power) contents ≡ Some o → born program label o.act ≡ None
-taking-born program label source target power asked [] o is = absurd (cc)
-taking-born program label source target power asked (content ∷ contents) o is =
-    let here : Opened = record { act = act.Release source target power content; left = contents } in
+taking-born : (program : Program) (label : Label) (into : Content → Act) (asked : Act) (contents : List Content) (o : Opened) → ((content : Content) → born program label (into content) ≡ None)
+    → taking_front asked into contents ≡ Some o → born program label o.act ≡ None
+taking-born program label into asked [] o none is = absurd (cc)
+taking-born program label into asked (content ∷ contents) o none is =
+    let here : Opened = record { act = into content; left = contents } in
     let same : here ≡ o = cc in
-    ap (λ (x : Opened). born program label x.act) (sym same)
+    ap (λ (x : Opened). born program label x.act) (sym same) ∙ none content
 
 kept-born : (program : Program) (label : Label) (asked : Act) (contents : List Content) (o : Opened) → Some (let here : Opened = record { act = asked; left = contents } in here) ≡ Some o → born program label o.act ≡ born program label asked
 kept-born program label asked contents o is =
@@ -47,19 +55,20 @@ kept-born program label asked contents o is =
     let same : here ≡ o = cc in
     ap (λ (x : Opened). born program label x.act) (sym same)
 
-release-born : (observer : Label) (program : Program) (label source target : Label) (power : Priv) (asked hidden : Content) (contents : List Content) (o : Opened)
-    → opened_release observer (act.Release source target power asked) target (act.Release source target power) hidden contents ≡ Some o → born program label o.act ≡ None
-release-born observer program label source target power asked Hidden contents o is = by (flows target observer) is
+release-born : (observer : Label) (program : Program) (label target : Label) (into : Content → Act) (hidden : Content) (contents : List Content) (o : Opened) → ((content : Content) → born program label (into content) ≡ None)
+    → opened_release observer (into hidden) target into hidden contents ≡ Some o → born program label o.act ≡ None
+release-born observer program label target into Hidden contents o none is = by (flows target observer) is
   where
-    by : (b : Bool) → (if b then taking_front (act.Release source target power asked) (act.Release source target power) contents else Some (record { act = act.Release source target power asked; left = contents })) ≡ Some o → born program label o.act ≡ None
-    by true i = taking-born program label source target power (act.Release source target power asked) contents o i
-    by false i = kept-born program label (act.Release source target power asked) contents o i
-release-born observer program label source target power asked (Kept plain) contents o is = kept-born program label (act.Release source target power asked) contents o is
-release-born observer program label source target power asked (Faulted fault) contents o is = kept-born program label (act.Release source target power asked) contents o is
+    by : (b : Bool) → (if b then taking_front (into Hidden) into contents else Some (record { act = into Hidden; left = contents })) ≡ Some o → born program label o.act ≡ None
+    by true i = taking-born program label into (into Hidden) contents o none i
+    by false i = kept-born program label (into Hidden) contents o i ∙ none Hidden
+release-born observer program label target into (Kept plain) contents o none is = kept-born program label (into (Kept plain)) contents o is ∙ none (Kept plain)
+release-born observer program label target into (Faulted fault) contents o none is = kept-born program label (into (Faulted fault)) contents o is ∙ none (Faulted fault)
 
 opened-born : (observer : Label) (program : Program) (label : Label) (asked : Act) (reply : Reply) (contents : List Content) (o : Opened) → opened observer asked reply contents ≡ Some o → born program label o.act ≡ born program label asked
 unfolding opened
-opened-born observer program label (act.Release source target power content) Done contents o is = release-born observer program label source target power content content contents o is
+opened-born observer program label (act.Release source target power content) Done contents o is = release-born observer program label target (act.Release source target power) content contents o (λ c. refl) is
+opened-born observer program label (act.Expose source target power content) Done contents o is = release-born observer program label target (act.Expose source target power) content contents o (λ c. refl) is
 opened-born observer program label asked reply contents o is = kept-born program label asked contents o is
 
 newborn-same : (program : Program) (label : Label) (one two : Act) (target : Option Target) → born program label one ≡ born program label two → newborn program label one target ≡ newborn program label two target

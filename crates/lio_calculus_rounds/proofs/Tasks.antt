@@ -11,7 +11,7 @@ use Rattle.lio_syntax.specs.Statements.{Statements, Nothing, Then, While, Proced
 use Rattle.lio_task_control.specs.Items.{Item, Do, Access, Mark, Back, enter, rest_of}
 use Rattle.lio_task_control.specs.Throwing.{thrown}
 use Rattle.lio_calculus.specs.Task.{TaskState}
-use Rattle.lio_calculus.specs.Going.{Onward, Enter, Repeat, Try, Call, Return, RaiseTo, Unlabel, BindReply, Throw, End, given, gone, gone_on}
+use Rattle.lio_calculus.specs.Going.{Onward, Enter, Repeat, Try, Call, Return, RaiseTo, Unlabel, Expose, BindReply, Throw, End, given, released, gone, gone_on}
 use Rattle.lio_calculus.proofs.PlacesKept.{rest-all, KeepsHandlers, thrown-all, returned-all}
 use Rattle.lio_calculus_rounds.specs.Calls.{StatementFits, BlockFits, ItemFits}
 use Rattle.lio_calculus_rounds.proofs.Plans.{OnwardFits}
@@ -49,6 +49,7 @@ gone-fits script task (Call name environment body) asked reply all fits =
 gone-fits script task (Return value) asked reply all fits = returned-all (ItemFits script) value task.environment task.items all
 gone-fits script task (RaiseTo label access) asked reply all fits = All-cons (ItemFits script) (Access access) task.items fits all
 gone-fits script task (Unlabel name label source content) asked reply all fits = given-fits script (record task { label = label }) name content all
+gone-fits script task (Expose name label) asked reply all fits = given-fits script (record task { label = label }) name (released asked) all
 gone-fits script task (BindReply name) asked (Told content) all fits = given-fits script task name content all
 gone-fits script task (BindReply name) asked (Got value) all fits = all
 gone-fits script task (BindReply name) asked Done all fits = all

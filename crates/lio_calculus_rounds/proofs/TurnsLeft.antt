@@ -8,7 +8,7 @@ use Rattle.lio_values.specs.declared.act.Reply.{Reply}
 use Rattle.lio_values.specs.declared.act.Reply.TheVariants.{Told}
 use Rattle.lio_task_control.specs.Items.{Item}
 use Rattle.lio_calculus.specs.Task.{TaskState}
-use Rattle.lio_calculus.specs.Going.{Onward, Unlabel, Fork, Spawn, BindReply, given, gone}
+use Rattle.lio_calculus.specs.Going.{Onward, Unlabel, Expose, Fork, Spawn, BindReply, given, released, gone}
 use Rattle.lio_calculus.specs.Plan.{Program, Plan, Over, Own, Visit, plan}
 use Rattle.lio_calculus.proofs.Outcome.{Reads}
 use Rattle.lio_calculus.proofs.Outcome as out
@@ -34,6 +34,7 @@ given-turns task name Hidden = refl
 -- the turns of a task that goes on
 pub gone-turns : (task : TaskState) (onward : Onward) (asked : Act) (reply : Reply) → (gone task onward asked reply).turns ≡ task.turns - handed onward
 gone-turns task (Unlabel name label source content) asked reply = omega (arith, given-turns (record task { label = label }) name content)
+gone-turns task (Expose name label) asked reply = omega (arith, given-turns (record task { label = label }) name (released asked))
 gone-turns task (BindReply name) asked (Told content) = omega (arith, given-turns task name content)
 gone-turns task onward asked reply = omega arith
 

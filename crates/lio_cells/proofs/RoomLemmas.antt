@@ -72,6 +72,7 @@ state_with-room_for state (act.Seal label) = refl
 state_with-room_for state (act.Raise op label) = refl
 state_with-room_for state (act.Lower label) = refl
 state_with-room_for state (act.Release source target power content) = refl
+state_with-room_for state (act.Expose source target power content) = refl
 
 -- a state that an act makes of what was reserved for it
 pub served-state : (state moved made : State) (room : Room) (a : Act) → moved ≡ state → room ≡ room_for state a → made ≡ state_with moved room → made ≡ state_after state a

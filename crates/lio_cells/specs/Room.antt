@@ -34,6 +34,7 @@ room_for state (act.Seal label) = Nothing
 room_for state (act.Raise op label) = Nothing
 room_for state (act.Lower label) = Nothing
 room_for state (act.Release source target power content) = Nothing
+room_for state (act.Expose source target power content) = Nothing
 
 -- a channel that has received these bytes in all
 abbrev pub with_bytes : State → List ℕ → State

@@ -121,6 +121,7 @@ ready state (act.Seal label) = false
 ready state (act.Raise op label) = false
 ready state (act.Lower label) = false
 ready state (act.Release source target power content) = false
+ready state (act.Expose source target power content) = false
 ready state (act.Ended content) = false
 
 -- whether a node gives what a task at its access wishes for: a full variable, an empty one, or the result of a task
@@ -146,6 +147,7 @@ answer state (act.Seal label) = Done
 answer state (act.Raise op label) = Done
 answer state (act.Lower label) = Done
 answer state (act.Release source target power content) = Done
+answer state (act.Expose source target power content) = Done
 answer state (act.Ended content) = Done
 
 -- a reference that holds another value, and a variable that is full or empty
@@ -205,3 +207,4 @@ state_after state (act.Seal label) = state
 state_after state (act.Raise op label) = state
 state_after state (act.Lower label) = state
 state_after state (act.Release source target power content) = state
+state_after state (act.Expose source target power content) = state

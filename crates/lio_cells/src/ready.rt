@@ -103,6 +103,7 @@ pub fn ready(state: &State, act: &Act) -> bool
         Act::Raise(_, _) => false,
         Act::Lower(_) => false,
         Act::Release(_, _, _, _) => false,
+        Act::Expose(_, _, _, _) => false,
         Act::Ended(_) => false,
     }
 }

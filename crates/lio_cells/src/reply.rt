@@ -80,6 +80,7 @@ pub fn answer(alloc: Global, state: &State, act: &Act) -> Result<Reply, NoMemory
         Act::Raise(_, _) => Ok(Reply::Done),
         Act::Lower(_) => Ok(Reply::Done),
         Act::Release(_, _, _, _) => Ok(Reply::Done),
+        Act::Expose(_, _, _, _) => Ok(Reply::Done),
         Act::Ended(_) => Ok(Reply::Done),
     }
 }

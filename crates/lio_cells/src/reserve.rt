@@ -142,6 +142,7 @@ pub fn needs_no_room(act: &Act) -> bool
             | Act::Raise(_, _)
             | Act::Lower(_)
             | Act::Release(_, _, _, _)
+            | Act::Expose(_, _, _, _)
             | Act::Read
             | Act::Wait
     )
@@ -168,5 +169,6 @@ pub fn room_for(alloc: Global, state: &State, act: &Act) -> Result<Room, NoMemor
         Act::Raise(_, _) => Ok(Room::Nothing),
         Act::Lower(_) => Ok(Room::Nothing),
         Act::Release(_, _, _, _) => Ok(Room::Nothing),
+        Act::Expose(_, _, _, _) => Ok(Room::Nothing),
     }
 }

@@ -12,6 +12,7 @@ use Rattle.lio_clauses.proofs.Subsets.{set_of-In, In-set_of, within-at, within-b
 use Rattle.lio_clauses.proofs.Sublists.{sublists-members}
 use Rattle.lio_clauses.proofs.Implied.{named-parts, implies-Implies, Implies-implies, Implies-clause, clause-Implies, Implies-at, Implies-by}
 use Rattle.lio_clauses.proofs.Minimal.{canonical-unique, canonical_of-sublist}
+use Rattle.lio_clauses.proofs.WithoutLemmas.{without_is_canonical, without_is_shorter, without_is_named, without_is_implied, without_is_made_up}
 use Rattle.lio_clauses.proofs.Forms.{sat-canonical, sat-and, sat-or, IsCanonical-canonical, IsCanonical-and, IsCanonical-or, canonical-itself}
 
 -- implication
@@ -198,4 +199,9 @@ pub ruleset laws = (
   disjunction_is_idempotent,
   conjunction_is_named,
   disjunction_is_named,
+  without_is_canonical,
+  without_is_shorter,
+  without_is_named,
+  without_is_implied,
+  without_is_made_up,
 )

@@ -1,5 +1,5 @@
 -- Answers of calls that make a formula: the formula, or Wide exactly where it is wide.
-use Rattle.std.proofs.Common.{◌≡◌, ◌≢◌, ℕ, ◌↔◌, Bool, List, ◌∙◌, ap, subst, Result, Ok, Err, IfOk}
+use Rattle.std.proofs.Common.{◌≡◌, ◌≢◌, ℕ, ◌↔◌, Bool, List, sym, ◌∙◌, ap, subst, Result, Ok, Err, IfOk}
 use Rattle.lio_clauses.specs.declared.faults.FormFault.{FormFault}
 use Rattle.lio_clauses.specs.declared.faults.FormFault.TheVariants.{Wide, NoMemory}
 use Rattle.lio_clauses.specs.Width.{IsWide}
@@ -24,3 +24,8 @@ IfOk-sets (Err fault) A passes e h = tt
 -- one fault of two types of answers
 pub err-same : {X Y : Type 0} (e f : FormFault) → ◌≡◌ {A = Result X FormFault} (Err e) (Err f) → ◌≡◌ {A = Result Y FormFault} (Err e) (Err f)
 err-same e f h = cc
+
+-- what holds of a formula holds of what is made and is that formula
+pub IfOk-holds : {E : Type 0} (r : Result (List (List ℕ)) E) (A : List (List ℕ)) (P : List (List ℕ) → Type 0) → P A → IfOk r (λ f. f ≡ A) → IfOk r P
+IfOk-holds (Ok f) A P p h = subst P (sym h) p
+IfOk-holds (Err fault) A P p h = tt

@@ -9,6 +9,7 @@ pub mod ClauseBits
 pub mod Reduced
 pub mod Merged
 pub mod Answered
+pub mod WithoutLemmas
 pub mod Algebra
 pub mod NameLemmas
 pub mod TokenLemmas

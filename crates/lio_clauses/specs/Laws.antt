@@ -1,9 +1,10 @@
 -- The laws of implication, of the canonical form, and of conjunction and disjunction (Disjunction Category Labels, 2011).
-use Rattle.std.specs.Prelude.{◌≡◌, ℕ, Bool, List, [], ◌∷◌, ◌&&◌, ◌||◌, ◌↔◌, IsTrue}
+use Rattle.std.specs.Prelude.{◌≡◌, ℕ, ◌≤◌, Bool, List, [], ◌∷◌, ◌&&◌, ◌||◌, ◌↔◌, length, IsTrue}
 use Rattle.std.specs.List.{list_all, Contains}
 use Rattle.lio_clauses.specs.Satisfaction.{sat, set_of}
-use Rattle.lio_clauses.specs.Implication.{Implies, implies}
+use Rattle.lio_clauses.specs.Implication.{Implies, ImplyTogether, implies}
 use Rattle.lio_clauses.specs.FormulaPrint.{AreNamed}
+use Rattle.lio_clauses.specs.Without.{without}
 use Rattle.lio_clauses.specs.Canonical.{is_clause, IsCanonical, canonical, and, or}
 
 -- a list of clauses: each is a list of numbers below 64 in rising order
@@ -111,3 +112,20 @@ ConjunctionIsNamed = (names A B : List (List ℕ)) → AreNamed names A → AreN
 
 abbrev pub DisjunctionIsNamed : Type 0
 DisjunctionIsNamed = (names A B : List (List ℕ)) → AreNamed names A → AreNamed names B → AreNamed names (or A B)
+
+-- a formula without the clauses that a power implies is canonical where the formula is, has no more clauses, and names no principal that the formula doesn't name
+abbrev pub WithoutIsCanonical : Type 0
+WithoutIsCanonical = (A P : List (List ℕ)) → IsCanonical A → IsCanonical (without A P)
+
+abbrev pub WithoutIsShorter : Type 0
+WithoutIsShorter = (A P : List (List ℕ)) → length (without A P) ≤ length A
+
+abbrev pub WithoutIsNamed : Type 0
+WithoutIsNamed = (names A P : List (List ℕ)) → AreNamed names A → AreNamed names (without A P)
+
+-- the formula implies it, and the power makes up for what it lacks
+abbrev pub WithoutIsImplied : Type 0
+WithoutIsImplied = (A P : List (List ℕ)) → IsTrue (implies A (without A P))
+
+abbrev pub WithoutIsMadeUp : Type 0
+WithoutIsMadeUp = (A P : List (List ℕ)) → ImplyTogether P (without A P) A

@@ -3,6 +3,7 @@ pub mod Satisfaction
 pub mod Implication
 pub mod Canonical
 pub mod Width
+pub mod Without
 pub mod Bits
 pub mod Clauses
 pub mod Laws

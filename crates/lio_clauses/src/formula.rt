@@ -9,11 +9,12 @@ ghost use Rattle.lio_clauses.specs.Satisfaction.{sat, set_of};
 ghost use Rattle.lio_clauses.specs.Implication.{Implies, ImplyTogether, implies};
 ghost use Rattle.lio_clauses.specs.Canonical.{IsCanonical, canonical, and, or};
 ghost use Rattle.lio_clauses.specs.Width.{IsWide};
+ghost use Rattle.lio_clauses.specs.Without.{without};
 ghost use Rattle.lio_clauses.specs.Bits.{IsFormula, unions};
 
 use crate::faults::{FormFault, NoMemory};
 use crate::masks::{are_covered, are_met};
-use crate::reduce::{minimal_clauses, minimal_unions};
+use crate::reduce::{minimal_clauses, minimal_unions, uncovered};
 use std::alloc::Global;
 use std::marker::Model;
 use std::slice;
@@ -134,6 +135,17 @@ impl Formula {
             return self.copy_narrow(alloc);
         }
         Formula::of_unions(alloc, left, right)
+    }
+
+    /// The clauses that a power doesn't imply.
+    pub fn without(&self, alloc: Global, power: &Formula) -> Result<Formula, NoMemory>
+        ensures ok { IfOk result (λ f. f ≡ without self.now power.now) }
+        // What satisfies the power and what is left satisfies this formula.
+        ensures made_up { IfOk result (λ f. ImplyTogether power.now f self.now) }
+        ensures narrow { IfOk result (λ f. ¬ IsWide f) }
+    {
+        let kept = uncovered(alloc, power.clauses(), self.clauses())?;
+        Formula::of_kept(alloc, kept.as_slice())
     }
 
     /// The canonical form of the unions of a clause of each side.

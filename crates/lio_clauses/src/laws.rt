@@ -16,7 +16,8 @@ ghost use Rattle.lio_clauses.specs.Laws.{FalsityIsLeast, ImplicationIsAntisymmet
 ghost use Rattle.lio_clauses.specs.Laws.{ImplicationIsByClauses, ImplicationIsReflexive};
 ghost use Rattle.lio_clauses.specs.Laws.{ImplicationIsTested, ImplicationIsTransitive};
 ghost use Rattle.lio_clauses.specs.Laws.{LeftImpliesDisjunction, RightImpliesDisjunction};
-ghost use Rattle.lio_clauses.specs.Laws.{TruthIsGreatest};
+ghost use Rattle.lio_clauses.specs.Laws.{TruthIsGreatest, WithoutIsCanonical, WithoutIsImplied};
+ghost use Rattle.lio_clauses.specs.Laws.{WithoutIsMadeUp, WithoutIsNamed, WithoutIsShorter};
 
 /// The test of implication and implication over all sets of principals agree.
 pub fn implication_is_tested()
@@ -163,4 +164,31 @@ pub fn conjunction_is_named()
 /// names, so have its own.
 pub fn disjunction_is_named()
     ensures { DisjunctionIsNamed }
+{}
+
+/// A canonical formula without the clauses that a power implies is canonical.
+pub fn without_is_canonical()
+    ensures { WithoutIsCanonical }
+{}
+
+/// A formula without the clauses that a power implies has no more clauses.
+pub fn without_is_shorter()
+    ensures { WithoutIsShorter }
+{}
+
+/// A formula without the clauses that a power implies names no principal that the formula doesn't
+/// name.
+pub fn without_is_named()
+    ensures { WithoutIsNamed }
+{}
+
+/// A formula implies what is left without the clauses that a power implies.
+pub fn without_is_implied()
+    ensures { WithoutIsImplied }
+{}
+
+/// What satisfies a power, and a formula without the clauses that the power implies, satisfies the
+/// formula.
+pub fn without_is_made_up()
+    ensures { WithoutIsMadeUp }
 {}

@@ -1,13 +1,13 @@
 //! The minimal clauses of a conjunction, kept in lexicographic order.
 ghost use Rattle.std.specs.Prelude.{◌≡◌, ◌≢◌, ℕ, ◌+◌, ◌^◌, ◌<◌, ◌≤◌, true, false, List, [], ◌∷◌};
 ghost use Rattle.std.specs.Prelude.{◌++◌, length, map, insert, IsTrue, IfOk, OnOk, OnErr, bit_and};
-ghost use Rattle.std.specs.Prelude.{slice_index};
-ghost use Rattle.std.specs.List.{All};
+ghost use Rattle.std.specs.Prelude.{not, slice_index};
+ghost use Rattle.std.specs.List.{All, filter};
 ghost use Rattle.lio_clauses.specs.Principals.{principals};
 ghost use Rattle.lio_clauses.specs.Canonical.{canonical, in_order};
 ghost use Rattle.lio_clauses.specs.Width.{IsWide};
 ghost use Rattle.lio_clauses.specs.Bits.{IsFormula, IsLeastUncovered, IsNextMinimal};
-ghost use Rattle.lio_clauses.specs.Bits.{KeepsMinimal, mask_before, unions};
+ghost use Rattle.lio_clauses.specs.Bits.{KeepsMinimal, covers, mask_before, unions};
 
 use crate::faults::{FormFault, NoMemory};
 use crate::masks::{contains_other, is_covered};
@@ -94,6 +94,20 @@ pub(crate) fn minimal_clauses(alloc: Global, left: &[u64], right: &[u64]) -> Res
             continue;
         }
         keep(&mut kept, *clause)?;
+    }
+    Ok(kept)
+}
+
+/// The clauses that contain none of a power's, in their order.
+pub(crate) fn uncovered(alloc: Global, power: &[u64], clauses: &[u64]) -> Result<Kept, NoMemory>
+    ensures { IfOk result (λ kept. kept.items
+        ≡ filter (λ clause. not (covers power.now clause)) clauses.now) }
+{
+    let mut kept = Kept::new(alloc);
+    'clauses: for clause in clauses {
+        if !is_covered(power, *clause) {
+            kept.push(*clause)?;
+        }
     }
     Ok(kept)
 }

@@ -20,6 +20,7 @@ use Rattle.lio_calculus.proofs.CellLemmas.{state_after-hidden, label_of-received
 after-asked : (observer : Label) (state : State) (asked : Act) → state_after state (erase_act observer asked) ≡ state_after state (hide_asked observer asked)
 unfolding state_after hide_asked
 after-asked observer state (act.Release source target power content) = refl
+after-asked observer state (act.Expose source target power content) = refl
 after-asked observer state asked = refl
 
 -- so the state after it is the erased one
@@ -31,6 +32,7 @@ state_after-erased observer state asked hidden =
 pub ready-erased : (observer : Label) (state : State) (asked : Act) → ready state (erase_act observer asked) ≡ ready state asked
 unfolding ready
 ready-erased observer state (act.Release source target power content) = refl
+ready-erased observer state (act.Expose source target power content) = refl
 ready-erased observer state asked = refl
 
 pub makes-erased : (observer : Label) (asked : Act) → makes (erase_act observer asked) ≡ makes asked

@@ -1,5 +1,5 @@
 -- A task that is as an observer sees it goes on so, unless it seals a value under a label that doesn't flow to the observer's.
-use Rattle.std.proofs.Common.{◌≡◌, ◌∙◌, refl, sym, ap, subst, ℕ, ◌-◌, Bool, true, false, not, if◌then◌else◌, List, ◌∷◌, inl, inr}
+use Rattle.std.proofs.Common.{◌≡◌, ◌∙◌, refl, sym, ap, subst, ℕ, ◌-◌, Bool, true, false, not, if◌then◌else◌, List, ◌∷◌, Some, None, inl, inr}
 use Rattle.std.specs.Prelude.{IsTrue}
 use Rattle.lio_labels.specs.declared.label.Label.{Label}
 use Rattle.lio_labels.specs.declared.privilege.Priv.{Priv}
@@ -20,30 +20,38 @@ use Rattle.lio_task_control.specs.Items.{Item, Do, Mark, Back, rest_of}
 use Rattle.lio_task_control.specs.Hiding.{hide_environment}
 use Rattle.lio_task_control.proofs.HidingLemmas.{enter-hidden}
 use Rattle.lio_calculus.specs.Task.{TaskState}
-use Rattle.lio_calculus.specs.Going.{Onward, Bind, Seal, Enter, Repeat, Try, Call, Return, Leave, Unlabel, Release, HoldReference, HoldVariable, Fork, BindReply, Throw, binding, given, released, taking, newest, gone, gone_on}
+use Rattle.lio_calculus.specs.Going.{Onward, Bind, Seal, Enter, Repeat, Try, Call, Return, Leave, Unlabel, Release, Expose, HoldReference, HoldVariable, Fork, BindReply, Throw, binding, given, released, taking, newest, gone, gone_on}
 use Rattle.lio_calculus.specs.Erased.{hide_state}
 use Rattle.lio_calculus.specs.Guarded.{IsReleaseOf}
 use Rattle.lio_calculus.specs.Hiding.{hide_asked, hide_onward, hide_plan, hide_task}
 use Rattle.lio_calculus.specs.Plan.{Program, Plan, Own, Visit, Target, plan}
 use Rattle.lio_calculus.proofs.GoingLemmas.{rest_of-hidden, returned-hidden, at-hidden, binding-hidden, throwing-hidden, given-hidden, replied-hidden}
+use Rattle.lio_calculus.proofs.InvisibleLemmas.{gone_on-label}
 use Rattle.lio_calculus.proofs.PlanHidden.{plan-hidden}
 use Rattle.lio_calculus.proofs.StateLemmas.{answer-hidden}
 use Rattle.lio_calculus.proofs.TwiceLemmas.{hide_task-twice}
 use Rattle.lio_task.specs.Next.{resumed, resumed_by}
 use Rattle.lio_erasure.specs.Acts.{hides, shown_act, with_content}
+use Rattle.lio_erasure.specs.Low.{seen_task}
 use Rattle.lio_erasure.specs.Turn.{IsAsSeen, IsTold}
 use Rattle.lio_erasure.proofs.LeadLemmas.{Leads, LeadsPlan, plan-leads, told-leads}
 
--- what a way of going on asks of what is opened: the observer sees what is unlabelled, and what is released as the act shows it
+-- what a way of going on asks of what is opened: the observer sees what is unlabelled, what is released as the act shows it, and what is exposed
 abbrev Opens : Label → Onward → Act → Act → Type 0
 Opens observer (Unlabel name label source content) asked seen = erase_content observer source content ≡ content
 Opens observer (Release name label) asked seen = released seen ≡ erase_content observer label (released asked)
+Opens observer (Expose name label) asked seen = released seen ≡ released asked
 Opens observer onward asked seen = Unit {0}
 
 -- and of what is sealed: the observer sees it
 abbrev Shows : Label → Onward → Type 0
 Shows observer (Seal name label plain) = IsTrue (flows label observer)
 Shows observer onward = Unit {0}
+
+-- and of the label to which a content is exposed, which is the task's then: the observer sees the task
+abbrev Sees : Label → Onward → Type 0
+Sees observer (Expose name label) = IsTrue (flows label observer)
+Sees observer onward = Unit {0}
 
 learned : (observer source : Label) (content : Content) → IsTrue (flows source observer) → erase_content observer source content ≡ content
 unfolding erase_content
@@ -79,6 +87,8 @@ gone-seen observer task (Leave caller name) asked seen reply opens shows = bindi
 gone-seen observer task (Unlabel name label source content) asked seen reply opens shows =
     ap (given (record (hide_task observer task) { label = label }) name) opens ∙ given-hidden observer (record task { label = label }) name content
 gone-seen observer task (Release name label) asked seen reply opens shows = sealing-hidden observer task name label (released asked) (released seen) opens
+gone-seen observer task (Expose name label) asked seen reply opens shows =
+    ap (given (record (hide_task observer task) { label = label }) name) opens ∙ given-hidden observer (record task { label = label }) name (released asked)
 gone-seen observer task (HoldReference name label) asked seen reply opens shows = holding-hidden observer task name (Bare (RefOf (newest task label))) 0 refl
 gone-seen observer task (HoldVariable name label) asked seen reply opens shows = holding-hidden observer task name (Bare (VarOf (newest task label))) 0 refl
 gone-seen observer task (Fork name label cells turns) asked seen reply opens shows =
@@ -113,16 +123,18 @@ gone_on-alike observer task (Seal name label plain) asked seen reply hidden same
 gone_on-alike observer task onward asked seen reply hidden same opens =
     ap (hide_task observer) (gone_on-seen observer task onward asked seen reply hidden same opens tt) ∙ hide_task-twice observer (gone_on task onward asked reply)
 
--- what is released, as the act shows it
+-- what is released or exposed, as the act shows it
 released-seen : (observer label : Label) (asked : Act) → IsReleaseOf asked label → released (erase_act observer asked) ≡ erase_content observer label (released asked)
 released-seen observer label (act.Release source target power content) to = ap (λ (l : Label). erase_content observer l content) to
+released-seen observer label (act.Expose source target power content) to = ap (λ (l : Label). erase_content observer l content) to
 released-seen observer label asked to = absurd to
 
-opens-seen : (observer : Label) (onward : Onward) (asked : Act) → hide_onward observer onward ≡ onward → Leads asked onward → Opens observer onward asked (erase_act observer asked)
+opens-seen : (observer : Label) (onward : Onward) (asked : Act) → hide_onward observer onward ≡ onward → Leads asked onward → Sees observer onward → Opens observer onward asked (erase_act observer asked)
 unfolding hide_onward
-opens-seen observer (Unlabel name label source content) asked same leads = cc
-opens-seen observer (Release name label) asked same leads = released-seen observer label asked leads
-opens-seen observer onward asked same leads = tt
+opens-seen observer (Unlabel name label source content) asked same leads sees = cc
+opens-seen observer (Release name label) asked same leads sees = released-seen observer label asked leads
+opens-seen observer (Expose name label) asked same leads sees = released-seen observer label asked leads ∙ learned observer label (released asked) sees
+opens-seen observer onward asked same leads sees = tt
 
 -- an act that hides nothing seals nothing that the observer doesn't see
 hides-erased : (observer : Label) (asked : Act) → hides observer (erase_act observer asked) ≡ hides observer asked
@@ -137,32 +149,69 @@ shows-sealed : (observer : Label) (onward : Onward) (asked : Act) → Leads aske
 shows-sealed observer (Seal name label plain) asked leads e = open-label (flows label observer) (ap (hides observer) (sym leads) ∙ e)
 shows-sealed observer onward asked leads e = tt
 
--- A task goes on by an act as the observer sees it: what it is then looks to the observer as what it is after the act itself, and is as the observer sees it
--- unless the act hides a value.
+-- A task goes on by an act as the observer sees it: the observer sees of it then what it sees of it after the act itself, and it is as the observer sees it
+-- unless the act hides a value. A task that exposed a content above the observer's label is unseen then, and goes on by what was shown with unit in its place.
 pub record GoesAsSeen (observer : Label) (program : Program) (task : TaskState) (asked : Act) (reply : Reply) : Type 0 where
-  pub alike : hide_task observer (resumed program task (erase_act observer asked) (erase_reply observer reply)) ≡ hide_task observer (resumed program task asked reply)
+  pub alike : seen_task observer (resumed program task (erase_act observer asked) (erase_reply observer reply)) ≡ seen_task observer (resumed program task asked reply)
   pub stays : hides observer (erase_act observer asked) ≡ false
       → hide_task observer (resumed program task (erase_act observer asked) (erase_reply observer reply)) ≡ resumed program task (erase_act observer asked) (erase_reply observer reply)
 
-goes-seen : (observer : Label) (program : Program) (task : TaskState) (onward : Onward) (asked : Act) (reply : Reply) → hide_task observer task ≡ task → hide_onward observer onward ≡ onward → Leads asked onward
+-- a task that the observer sees once it went on
+goes-open : (observer : Label) (program : Program) (task : TaskState) (onward : Onward) (asked : Act) (reply : Reply) → hide_task observer task ≡ task → hide_onward observer onward ≡ onward → Leads asked onward → Sees observer onward
     → ((a : Act) (r : Reply) → resumed program task a r ≡ gone_on task onward a r) → GoesAsSeen observer program task asked reply
-goes-seen observer program task onward asked reply hidden same leads goes =
+goes-open observer program task onward asked reply hidden same leads sees goes =
     let seen : Act = erase_act observer asked in
     let told : Reply = erase_reply observer reply in
-    let opens : Opens observer onward asked seen = opens-seen observer onward asked same leads in
+    let opens : Opens observer onward asked seen = opens-seen observer onward asked same leads sees in
     record {
-      alike = ap (hide_task observer) (goes seen told) ∙ gone_on-alike observer task onward asked seen reply hidden same opens ∙ sym (ap (hide_task observer) (goes asked reply));
+      alike = ap (λ (t : TaskState). if flows t.label observer then Some t else None)
+          (ap (hide_task observer) (goes seen told) ∙ gone_on-alike observer task onward asked seen reply hidden same opens ∙ sym (ap (hide_task observer) (goes asked reply)));
       stays = λ e.
           let is : resumed program task seen told ≡ hide_task observer (gone_on task onward asked reply) =
           goes seen told ∙ gone_on-seen observer task onward asked seen reply hidden same opens (shows-sealed observer onward asked leads (sym (hides-erased observer asked) ∙ e)) in
           ap (hide_task observer) is ∙ hide_task-twice observer (gone_on task onward asked reply) ∙ sym is;
     }
 
+-- a task that exposed a content above the observer's label
+goes-blind : (observer : Label) (program : Program) (task : TaskState) (name : List ℕ) (label : Label) (asked : Act) (reply : Reply) → hide_task observer task ≡ task → flows label observer ≡ false
+    → ((a : Act) (r : Reply) → resumed program task a r ≡ gone_on task (Expose name label) a r) → GoesAsSeen observer program task asked reply
+unfolding gone_on spent
+goes-blind observer program task name label asked reply hidden above goes = record {
+  alike = unseen seen told ∙ sym (unseen asked reply);
+  stays = λ e. ap (hide_task observer) (goes seen told) ∙ held ∙ sym (goes seen told);
+}
+  where
+    seen : Act
+    seen = erase_act observer asked
+
+    told : Reply
+    told = erase_reply observer reply
+
+    unseen : (a : Act) (r : Reply) → seen_task observer (resumed program task a r) ≡ None
+    unseen a r =
+        let gone_on_to : TaskState = gone_on task (Expose name label) a r in
+        ap (seen_task observer) (goes a r)
+        ∙ ap (λ (b : Bool). if b then Some (hide_task observer gone_on_to) else None) (ap (λ (l : Label). flows l observer) (gone_on-label task (Expose name label) a r) ∙ above)
+
+    held : hide_task observer (gone_on task (Expose name label) seen told) ≡ gone_on task (Expose name label) seen told
+    held =
+        sym (given-hidden observer (record (spent task) { label = label }) name (released seen))
+        ∙ ap (λ (t : TaskState). given (record t { label = label }) name (released seen)) (spent-hidden observer task hidden)
+
+goes-seen : (observer : Label) (program : Program) (task : TaskState) (onward : Onward) (asked : Act) (reply : Reply) → hide_task observer task ≡ task → hide_onward observer onward ≡ onward → Leads asked onward
+    → ((a : Act) (r : Reply) → resumed program task a r ≡ gone_on task onward a r) → GoesAsSeen observer program task asked reply
+goes-seen observer program task (Expose name label) asked reply hidden same leads goes = by (flows label observer) refl
+  where
+    by : (b : Bool) → flows label observer ≡ b → GoesAsSeen observer program task asked reply
+    by true e = goes-open observer program task (Expose name label) asked reply hidden same leads e goes
+    by false e = goes-blind observer program task name label asked reply hidden e goes
+goes-seen observer program task onward asked reply hidden same leads goes = goes-open observer program task onward asked reply hidden same leads tt goes
+
 -- the plan of a task that is as the observer sees it
 plan-seen : (program : Program) (observer : Label) (task : TaskState) (p : Plan) → hide_task observer task ≡ task → plan program task ≡ p → p ≡ hide_plan observer p
 plan-seen program observer task p hidden plans = sym plans ∙ ap (plan program) (sym hidden) ∙ plan-hidden program observer task ∙ ap (hide_plan observer) plans
 
--- an act whose values the observer sees is shown as it is, but for a content that it releases
+-- an act whose values the observer sees is shown as it is, but for a content that it releases or exposes
 release-shown : (observer source target : Label) (power : Priv) (content : Content) → erase_act observer (act.Release source target power content) ≡ shown_act observer (act.Release source target power content)
 unfolding erase_content
 release-shown observer source target power content = by (flows target observer)
@@ -171,14 +220,24 @@ release-shown observer source target power content = by (flows target observer)
     by true = refl
     by false = refl
 
+exposure-shown : (observer source target : Label) (power : Priv) (content : Content) → erase_act observer (act.Expose source target power content) ≡ shown_act observer (act.Expose source target power content)
+unfolding erase_content
+exposure-shown observer source target power content = by (flows target observer)
+  where
+    by : (b : Bool) → act.Expose source target power (if b then content else Hidden) ≡ (if not b then act.Expose source target power Hidden else act.Expose source target power content)
+    by true = refl
+    by false = refl
+
 act-shown : (observer : Label) (asked : Act) → hide_asked observer asked ≡ asked → erase_act observer asked ≡ shown_act observer asked
 unfolding hide_asked
 act-shown observer (act.Release source target power content) same = release-shown observer source target power content
+act-shown observer (act.Expose source target power content) same = exposure-shown observer source target power content
 act-shown observer asked same = same
 
 told-shown : (observer : Label) (asked : Act) (content : Content) → hide_asked observer asked ≡ asked → erase_act observer (with_content asked content) ≡ shown_act observer (with_content asked content)
 unfolding hide_asked
 told-shown observer (act.Release source target power hidden) content same = release-shown observer source target power content
+told-shown observer (act.Expose source target power hidden) content same = exposure-shown observer source target power content
 told-shown observer asked content same = same
 
 -- What a turn of a task that is as the observer sees it gives: the observer sees the act's values and the reply, and sees the task go on.

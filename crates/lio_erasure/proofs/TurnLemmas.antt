@@ -22,7 +22,7 @@ use Rattle.lio_calculus.specs.Going.{Onward, gone_on}
 use Rattle.lio_calculus.specs.Hiding.{hide_task}
 use Rattle.lio_calculus.specs.Plan.{Plan, Over, Own, Visit, Target, Node, New, plan}
 use Rattle.lio_calculus.specs.Step.{Cell, Configuration, Move, after, blank, can, cell_at, has_label, is_met, met, met_after, move_of, number_of, target_after, visit, waits, with_cell}
-use Rattle.lio_calculus.specs.Erased.{LowTurn, erase, erase_cell, hide_cell, low, low_turn, low_with, opened, taking_front}
+use Rattle.lio_calculus.specs.Erased.{LowTurn, erase, erase_cell, hide_cell, low, low_turn, low_with, opened, opened_release, taking_front}
 use Rattle.lio_calculus.specs.Sound.{IsTaskOf}
 use Rattle.lio_calculus.specs.Afforded.{AffordsPlan, kind_met, makes}
 use Rattle.lio_calculus.specs.Handles.{IsMetBy, handle_ahead}
@@ -39,7 +39,7 @@ use Rattle.lio_config.specs.declared.config.Holder.{Holder}
 use Rattle.lio_task.specs.declared.next.Next.TheVariants as next
 use Rattle.lio_task.specs.Next.{next_by, resumed_by}
 use Rattle.lio_task.specs.StateOf.{state_in}
-use Rattle.lio_erasure.specs.Acts.{lacks_content, with_content}
+use Rattle.lio_erasure.specs.Acts.{is_hidden, lacks_content, with_content}
 use Rattle.lio_erasure.specs.Low.{IsErased, TasksAreJobs, holder_in, job_with, low_configuration_of, low_task_in, seen_cell, seen_task}
 use Rattle.lio_erasure.specs.LowParts.{LowParts, ErasedState, low_of}
 use Rattle.lio_erasure.specs.Turn.{CanAdvance, Follows, IsShown, LacksRelease, Moves, PlansAct, PlansOwn, PlansVisit, TakesTurn, VisitsNew, VisitsNode, placed, served}
@@ -109,7 +109,7 @@ went-by parts between went k number asked reply shown a p shows plans follows =
     let state : TaskState = state_in parts.script a.task in
     subst (λ (e : Entry). Follows observer c between (low_configuration_of parts.script parts.longest went) e.actor e.act e.reply) (shows a.task a.is) follows
     state (task-low parts.script parts.longest parts.holders k (Some a.task) a.is)
-    ∙ ap (λ (t : TaskState). with_cell between k (job_with (cell_at between k).state (if flows t.label observer then Some t else None))) a.acts.goes.alike
+    ∙ ap (λ (t : Option TaskState). with_cell between k (job_with (cell_at between k).state t)) a.acts.goes.alike
     ∙ ap (λ (q : Plan). with_cell between k (job_with (cell_at between k).state (seen_task observer (resumed_by state asked reply q)))) plans
 
 -- the parts of a turn: the move, and the configuration after it
@@ -383,39 +383,54 @@ takes-turn old new k before left asked entry m opens =
       observer = m.observer;
     }
 
--- a release that was told, and one that wasn't
+-- a release or an exposure that was told, and one that wasn't, whatever act its content makes
+told-into : (observer target : Label) (into : Content → Act) (content : Content) (contents : List Content) → (is_hidden content && flows target observer) ≡ false
+    → opened_release observer (into content) target into content contents ≡ Some (record { act = into content; left = contents })
+told-into observer target into Hidden contents e = ap (λ (b : Bool). if b then taking_front (into Hidden) into contents else Some (record { act = into Hidden; left = contents })) e
+told-into observer target into (Kept plain) contents e = refl
+told-into observer target into (Faulted fault) contents e = refl
+
+untold-into : (observer target : Label) (into : Content → Act) (hidden : Content) (contents : List Content) → (is_hidden hidden && flows target observer) ≡ true
+    → opened_release observer (into hidden) target into hidden contents ≡ taking_front (into hidden) into contents
+untold-into observer target into Hidden contents e = ap (λ (b : Bool). if b then taking_front (into Hidden) into contents else Some (record { act = into Hidden; left = contents })) e
+untold-into observer target into (Kept plain) contents e = absurd (true≢false (sym e))
+untold-into observer target into (Faulted fault) contents e = absurd (true≢false (sym e))
+
 pub told-opens : (observer : Label) (asked : Act) (reply : Reply) (contents : List Content) → lacks_content observer asked reply ≡ false → opened observer asked reply contents ≡ Some (record { act = asked; left = contents })
 unfolding opened
-told-opens observer (act.Release source target power Hidden) Done contents e =
-    ap (λ (b : Bool). if b then taking_front (act.Release source target power Hidden) (act.Release source target power) contents else Some (record { act = act.Release source target power Hidden; left = contents })) e
-told-opens observer (act.Release source target power (Kept plain)) Done contents e = refl
-told-opens observer (act.Release source target power (Faulted fault)) Done contents e = refl
+told-opens observer (act.Release source target power content) Done contents e = told-into observer target (act.Release source target power) content contents e
 told-opens observer (act.Release source target power content) (Got value) contents e = refl
 told-opens observer (act.Release source target power content) (Told told) contents e = refl
 told-opens observer (act.Release source target power content) (Refused fault) contents e = refl
+told-opens observer (act.Expose source target power content) Done contents e = told-into observer target (act.Expose source target power) content contents e
+told-opens observer (act.Expose source target power content) (Got value) contents e = refl
+told-opens observer (act.Expose source target power content) (Told told) contents e = refl
+told-opens observer (act.Expose source target power content) (Refused fault) contents e = refl
 told-opens observer asked reply contents e = refl
 
 pub untold-opens : (observer : Label) (asked : Act) (reply : Reply) (content : Content) (contents : List Content) → lacks_content observer asked reply ≡ true
     → opened observer asked reply (content ∷ contents) ≡ Some (record { act = with_content asked content; left = contents })
 unfolding opened
-untold-opens observer (act.Release source target power Hidden) Done content contents e =
-    ap (λ (b : Bool). if b then taking_front (act.Release source target power Hidden) (act.Release source target power) (content ∷ contents) else Some (record { act = act.Release source target power Hidden; left = content ∷ contents })) e
-untold-opens observer (act.Release source target power (Kept plain)) Done content contents e = absurd (true≢false (sym e))
-untold-opens observer (act.Release source target power (Faulted fault)) Done content contents e = absurd (true≢false (sym e))
+untold-opens observer (act.Release source target power held) Done content contents e = untold-into observer target (act.Release source target power) held (content ∷ contents) e
 untold-opens observer (act.Release source target power held) (Got value) content contents e = absurd (true≢false (sym e))
 untold-opens observer (act.Release source target power held) (Told told) content contents e = absurd (true≢false (sym e))
 untold-opens observer (act.Release source target power held) (Refused fault) content contents e = absurd (true≢false (sym e))
+untold-opens observer (act.Expose source target power held) Done content contents e = untold-into observer target (act.Expose source target power) held (content ∷ contents) e
+untold-opens observer (act.Expose source target power held) (Got value) content contents e = absurd (true≢false (sym e))
+untold-opens observer (act.Expose source target power held) (Told told) content contents e = absurd (true≢false (sym e))
+untold-opens observer (act.Expose source target power held) (Refused fault) content contents e = absurd (true≢false (sym e))
 untold-opens observer asked reply content contents e = absurd (true≢false (sym e))
 
 unopened : (observer : Label) (asked : Act) (reply : Reply) → lacks_content observer asked reply ≡ true → opened observer asked reply [] ≡ None
 unfolding opened
-unopened observer (act.Release source target power Hidden) Done e =
-    ap (λ (b : Bool). if b then taking_front (act.Release source target power Hidden) (act.Release source target power) [] else Some (record { act = act.Release source target power Hidden; left = [] })) e
-unopened observer (act.Release source target power (Kept plain)) Done e = absurd (true≢false (sym e))
-unopened observer (act.Release source target power (Faulted fault)) Done e = absurd (true≢false (sym e))
+unopened observer (act.Release source target power held) Done e = untold-into observer target (act.Release source target power) held [] e
 unopened observer (act.Release source target power held) (Got value) e = absurd (true≢false (sym e))
 unopened observer (act.Release source target power held) (Told told) e = absurd (true≢false (sym e))
 unopened observer (act.Release source target power held) (Refused fault) e = absurd (true≢false (sym e))
+unopened observer (act.Expose source target power held) Done e = untold-into observer target (act.Expose source target power) held [] e
+unopened observer (act.Expose source target power held) (Got value) e = absurd (true≢false (sym e))
+unopened observer (act.Expose source target power held) (Told told) e = absurd (true≢false (sym e))
+unopened observer (act.Expose source target power held) (Refused fault) e = absurd (true≢false (sym e))
 unopened observer asked reply e = absurd (true≢false (sym e))
 
 -- the move of an act of the task's own
@@ -456,11 +471,13 @@ lacks-release parts k asked reply contents p lacks none =
 quiet-opens : (observer : Label) (kind : Kind) (asked : Act) (reply : Reply) (contents : List Content) → kind_met asked ≡ Some kind → opened observer asked reply contents ≡ Some (record { act = asked; left = contents })
 unfolding opened
 quiet-opens observer kind (act.Release source target power content) reply contents e = absurd (cc)
+quiet-opens observer kind (act.Expose source target power content) reply contents e = absurd (cc)
 quiet-opens observer kind asked reply contents e = refl
 
 made-opens : (observer : Label) (asked : Act) (reply : Reply) (contents : List Content) → makes asked ≡ true → opened observer asked reply contents ≡ Some (record { act = asked; left = contents })
 unfolding opened
 made-opens observer (act.Release source target power content) reply contents e = absurd (true≢false (sym e))
+made-opens observer (act.Expose source target power content) reply contents e = absurd (true≢false (sym e))
 made-opens observer asked reply contents e = refl
 
 -- by which handle a visit meets its node

@@ -36,7 +36,7 @@ pub record TakesTurn (old new : ErasedState) (k : ℕ) (before after : List Cont
   pub turn : low old.observer 0 old.configuration k before ≡ Some (record { entry = entry; next = new.configuration; left = after })
   pub observer : new.observer ≡ old.observer
 
--- Task k can take a turn, but its release needs a content, and none is left.
+-- Task k can take a turn, but its release or exposure needs a content, and none is left.
 pub record LacksRelease (observer : Label) (c : Configuration) (k : ℕ) (contents : List Content) : Type 0 where
   pub can_move : can c k ≡ true
   pub none_left : contents ≡ []
@@ -116,7 +116,7 @@ abbrev pub Follows : Label → Configuration → Configuration → Configuration
 Follows observer old between new k asked reply =
     (task : TaskState) → IsTaskOf old k task → new ≡ with_cell between k (job_with (cell_at between k).state (seen_task observer (resumed old.program task asked reply)))
 
--- The observer sees the values of an act and of its reply, but for a content that the act releases.
+-- The observer sees the values of an act and of its reply, but for a content that the act releases or exposes.
 pub record IsAsSeen (observer : Label) (asked : Act) (reply : Reply) : Type 0 where
   pub act_is : erase_act observer asked ≡ shown_act observer asked
   pub reply_is : erase_reply observer reply ≡ reply
@@ -126,11 +126,11 @@ abbrev pub IsShown : LowParts → ℕ → Option ℕ → Act → Reply → Entry
 IsShown parts k target asked reply shown =
     (task : Task) → low_task_in parts.holders k ≡ Some task → shown ≡ erase_entry parts.observer (record { ticket = 0; actor = k; target = target; at = task.label; act = asked; reply = reply })
 
--- an act is the one that was planned, but maybe for the content that it releases
+-- an act is the one that was planned, but maybe for the content that it releases or exposes
 abbrev pub IsTold : Act → Act → Type 0
 IsTold planned asked = (asked ≡ planned) ⊎ ((content : Content) × (asked ≡ with_content planned content))
 
--- Task k plans an act of its own, with this reply, which is this act but maybe for the content that it releases.
+-- Task k plans an act of its own, with this reply, which is this act but maybe for the content that it releases or exposes.
 pub record PlansOwn (parts : LowParts) (k : ℕ) (asked : Act) (reply : Reply) : Type 0 where
   pub task : Task
   pub is : low_task_in parts.holders k ≡ Some task

@@ -45,15 +45,14 @@ pub(crate) fn waits(act: &Act) -> bool
     matches!(act, Act::Read | Act::Take | Act::Put(_) | Act::Wait)
 }
 
-/// Whether a release that is carried out brings a hidden content to a label below the observer's,
-/// so that the content has to be told.
+/// Whether a release or an exposure that is carried out brings a hidden content to a label below
+/// the observer's, so that the content has to be told.
 pub(crate) fn lacks_content(act: &Act, reply: &Reply, observer: &Label) -> bool
     ensures { result ≡ lacks_content observer.now act.now reply.now }
 {
     match (act, reply) {
-        (Act::Release(_, target, _, content), Reply::Done) => {
-            is_hidden(content.get()) && target.get().flows(observer)
-        }
+        (Act::Release(_, target, _, content) | Act::Expose(_, target, _, content), Reply::Done) =>
+            is_hidden(content.get()) && target.get().flows(observer),
         _ => false,
     }
 }
@@ -65,7 +64,7 @@ fn is_hidden(content: &Content) -> bool
     matches!(content, Content::Hidden)
 }
 
-/// A release with another content; another act stays as it is.
+/// A release or an exposure with another content; another act stays as it is.
 pub(crate) fn with_content(act: Act, content: Held<Content>) -> Act
     ensures { result ≡ with_content act content }
 {
@@ -74,6 +73,10 @@ pub(crate) fn with_content(act: Act, content: Held<Content>) -> Act
             drop(hidden);
             Act::Release(source, target, power, content)
         }
+        Act::Expose(source, target, power, hidden) => {
+            drop(hidden);
+            Act::Expose(source, target, power, content)
+        }
         other => {
             drop(content);
             other
@@ -81,18 +84,19 @@ pub(crate) fn with_content(act: Act, content: Held<Content>) -> Act
     }
 }
 
-/// Whether an act releases a content to a label that doesn't flow to the observer's.
+/// Whether an act releases or exposes a content to a label that doesn't flow to the observer's.
 fn releases_above(act: &Act, observer: &Label) -> bool
     ensures { result ≡ releases_above observer.now act.now }
 {
     match act {
         Act::Release(_, target, _, _) => !target.get().flows(observer),
+        Act::Expose(_, target, _, _) => !target.get().flows(observer),
         _ => false,
     }
 }
 
-/// An act as an observer sees it who sees its values already: a content that is released to a label
-/// that doesn't flow to the observer's is hidden.
+/// An act as an observer sees it who sees its values already: a content that is released or exposed
+/// to a label that doesn't flow to the observer's is hidden.
 pub(crate) fn shown_act(alloc: Global, act: Act, observer: &Label) -> Result<Act, NoMemory>
     ensures { IfOk result (λ shown. shown ≡ shown_act observer.now act) }
 {

@@ -36,7 +36,7 @@ pub enum LowFault {
     /// The task with this number can't take a turn.
     #[error("task {0} can't take a turn")]
     Still(u32),
-    /// The task with this number releases a content that wasn't told.
+    /// The task with this number releases or exposes a content that wasn't told.
     #[error("no content is left that task {0} releases")]
     NoRelease(u32),
     /// No memory is left; all is as before.
@@ -246,8 +246,8 @@ impl Low {
 }
 
 impl Low {
-    /// Whether task `k` can take a turn, where the content that it releases is told. It takes no
-    /// memory.
+    /// Whether task `k` can take a turn, where the content that it releases or exposes is told. It
+    /// takes no memory.
     pub fn can_move(&self, k: u32) -> bool
         ensures { result ≡ can (low_of self.now).configuration k }
     {
@@ -257,8 +257,8 @@ impl Low {
         }
     }
 
-    /// Takes the turn of a task that meets no other node. A hidden content that it releases to a
-    /// label below the observer's is the next one of those that were released.
+    /// Takes the turn of a task that meets no other node. A hidden content that it releases or
+    /// exposes to a label below the observer's is the next one of those that were released.
     fn release(
         &mut self,
         alloc: Global,
@@ -321,8 +321,9 @@ impl Low {
     }
 
     /// Takes the turn of task `k` in the erased calculus; the entry's ticket is 0. A hidden content
-    /// that the turn releases to a label below the observer's is the first of `releases`, which is
-    /// taken out of them. After a refusal the configuration and the releases are as before.
+    /// that the turn releases or exposes to a label below the observer's is the first of
+    /// `releases`, which is taken out of them. After a refusal the configuration and the releases
+    /// are as before.
     pub fn turn(
         &mut self,
         alloc: Global,

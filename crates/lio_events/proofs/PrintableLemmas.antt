@@ -9,7 +9,7 @@ use Rattle.lio_values.specs.declared.value.Content.TheVariants.{Hidden}
 use Rattle.lio_values.specs.declared.value.Value.{Value}
 use Rattle.lio_values.specs.declared.value.Value.TheVariants.{Bare, Sealed}
 use Rattle.lio_values.specs.declared.act.Act.{Act}
-use Rattle.lio_values.specs.declared.act.Act.TheVariants.{Step, Seal, Raise, Lower, Release, NewRef, NewVar, Fork, Spawn, Read, Write, Take, Put, Wait, Send, Ended}
+use Rattle.lio_values.specs.declared.act.Act.TheVariants.{Step, Seal, Raise, Lower, Release, Expose, NewRef, NewVar, Fork, Spawn, Read, Write, Take, Put, Wait, Send, Ended}
 use Rattle.lio_values.specs.declared.act.Birth.{Birth}
 use Rattle.lio_values.specs.declared.act.Reply.{Reply}
 use Rattle.lio_values.specs.declared.act.Reply.TheVariants.{Done, Got, Told, Refused}
@@ -42,6 +42,7 @@ birth_named names observer birth named =
 
 act_named : (names : List (List ℕ)) (observer : Label) (act : Act) → IsActNamed names act → IsActNamed names (erase_act observer act)
 act_named names observer (Release source target power content) named = (named.0, named.1, named.2, content_named names observer target content named.3)
+act_named names observer (Expose source target power content) named = (named.0, named.1, named.2, content_named names observer target content named.3)
 act_named names observer (NewRef label value) named = (named.0, value_named names observer value named.1)
 act_named names observer (NewVar label value) named = (named.0, option_named names observer value named.1)
 act_named names observer (Fork birth) named = birth_named names observer birth named
@@ -60,6 +61,7 @@ act_named names observer (Ended content) named = named
 
 raise_of : (observer : Label) (act : Act) → IsRaiseOf act → IsRaiseOf (erase_act observer act)
 raise_of observer (Release source target power content) raise = tt
+raise_of observer (Expose source target power content) raise = tt
 raise_of observer (NewRef label value) raise = tt
 raise_of observer (NewVar label value) raise = tt
 raise_of observer (Fork birth) raise = tt

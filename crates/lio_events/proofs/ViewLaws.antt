@@ -11,6 +11,7 @@ use Rattle.lio_values.specs.declared.act.Reply.TheVariants.{Done}
 use Rattle.lio_values.specs.declared.entry.Entry.{Entry}
 use Rattle.lio_values.specs.Erasure.{erase_entry}
 use Rattle.lio_values.proofs.ErasureLemmas.{entry_erased_below}
+use Rattle.lio_values.specs.declared.value.Content.{Content}
 use Rattle.lio_events.specs.Named.{IsContentNamed}
 use Rattle.lio_events.specs.Printable.{IsActNamed, IsPrintable}
 use Rattle.lio_events.proofs.PrintableLemmas.{erased_is_printable}
@@ -56,13 +57,14 @@ view_is_printable names observer ticket (entry ∷ entries) all =
     printable-one names observer ticket entry entries (All-head (IsPrintable names) entry entries all)
     (λ next. view_is_printable names observer next entries (All-tail (IsPrintable names) entry entries all)) (flows entry.at observer) refl
 
+shown-named : (names : List (List ℕ)) (shown : Bool) (content : Content) → IsContentNamed names content → All (IsContentNamed names) (if shown then content ∷ [] else [])
+shown-named names true content named = All-cons (IsContentNamed names) content [] named (All-nil (IsContentNamed names))
+shown-named names false content named = All-nil (IsContentNamed names)
+
 released-named : (names : List (List ℕ)) (observer : Label) (asked : Act) (reply : Reply) → IsActNamed names asked → All (IsContentNamed names) (released_to observer asked reply)
 unfolding released_to
-released-named names observer (act.Release source target power content) Done named = by (not (flows source observer) && flows target observer)
-  where
-    by : (b : Bool) → All (IsContentNamed names) (if b then content ∷ [] else [])
-    by true = All-cons (IsContentNamed names) content [] named.3 (All-nil (IsContentNamed names))
-    by false = All-nil (IsContentNamed names)
+released-named names observer (act.Release source target power content) Done named = shown-named names (not (flows source observer) && flows target observer) content named.3
+released-named names observer (act.Expose source target power content) Done named = shown-named names (not (flows source observer) && flows target observer) content named.3
 released-named names observer asked reply named = All-nil (IsContentNamed names)
 
 pub releases_are_named : ReleasesAreNamed

@@ -1,11 +1,14 @@
 -- The text of an entry of a journal. One line a kind.
 use Rattle.std.specs.Prelude.{ℕ, List, [], ◌++◌, codes, decimal, Option, None, Some}
 use Rattle.std.specs.List.{flat_map}
+use Rattle.lio_labels.specs.declared.label.Label.{Label}
+use Rattle.lio_labels.specs.declared.privilege.Priv.{Priv}
+use Rattle.lio_values.specs.declared.value.Content.{Content}
 use Rattle.lio_values.specs.declared.value.Value.{Value}
 use Rattle.lio_values.specs.declared.act.Op.{Op}
 use Rattle.lio_values.specs.declared.act.Op.TheVariants as op
 use Rattle.lio_values.specs.declared.act.Act.{Act}
-use Rattle.lio_values.specs.declared.act.Act.TheVariants.{Step, Seal, Raise, Lower, Release, NewRef, NewVar, Fork, Spawn, Read, Write, Take, Put, Wait, Send, Ended}
+use Rattle.lio_values.specs.declared.act.Act.TheVariants.{Step, Seal, Raise, Lower, Release, Expose, NewRef, NewVar, Fork, Spawn, Read, Write, Take, Put, Wait, Send, Ended}
 use Rattle.lio_values.specs.declared.act.Birth.{Birth}
 use Rattle.lio_values.specs.declared.act.Reply.{Reply}
 use Rattle.lio_values.specs.declared.act.Reply.TheVariants.{Done, Got, Told, Refused}
@@ -39,14 +42,18 @@ op_text op.Take = codes "take"
 op_text op.Put = codes "put"
 op_text other = []
 
+-- what a release or an exposure shows, behind its word
+abbrev pub release_text : List (List ℕ) → List ℕ → Label → Label → Priv → Content → List ℕ
+release_text names word source target power content = word ++ labels_text names source target ++ codes " " ++ power_text names power ++ codes " " ++ content_text names content
+
 -- what a task did
 abbrev pub act_text : List (List ℕ) → Act → List ℕ
 act_text names Step = codes "step"
 act_text names (Seal label) = codes "seal " ++ label_in_brackets names label
 act_text names (Raise op label) = codes "raise " ++ op_text op ++ codes " " ++ label_in_brackets names label
 act_text names (Lower label) = codes "lower " ++ label_in_brackets names label
-act_text names (Release source target power content) =
-    codes "release" ++ labels_text names source target ++ codes " " ++ power_text names power ++ codes " " ++ content_text names content
+act_text names (Release source target power content) = release_text names (codes "release") source target power content
+act_text names (Expose source target power content) = release_text names (codes "expose") source target power content
 act_text names (NewRef label value) = codes "newref " ++ label_in_brackets names label ++ codes " " ++ value_text names value
 act_text names (NewVar label value) = codes "newvar " ++ label_in_brackets names label ++ codes " " ++ option_text names value
 act_text names (Fork birth) = birth_text names (codes "fork") birth

@@ -5,7 +5,7 @@ use Rattle.lio_values.specs.declared.value.Value.{Value}
 use Rattle.lio_values.specs.declared.act.Op.{Op}
 use Rattle.lio_values.specs.declared.act.Op.TheVariants as op
 use Rattle.lio_values.specs.declared.act.Act.{Act}
-use Rattle.lio_values.specs.declared.act.Act.TheVariants.{Step, Seal, Raise, Lower, Release, NewRef, NewVar, Fork, Spawn, Read, Write, Take, Put, Wait, Send, Ended}
+use Rattle.lio_values.specs.declared.act.Act.TheVariants.{Step, Seal, Raise, Lower, Release, Expose, NewRef, NewVar, Fork, Spawn, Read, Write, Take, Put, Wait, Send, Ended}
 use Rattle.lio_values.specs.declared.act.Birth.{Birth}
 use Rattle.lio_values.specs.declared.act.Reply.{Reply}
 use Rattle.lio_values.specs.declared.act.Reply.TheVariants.{Done, Got, Told, Refused}
@@ -28,6 +28,7 @@ IsActNamed names (Seal label) = AreNamed names label
 IsActNamed names (Raise op label) = AreNamed names label
 IsActNamed names (Lower label) = AreNamed names label
 IsActNamed names (Release source target power content) = AreNamed names source × AreNamed names target × IsPowerNamed names power × IsContentNamed names content
+IsActNamed names (Expose source target power content) = AreNamed names source × AreNamed names target × IsPowerNamed names power × IsContentNamed names content
 IsActNamed names (NewRef label value) = AreNamed names label × IsValueNamed names value
 IsActNamed names (NewVar label value) = AreNamed names label × IsOptionNamed names value
 IsActNamed names (Fork birth) = IsBirthNamed names birth

@@ -26,9 +26,10 @@ unfoldable pub who : Label → List Entry → List ℕ
 who observer [] = []
 who observer (entry ∷ entries) = if is_visible observer entry then entry.actor ∷ who observer entries else who observer entries
 
--- the contents that a turn releases to an observer: of a release that was carried out, from a label that doesn't flow to it to one that does
+-- the contents that a turn releases to an observer: of a release or an exposure that was carried out, from a label that doesn't flow to it to one that does
 unfoldable pub released_to : Label → Act → Reply → List Content
 released_to observer (act.Release source target power content) Done = if not (flows source observer) && flows target observer then content ∷ [] else []
+released_to observer (act.Expose source target power content) Done = if not (flows source observer) && flows target observer then content ∷ [] else []
 released_to observer asked reply = []
 
 -- the contents that a journal releases to an observer

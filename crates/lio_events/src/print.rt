@@ -7,7 +7,8 @@ ghost use Rattle.lio_labels.specs.LabelPrint.{AreNamed};
 ghost use Rattle.lio_values.specs.PlainText.{label_in_brackets};
 ghost use Rattle.lio_events.specs.ValueText.{content_text, value_text};
 ghost use Rattle.lio_events.specs.Named.{IsContentNamed, IsValueNamed};
-ghost use Rattle.lio_events.specs.EntryText.{option_text, args_text, birth_text, op_text, act_text};
+ghost use Rattle.lio_events.specs.EntryText.{option_text, args_text, birth_text, op_text};
+ghost use Rattle.lio_events.specs.EntryText.{act_text, release_text};
 ghost use Rattle.lio_events.specs.EntryText.{reply_text, target_text, line_text};
 ghost use Rattle.lio_events.specs.JournalText.{entry_text, journal_text};
 ghost use Rattle.lio_events.specs.Printable.{IsOptionNamed, IsBirthNamed, IsActNamed, IsRaising};
@@ -140,9 +141,10 @@ fn print_word_content(
     append_content(out, content, names)
 }
 
-/// Appends a release.
+/// Appends the word of a release or of an exposure, and what it shows.
 fn print_release(
     out: &mut Vec<u8>,
+    word: &[u8],
     source: &Label,
     target: &Label,
     power: &Priv,
@@ -150,10 +152,10 @@ fn print_release(
     names: &Names,
 ) -> Result<(), NoMemory>
     requires { IsActNamed names.now (Act.Release source.now target.now power.now content.now) }
-    ensures { OnOk result (out.new.items ≡ out.old.items ++ act_text names.now
-        (Act.Release source.now target.now power.now content.now)) }
+    ensures { OnOk result (out.new.items ≡ out.old.items ++ release_text names.now word.now
+        source.now target.now power.now content.now) }
 {
-    out.extend_from_slice(b"release")?;
+    out.extend_from_slice(word)?;
     append_labels(out, source, target, names)?;
     out.push(b' ')?;
     print_power(out, power, names)?;
@@ -178,6 +180,16 @@ fn print_act(out: &mut Vec<u8>, act: &Act, names: &Names) -> Result<(), NoMemory
         Act::Lower(label) => print_word_label(out, b"lower ", label, names)?,
         Act::Release(source, target, power, content) => print_release(
             out,
+            b"release",
+            source.get(),
+            target.get(),
+            power,
+            content.get(),
+            names,
+        )?,
+        Act::Expose(source, target, power, content) => print_release(
+            out,
+            b"expose",
             source.get(),
             target.get(),
             power,

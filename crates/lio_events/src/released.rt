@@ -13,25 +13,28 @@ use lio_labels::Label;
 use lio_values::{Act, Content, Entry, Reply};
 use std::alloc::Global;
 
-/// Whether a release from one label to another comes to an observer: from a label that doesn't flow
-/// to the observer's to one that does.
+/// Whether what is released or exposed from one label to another comes to an observer: from a label
+/// that doesn't flow to the observer's to one that does.
 fn comes_to(source: &Label, target: &Label, observer: &Label) -> bool
     ensures { result ≡ (not (flows source.now observer.now) && flows target.now observer.now) }
 {
     !source.flows(observer) && target.flows(observer)
 }
 
-/// The content that a turn releases to an observer, if it does: that of a release that was carried
-/// out.
+/// The content that a turn releases to an observer, if it does: that of a release or an exposure
+/// that was carried out.
 fn released_by<'a>(act: &'a Act, reply: &Reply, observer: &Label) -> Option<&'a Content>
     ensures { MatchOption result (released_to observer.now act.entry.now reply.now ≡ [])
         (λ content. released_to observer.now act.entry.now reply.now ≡ content.now ∷ []) }
 {
     match act {
-        Act::Release(source, target, _, content) => match reply {
-            Reply::Done if comes_to(source.get(), target.get(), observer) => Some(content.get()),
-            _ => None,
-        },
+        Act::Release(source, target, _, content) | Act::Expose(source, target, _, content) =>
+            match reply {
+                Reply::Done if comes_to(source.get(), target.get(), observer) => Some(
+                    content.get(),
+                ),
+                _ => None,
+            },
         _ => None,
     }
 }

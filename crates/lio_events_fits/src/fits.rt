@@ -188,7 +188,8 @@ fn act_fits(act: &Act)
         Act::Seal(label) => label_is_canonical(label),
         Act::Raise(_, label) => label_is_canonical(label),
         Act::Lower(label) => label_is_canonical(label),
-        Act::Release(source, target, privilege, content) => {
+        Act::Release(source, target, privilege, content)
+        | Act::Expose(source, target, privilege, content) => {
             labels_fit(source.get(), target.get());
             power_fits(privilege);
             content_fits(content.get());

@@ -1,5 +1,8 @@
 -- What stands behind the first word of a plain value, a kind of fault, an act, a reply and a content.
 use Rattle.std.specs.Prelude.{ℕ, List, [], ◌++◌, codes}
+use Rattle.lio_labels.specs.declared.label.Label.{Label}
+use Rattle.lio_labels.specs.declared.privilege.Priv.{Priv}
+use Rattle.lio_values.specs.declared.value.Content.{Content}
 use Rattle.lio_values.specs.declared.fault.FaultKind.{FaultKind}
 use Rattle.lio_values.specs.declared.fault.FaultKind.TheVariants as fault
 use Rattle.lio_values.specs.declared.act.Act.{Act}
@@ -64,6 +67,7 @@ word_of_act (act.Seal label) = do_.Seal
 word_of_act (act.Raise op label) = do_.Raise
 word_of_act (act.Lower label) = do_.Lower
 word_of_act (act.Release source target power content) = do_.Release
+word_of_act (act.Expose source target power content) = do_.Expose
 word_of_act (act.NewRef label value) = do_.NewRef
 word_of_act (act.NewVar label value) = do_.NewVar
 word_of_act (act.Fork birth) = do_.Fork
@@ -76,11 +80,15 @@ word_of_act act.Wait = do_.Wait
 word_of_act (act.Send text) = do_.Send
 word_of_act (act.Ended content) = do_.Ended
 
+abbrev pub release_behind : List (List ℕ) → Label → Label → Priv → Content → List ℕ
+release_behind names source target power content = labels_text names source target ++ blank_power names power ++ blank_content_text names content
+
 abbrev pub act_behind : List (List ℕ) → Act → List ℕ
 act_behind names (act.Seal label) = blank_label names label
 act_behind names (act.Raise op label) = codes " " ++ op_text op ++ blank_label names label
 act_behind names (act.Lower label) = blank_label names label
-act_behind names (act.Release source target power content) = labels_text names source target ++ blank_power names power ++ blank_content_text names content
+act_behind names (act.Release source target power content) = release_behind names source target power content
+act_behind names (act.Expose source target power content) = release_behind names source target power content
 act_behind names (act.NewRef label value) = blank_label names label ++ blank_value_text names value
 act_behind names (act.NewVar label value) = blank_label names label ++ blank_option_text names value
 act_behind names (act.Fork birth) = birth_behind names birth

@@ -17,7 +17,7 @@ use Rattle.lio_values.specs.declared.fault.Fault.{Fault}
 use Rattle.lio_values.specs.declared.fault.FaultKind.{FaultKind}
 use Rattle.lio_values.specs.declared.fault.FaultKind.TheVariants.{FlowCurrent, FlowClearance, FlowRaise, FlowPrivilege, BadType, Overflow, DivZero, TooLong, NoTurns, NoCells, ChildTurns, Depth, LabelWide, User}
 use Rattle.lio_values.specs.declared.act.Act.{Act}
-use Rattle.lio_values.specs.declared.act.Act.TheVariants.{Step, Seal, Raise, Lower, Release, NewRef, NewVar, Fork, Spawn, Read, Write, Take, Put, Wait, Send, Ended}
+use Rattle.lio_values.specs.declared.act.Act.TheVariants.{Step, Seal, Raise, Lower, Release, Expose, NewRef, NewVar, Fork, Spawn, Read, Write, Take, Put, Wait, Send, Ended}
 use Rattle.lio_values.specs.declared.act.Birth.{Birth}
 use Rattle.lio_values.specs.declared.act.Reply.{Reply}
 use Rattle.lio_values.specs.declared.act.Reply.TheVariants.{Done, Got, Told, Refused}
@@ -94,6 +94,7 @@ ActFits (Seal label) = IsLabel label
 ActFits (Raise op label) = IsLabel label
 ActFits (Lower label) = IsLabel label
 ActFits (Release source target power content) = IsLabel source × IsLabel target × PowerFits power × ContentFits content
+ActFits (Expose source target power content) = IsLabel source × IsLabel target × PowerFits power × ContentFits content
 ActFits (NewRef label value) = IsLabel label × ValueFits value
 ActFits (NewVar label value) = IsLabel label × OptionFits value
 ActFits (Fork birth) = BirthFits birth

@@ -58,6 +58,21 @@ fn release_behind(text: &mut Cursor, alloc: Global, names: &Names) -> Result<Act
     Ok(Act::Release(source, target, power, content))
 }
 
+/// Takes an exposure behind its word.
+fn exposure_behind(text: &mut Cursor, alloc: Global, names: &Names) -> Result<Act, NoMemory>
+    ensures finds { IfOk result (λ found. FindsBefore (codes " : ") (spec.act_behind names.now)
+        (λ act. IsActOver names.now act × (word_of_act act ≡ ActWord.Expose))
+        text.old found text.new) }
+    ensures over { IfOk result (IsActOver names.now) }
+{
+    let (source, target) = two_labels(text, alloc, names)?;
+    let source = Held::new(alloc, source)?;
+    let target = Held::new(alloc, target)?;
+    let power = power(text, alloc, names)?;
+    let content = blank_content(text, alloc, names)?;
+    Ok(Act::Expose(source, target, power, content))
+}
+
 /// Takes what stands behind the first word of an act.
 fn act_behind(
     word: ActWord,
@@ -80,6 +95,7 @@ fn act_behind(
         }
         ActWord::Lower => Ok(Act::Lower(blank_label(text, alloc, names)?)),
         ActWord::Release => release_behind(text, alloc, names),
+        ActWord::Expose => exposure_behind(text, alloc, names),
         ActWord::NewRef => {
             let label = blank_label(text, alloc, names)?;
             Ok(Act::NewRef(label, blank_value(text, alloc, names)?))

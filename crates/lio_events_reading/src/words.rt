@@ -126,6 +126,7 @@ pub(crate) enum ActWord {
     Raise,
     Lower,
     Release,
+    Expose,
     NewRef,
     NewVar,
     Fork,
@@ -140,12 +141,13 @@ pub(crate) enum ActWord {
 }
 
 /// All of them.
-const ACT_WORDS: [ActWord; 16] = [
+const ACT_WORDS: [ActWord; 17] = [
     ActWord::Step,
     ActWord::Seal,
     ActWord::Raise,
     ActWord::Lower,
     ActWord::Release,
+    ActWord::Expose,
     ActWord::NewRef,
     ActWord::NewVar,
     ActWord::Fork,
@@ -170,6 +172,7 @@ impl ActWord {
             ActWord::Raise => b"raise",
             ActWord::Lower => b"lower",
             ActWord::Release => b"release",
+            ActWord::Expose => b"expose",
             ActWord::NewRef => b"newref",
             ActWord::NewVar => b"newvar",
             ActWord::Fork => b"fork",

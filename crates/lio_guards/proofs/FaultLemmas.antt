@@ -1,16 +1,16 @@
 -- When the tests of a guard all hold, and what the fault of one that fails says.
-use Rattle.std.proofs.Common.{◌≡◌, Bool, true, false, cond, Option, Some, None, IsTrue, IsFalse, refl, subst}
+use Rattle.std.proofs.Common.{◌≡◌, Bool, true, false, cond, ◌||◌, Option, Some, None, IsTrue, IsFalse, refl, subst}
 use Rattle.std.specs.Option.{option_or}
 use Rattle.lio_labels.specs.declared.label.Label.{Label}
 use Rattle.lio_labels.specs.declared.privilege.Priv.{Priv}
 use Rattle.lio_labels.specs.Flow.{flows}
 use Rattle.lio_labels.specs.Bounds.{join}
-use Rattle.lio_labels.specs.Privilege.{flows_with}
+use Rattle.lio_labels.specs.Privilege.{flows_with, downgraded}
 use Rattle.lio_values.specs.declared.fault.FaultKind.{FaultKind}
 use Rattle.lio_values.specs.declared.fault.FaultKind.TheVariants.{FlowCurrent, FlowClearance, FlowRaise, FlowPrivilege, LabelWide}
 use Rattle.lio_guards.specs.Width.{is_wide}
-use Rattle.lio_guards.specs.Guard.{write_fault, raise_fault, release_fault}
-use Rattle.lio_guards.specs.Laws.{Fails}
+use Rattle.lio_guards.specs.Guard.{write_fault, raise_fault, release_fault, exposed, expose_fault}
+use Rattle.lio_guards.specs.Laws.{Fails, FailsToExpose}
 
 -- ---- one test, or two
 
@@ -83,6 +83,38 @@ release_fault-None source target power e = one-None (flows_with power source tar
 pub release_fault-Some : (source target : Label) (power : Priv) (kind : FaultKind) → release_fault source target power ≡ Some kind → Fails kind
 unfolding release_fault
 release_fault-Some source target power kind e = one-Some Fails (flows_with power source target) (FlowPrivilege power source target) kind (λ h. h) e
+
+-- ---- exposing
+
+either-false : (a b : Bool) → (a || b) ≡ false → IsFalse b
+either-false true b e = absurd (cc)
+either-false false b e = e
+
+-- exposing without a fault
+pub record IsExposed (current clearance source : Label) (power : Priv) : Type 0 where
+  pub narrow : IsFalse (is_wide (exposed current source power))
+  pub above : IsTrue (flows (exposed current source power) clearance)
+
+pub expose_fault-None : (current clearance source : Label) (power : Priv) → expose_fault current clearance source power ≡ None → IsExposed current clearance source power
+unfolding expose_fault
+expose_fault-None current clearance source power e =
+    let p = by (is_wide (downgraded power source) || is_wide (exposed current source power)) (flows (exposed current source power) clearance) e in
+    record { narrow = either-false (is_wide (downgraded power source)) (is_wide (exposed current source power)) p.0; above = p.1 }
+  where
+    by : (a b : Bool) → cond a (Some (LabelWide current source)) (cond b None (Some (FlowRaise (exposed current source power) clearance))) ≡ None → (a ≡ false) × IsTrue b
+    by true b e = absurd (cc)
+    by false b e = (refl, one-None b (FlowRaise (exposed current source power) clearance) e)
+
+pub expose_fault-Some : (current clearance source : Label) (power : Priv) (kind : FaultKind) → expose_fault current clearance source power ≡ Some kind → FailsToExpose power kind
+unfolding expose_fault
+expose_fault-Some current clearance source power kind e =
+    by (is_wide (downgraded power source) || is_wide (exposed current source power)) (λ t. t) e
+  where
+    by : (a : Bool) → (IsTrue a → FailsToExpose power (LabelWide current source))
+        → cond a (Some (LabelWide current source)) (cond (flows (exposed current source power) clearance) None (Some (FlowRaise (exposed current source power) clearance))) ≡ Some kind
+        → FailsToExpose power kind
+    by true f e = some-Some (FailsToExpose power) (LabelWide current source) kind (f refl) e
+    by false f e = one-Some (FailsToExpose power) (flows (exposed current source power) clearance) (FlowRaise (exposed current source power) clearance) kind (λ h. h) e
 
 -- ---- one fault after another
 

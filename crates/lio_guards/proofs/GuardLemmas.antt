@@ -6,8 +6,11 @@ use Rattle.lio_labels.specs.declared.label.Label.{Label}
 use Rattle.lio_labels.specs.declared.privilege.Priv.{Priv}
 use Rattle.lio_labels.specs.Flow.{flows}
 use Rattle.lio_labels.specs.Bounds.{join}
+use Rattle.lio_labels.specs.Privilege.{flows_with, downgraded}
 use Rattle.lio_labels.proofs.FlowLemmas.{flow_is_reflexive}
 use Rattle.lio_labels.proofs.BoundLemmas.{left_flows_to_join, right_flows_to_join}
+use Rattle.lio_labels.proofs.PrivilegeLemmas.{privilege_then_flow}
+use Rattle.lio_labels.proofs.DowngradeLemmas.{flows_to_downgraded}
 use Rattle.lio_values.specs.declared.act.Op.{Op}
 use Rattle.lio_values.specs.declared.act.Op.TheVariants.{Lower}
 use Rattle.lio_values.specs.declared.fault.FaultKind.{FaultKind}
@@ -16,9 +19,9 @@ use Rattle.lio_guards.specs.declared.class.Class.TheVariants.{Write, Raise, Exch
 use Rattle.lio_guards.specs.declared.verdict.Verdict.TheVariants.{Go, No}
 use Rattle.lio_guards.specs.Class.{class_of}
 use Rattle.lio_guards.specs.Width.{is_wide}
-use Rattle.lio_guards.specs.Guard.{write_fault, raise_fault, release_fault, go_unless, guarded_as, guarded, guarded_relabel}
-use Rattle.lio_guards.specs.Laws.{writes, learns, Fails, CurrentFlowsToWritten, WrittenFlowsToClearance, LearntFlowsToLabel, CurrentFlowsToLabel, LabelFlowsToClearance, WriteKeepsLabel, RaiseJoinsLabel, RaiseIsNarrow, ExchangeTakesLabel, CurrentFlowsToLowered, LoweredFlowsToClearance, CurrentFlowsToReleased, ReleasedFlowsToClearance, SourceFlowsWithPrivilege, ReleaseKeepsLabel, RefusedWhereTestFails, ReleaseRefusedWhereTestFails}
-use Rattle.lio_guards.proofs.FaultLemmas.{IsBetween, IsRaised, write_fault-None, write_fault-Some, raise_fault-None, raise_fault-Some, release_fault-None, release_fault-Some, option_or-None, option_or-Some}
+use Rattle.lio_guards.specs.Guard.{write_fault, raise_fault, release_fault, go_unless, guarded_as, guarded, guarded_relabel, exposed, expose_fault, guarded_expose}
+use Rattle.lio_guards.specs.Laws.{writes, learns, Fails, ExposeJoinsLabel, CurrentFlowsToExposed, ExposedFlowsToClearance, ExposedIsNarrow, ExposedFlowsWithPrivilege, ExposeRefusedWhereTestFails, CurrentFlowsToWritten, WrittenFlowsToClearance, LearntFlowsToLabel, CurrentFlowsToLabel, LabelFlowsToClearance, WriteKeepsLabel, RaiseJoinsLabel, RaiseIsNarrow, ExchangeTakesLabel, CurrentFlowsToLowered, LoweredFlowsToClearance, CurrentFlowsToReleased, ReleasedFlowsToClearance, SourceFlowsWithPrivilege, ReleaseKeepsLabel, RefusedWhereTestFails, ReleaseRefusedWhereTestFails}
+use Rattle.lio_guards.proofs.FaultLemmas.{IsExposed, expose_fault-None, expose_fault-Some, IsBetween, IsRaised, write_fault-None, write_fault-Some, raise_fault-None, raise_fault-Some, release_fault-None, release_fault-Some, option_or-None, option_or-Some}
 
 -- ---- a verdict
 
@@ -188,3 +191,41 @@ release_refused_where_test_fails current clearance source target power kind e =
     option_or-Some (write_fault current clearance target) (release_fault source target power) kind
     (write_fault-Some current clearance target kind) (release_fault-Some source target power kind)
     (refused-for (option_or (write_fault current clearance target) (release_fault source target power)) current kind e)
+
+-- ---- the laws of exposing
+
+exposes : (current clearance source label : Label) (power : Priv) → guarded_expose current clearance source power ≡ Go label → IsExposed current clearance source power
+unfolding guarded_expose
+exposes current clearance source label power e =
+    expose_fault-None current clearance source power (goes-without (expose_fault current clearance source power) (exposed current source power) label e)
+
+pub expose_joins_label : ExposeJoinsLabel
+unfolding guarded_expose
+expose_joins_label current clearance source label power e = goes-at (expose_fault current clearance source power) (exposed current source power) label e
+
+pub current_flows_to_exposed : CurrentFlowsToExposed
+unfolding exposed
+current_flows_to_exposed current clearance source label power e =
+    subst (ReachedFrom current) (sym (expose_joins_label current clearance source label power e)) (left_flows_to_join current (downgraded power source))
+
+pub exposed_flows_to_clearance : ExposedFlowsToClearance
+exposed_flows_to_clearance current clearance source label power e =
+    subst (ReachesTo clearance) (sym (expose_joins_label current clearance source label power e)) (exposes current clearance source label power e).above
+
+pub exposed_is_narrow : ExposedIsNarrow
+exposed_is_narrow current clearance source label power e =
+    let P : Label → Type 0 = λ l. IsFalse (is_wide l) in
+    subst P (sym (expose_joins_label current clearance source label power e)) (exposes current clearance source label power e).narrow
+
+pub exposed_flows_with_privilege : ExposedFlowsWithPrivilege
+unfolding exposed
+exposed_flows_with_privilege current clearance source label power e =
+    let P : Label → Type 0 = λ l. IsTrue (flows_with power source l) in
+    subst P (sym (expose_joins_label current clearance source label power e))
+    (privilege_then_flow power source (downgraded power source) (join current (downgraded power source))
+    (flows_to_downgraded power source) (right_flows_to_join current (downgraded power source)))
+
+pub expose_refused_where_test_fails : ExposeRefusedWhereTestFails
+unfolding guarded_expose
+expose_refused_where_test_fails current clearance source power kind e =
+    expose_fault-Some current clearance source power kind (refused-for (expose_fault current clearance source power) (exposed current source power) kind e)

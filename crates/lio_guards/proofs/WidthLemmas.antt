@@ -29,14 +29,14 @@ pub width_is_tested : WidthIsTested
 width_is_tested label = (wide-tested label, wide-test label)
 
 -- a label that is made isn't wide, and one that is refused as wide is
-made-narrow : (label made : Label) → WideWhere (Ok made) (IsWide label) → IsFalse (is_wide label)
+pub made-narrow : (label made : Label) → WideWhere (Ok made) (IsWide label) → IsFalse (is_wide label)
 made-narrow label made h =
     elim (cases_Bool (is_wide label)) as (λ _. IsFalse (is_wide label)) [
       | inl t ↦ absurd (true≢false (ap is_ok ((h (λ e. absurd (true≢false (ap is_ok e)))).1 (wide-tested label t))))
       | inr f ↦ f
     ]
 
-refused-wide : (label : Label) (fault : FormFault) → fault ≡ Wide → WideWhere {X = Label} (Err fault) (IsWide label) → IsTrue (is_wide label)
+pub refused-wide : (label : Label) (fault : FormFault) → fault ≡ Wide → WideWhere {X = Label} (Err fault) (IsWide label) → IsTrue (is_wide label)
 refused-wide label fault e h = wide-test label ((h (λ q. cc)).0 (ap Err e))
 
 abbrev unless_wide : Label → Bool → Option Label

@@ -1,11 +1,11 @@
 -- Which operations the labels of a task let go, and at which current label it goes on (the rules of LIO, ICFP 2012).
-use Rattle.std.specs.Prelude.{Option, Some, None, if◌then◌else◌}
+use Rattle.std.specs.Prelude.{Option, Some, None, ◌||◌, if◌then◌else◌}
 use Rattle.std.specs.Option.{option_or}
 use Rattle.lio_labels.specs.declared.label.Label.{Label}
 use Rattle.lio_labels.specs.declared.privilege.Priv.{Priv}
 use Rattle.lio_labels.specs.Flow.{flows}
 use Rattle.lio_labels.specs.Bounds.{join}
-use Rattle.lio_labels.specs.Privilege.{flows_with}
+use Rattle.lio_labels.specs.Privilege.{flows_with, downgraded}
 use Rattle.lio_values.specs.declared.act.Op.{Op}
 use Rattle.lio_values.specs.declared.fault.FaultKind.{FaultKind}
 use Rattle.lio_values.specs.declared.fault.FaultKind.TheVariants.{FlowCurrent, FlowClearance, FlowRaise, FlowPrivilege, LabelWide}
@@ -51,3 +51,17 @@ guarded op current clearance target = guarded_as (class_of op) current clearance
 -- the verdict on a release by a privilege, of the current label, the clearance, the source's and the target's label: the tests of a write, and then its own
 unfoldable pub guarded_relabel : Label → Label → Label → Label → Priv → Verdict
 guarded_relabel current clearance source target power = go_unless (option_or (write_fault current clearance target) (release_fault source target power)) current
+
+-- the current label at which a task goes on that exposes by a privilege what has a label: joined with that label, as the privilege lowers it
+unfoldable pub exposed : Label → Label → Priv → Label
+exposed current source power = join current (downgraded power source)
+
+-- what has a label is exposed where neither that label, as the privilege lowers it, nor the new current label is wide, and the new label flows to the clearance
+unfoldable pub expose_fault : Label → Label → Label → Priv → Option FaultKind
+expose_fault current clearance source power =
+    if is_wide (downgraded power source) || is_wide (exposed current source power) then Some (LabelWide current source)
+    else (if flows (exposed current source power) clearance then None else Some (FlowRaise (exposed current source power) clearance))
+
+-- the verdict on exposing by a privilege, of the current label, the clearance and the source's label
+unfoldable pub guarded_expose : Label → Label → Label → Priv → Verdict
+guarded_expose current clearance source power = go_unless (expose_fault current clearance source power) (exposed current source power)

@@ -1,11 +1,11 @@
 -- The laws of guards: what flows where an operation is let go, at which current label it goes on, and which test failed where it is refused
 -- (the rules of LIO, ICFP 2012). They hold of any labels, well-formed or not.
-use Rattle.std.specs.Prelude.{◌≡◌, Bool, true, false, IsTrue, IsFalse}
+use Rattle.std.specs.Prelude.{◌≡◌, Bool, true, false, ◌||◌, IsTrue, IsFalse}
 use Rattle.lio_labels.specs.declared.label.Label.{Label}
 use Rattle.lio_labels.specs.declared.privilege.Priv.{Priv}
 use Rattle.lio_labels.specs.Flow.{flows}
 use Rattle.lio_labels.specs.Bounds.{join}
-use Rattle.lio_labels.specs.Privilege.{flows_with}
+use Rattle.lio_labels.specs.Privilege.{flows_with, downgraded}
 use Rattle.lio_values.specs.declared.act.Op.{Op}
 use Rattle.lio_values.specs.declared.act.Op.TheVariants.{Lower}
 use Rattle.lio_values.specs.declared.fault.FaultKind.{FaultKind}
@@ -15,7 +15,7 @@ use Rattle.lio_guards.specs.declared.class.Class.TheVariants.{Write, Raise, Exch
 use Rattle.lio_guards.specs.declared.verdict.Verdict.TheVariants.{Go, No}
 use Rattle.lio_guards.specs.Class.{class_of}
 use Rattle.lio_guards.specs.Width.{is_wide}
-use Rattle.lio_guards.specs.Guard.{guarded, guarded_relabel}
+use Rattle.lio_guards.specs.Guard.{guarded, guarded_relabel, exposed, guarded_expose}
 
 -- whether a class of operations writes to the target, and whether it learns from it
 abbrev pub writes : Class → Bool
@@ -95,6 +95,28 @@ abbrev pub ReleaseKeepsLabel : Type 0
 ReleaseKeepsLabel = (current clearance source target label : Label) (power : Priv)
     → guarded_relabel current clearance source target power ≡ Go label → label ≡ current
 
+-- exposing by a privilege: the new current label is the old one joined with the source's as the privilege lowers it, so the old one flows to it
+abbrev pub ExposeJoinsLabel : Type 0
+ExposeJoinsLabel = (current clearance source label : Label) (power : Priv)
+    → guarded_expose current clearance source power ≡ Go label → label ≡ exposed current source power
+
+abbrev pub CurrentFlowsToExposed : Type 0
+CurrentFlowsToExposed = (current clearance source label : Label) (power : Priv)
+    → guarded_expose current clearance source power ≡ Go label → IsTrue (flows current label)
+
+-- the new label flows to the clearance and isn't wide, and the source flows to it with the privilege
+abbrev pub ExposedFlowsToClearance : Type 0
+ExposedFlowsToClearance = (current clearance source label : Label) (power : Priv)
+    → guarded_expose current clearance source power ≡ Go label → IsTrue (flows label clearance)
+
+abbrev pub ExposedIsNarrow : Type 0
+ExposedIsNarrow = (current clearance source label : Label) (power : Priv)
+    → guarded_expose current clearance source power ≡ Go label → IsFalse (is_wide label)
+
+abbrev pub ExposedFlowsWithPrivilege : Type 0
+ExposedFlowsWithPrivilege = (current clearance source label : Label) (power : Priv)
+    → guarded_expose current clearance source power ≡ Go label → IsTrue (flows_with power source label)
+
 -- the test that a fault names fails for the labels that it keeps; the other faults are no guard's
 abbrev pub Fails : FaultKind → Type 0
 Fails (FlowCurrent current target) = IsFalse (flows current target)
@@ -120,3 +142,13 @@ RefusedWhereTestFails = (op : Op) (current clearance target : Label) (kind : Fau
 abbrev pub ReleaseRefusedWhereTestFails : Type 0
 ReleaseRefusedWhereTestFails = (current clearance source target : Label) (power : Priv) (kind : FaultKind)
     → guarded_relabel current clearance source target power ≡ No kind → Fails kind
+
+-- the test that a fault of exposing by a privilege names fails for the labels that it keeps: too wide is the source's label as the privilege lowers it, or the new label
+abbrev pub FailsToExpose : Priv → FaultKind → Type 0
+FailsToExpose power (FlowRaise raised clearance) = IsFalse (flows raised clearance)
+FailsToExpose power (LabelWide current source) = IsTrue (is_wide (downgraded power source) || is_wide (exposed current source power))
+FailsToExpose power kind = ⊥
+
+abbrev pub ExposeRefusedWhereTestFails : Type 0
+ExposeRefusedWhereTestFails = (current clearance source : Label) (power : Priv) (kind : FaultKind)
+    → guarded_expose current clearance source power ≡ No kind → FailsToExpose power kind

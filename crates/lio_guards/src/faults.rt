@@ -1,10 +1,11 @@
 //! The tests of guards: each gives the fault of the first that fails.
 #![tactic(auto, unfolding(crate::specs::Guard::write_fault, crate::specs::Guard::release_fault))]
 
-ghost use Rattle.std.specs.Prelude.{◌≡◌, IfOk, Some, None, if◌then◌else◌};
+ghost use Rattle.std.specs.Prelude.{◌≡◌, ◌||◌, IfOk, Some, None, if◌then◌else◌};
 ghost use Rattle.lio_labels.specs.Bounds.{join};
 ghost use Rattle.lio_guards.specs.Width.{is_wide};
-ghost use Rattle.lio_guards.specs.Guard.{release_fault, write_fault};
+ghost use Rattle.lio_labels.specs.Privilege.{downgraded};
+ghost use Rattle.lio_guards.specs.Guard.{exposed, release_fault, write_fault};
 
 use lio_clauses::{FormFault, NoMemory};
 use lio_labels::{Label, Priv};
@@ -60,6 +61,26 @@ pub fn narrow_join(
 {
     match current.join(alloc, target) {
         Ok(label) => Ok(Some(label)),
+        Err(FormFault::Wide) => Ok(None),
+        Err(FormFault::NoMemory) => Err(NoMemory),
+    }
+}
+
+/// The current label at which a task goes on that exposes by a privilege what has the label
+/// `source`, unless it is wide, or that label is as the privilege lowers it.
+#[tactic(auto, unfolding(crate::specs::Guard::exposed))]
+pub fn narrow_exposed(
+    alloc: Global,
+    current: &Label,
+    source: &Label,
+    power: &Priv,
+) -> Result<Option<Label>, NoMemory>
+    ensures { IfOk result (λ label. label ≡ (if is_wide (downgraded power.now source.now)
+        || is_wide (exposed current.now source.now power.now) then None
+        else Some (exposed current.now source.now power.now))) }
+{
+    match source.downgraded(alloc, power) {
+        Ok(lowered) => narrow_join(alloc, current, &lowered),
         Err(FormFault::Wide) => Ok(None),
         Err(FormFault::NoMemory) => Err(NoMemory),
     }

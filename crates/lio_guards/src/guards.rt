@@ -4,12 +4,12 @@
 ghost use Rattle.std.specs.Prelude.{◌≡◌, IfOk, IsTrue};
 ghost use Rattle.lio_labels.specs.Flow.{flows};
 ghost use Rattle.lio_labels.specs.Bounds.{join};
-ghost use Rattle.lio_guards.specs.Guard.{go_unless, guarded, guarded_relabel, raise_fault};
-ghost use Rattle.lio_guards.specs.Guard.{write_fault};
+ghost use Rattle.lio_guards.specs.Guard.{go_unless, guarded, guarded_expose, guarded_relabel};
+ghost use Rattle.lio_guards.specs.Guard.{raise_fault, write_fault};
 ghost use Rattle.std.specs.Option.{is_none};
 
 use crate::class::Class;
-use crate::faults::{narrow_join, release_fault, write_fault};
+use crate::faults::{narrow_exposed, narrow_join, release_fault, write_fault};
 use crate::verdict::Verdict;
 use lio_clauses::NoMemory;
 use lio_labels::{Label, Priv};
@@ -106,4 +106,31 @@ pub fn guard_relabel(
         return Ok(Verdict::No(kind));
     }
     Ok(Verdict::Go(current.copy(alloc)?))
+}
+
+/// Whether a task with this current label and clearance may expose, by a privilege, what has the
+/// label `source`, and the current label at which it goes on: raised by what the privilege doesn't
+/// cover.
+#[tactic(auto, unfolding(crate::specs::Guard::expose_fault, crate::specs::Guard::guarded_expose))]
+pub fn guard_expose(
+    alloc: Global,
+    current: &Label,
+    clearance: &Label,
+    source: &Label,
+    power: &Priv,
+) -> Result<Verdict, NoMemory>
+    requires { IsTrue (flows current.now clearance.now) }
+    ensures { IfOk result (λ verdict. verdict
+        ≡ guarded_expose current.now clearance.now source.now power.now) }
+{
+    match narrow_exposed(alloc, current, source, power)? {
+        Some(raised) => {
+            if raised.flows(clearance) {
+                Ok(Verdict::Go(raised))
+            } else {
+                Ok(Verdict::No(FaultKind::FlowRaise(raised, clearance.copy(alloc)?)))
+            }
+        }
+        None => Ok(Verdict::No(FaultKind::LabelWide(current.copy(alloc)?, source.copy(alloc)?))),
+    }
 }

@@ -2,7 +2,10 @@
 #![tactic(auto, using(crate::proofs::AllLaws::laws))]
 
 ghost use Rattle.lio_guards.specs.Width.{WidthIsTested};
-ghost use Rattle.lio_guards.specs.Laws.{CurrentFlowsToLabel, CurrentFlowsToLowered};
+ghost use Rattle.lio_guards.specs.Laws.{CurrentFlowsToExposed, CurrentFlowsToLabel};
+ghost use Rattle.lio_guards.specs.Laws.{CurrentFlowsToLowered, ExposeJoinsLabel};
+ghost use Rattle.lio_guards.specs.Laws.{ExposeRefusedWhereTestFails, ExposedFlowsToClearance};
+ghost use Rattle.lio_guards.specs.Laws.{ExposedFlowsWithPrivilege, ExposedIsNarrow};
 ghost use Rattle.lio_guards.specs.Laws.{CurrentFlowsToReleased, CurrentFlowsToWritten};
 ghost use Rattle.lio_guards.specs.Laws.{ExchangeTakesLabel, LabelFlowsToClearance};
 ghost use Rattle.lio_guards.specs.Laws.{LearntFlowsToLabel, LoweredFlowsToClearance, RaiseIsNarrow};
@@ -101,4 +104,36 @@ pub fn release_keeps_label()
 /// keeps.
 pub fn release_refused_where_test_fails()
     ensures { ReleaseRefusedWhereTestFails }
+{}
+
+/// The new current label of a task that exposes is the old one joined with the source's label as
+/// the privilege lowers it.
+pub fn expose_joins_label()
+    ensures { ExposeJoinsLabel }
+{}
+
+/// The current label flows to the one at which a task goes on that exposes.
+pub fn current_flows_to_exposed()
+    ensures { CurrentFlowsToExposed }
+{}
+
+/// The current label at which a task goes on that exposes flows to the clearance.
+pub fn exposed_flows_to_clearance()
+    ensures { ExposedFlowsToClearance }
+{}
+
+/// The current label at which a task goes on that exposes isn't wide.
+pub fn exposed_is_narrow()
+    ensures { ExposedIsNarrow }
+{}
+
+/// What is exposed flows with the privilege to the current label at which the task goes on.
+pub fn exposed_flows_with_privilege()
+    ensures { ExposedFlowsWithPrivilege }
+{}
+
+/// Exposing is refused only where the test that the fault names fails, for the labels that it
+/// keeps.
+pub fn expose_refused_where_test_fails()
+    ensures { ExposeRefusedWhereTestFails }
 {}

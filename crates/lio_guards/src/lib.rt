@@ -8,5 +8,5 @@ mod guards;
 pub mod laws;
 mod verdict;
 
-pub use guards::{guard, guard_relabel, may_write};
+pub use guards::{guard, guard_expose, guard_relabel, may_write};
 pub use verdict::Verdict;

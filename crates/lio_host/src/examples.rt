@@ -461,6 +461,50 @@ file history.txt
 |2 1 0 <True %% True> send "42" : ok
 |3 1 - <True %% True> ended unit : ok
 entries 4
+case average/average.lio
+policy
+|{"version":1,"longest":4096,
+| "principals":["alice","bob"],
+| "channels":[{"name":"his","label":"bob %% True","file":"his.txt"}],
+| "inputs":[{"name":"a","label":"alice %% True","file":"a.txt"},
+|           {"name":"b","label":"bob %% True","file":"b.txt"}],
+| "tasks":[{"name":"main","proc":"main","label":"True %% True",
+|           "clearance":"bob %% True","turns":20,"cells":0,
+|           "args":[{"channel":"his"},{"input":"a"},{"input":"b"},{"power":"alice"}]}]}
+script
+|# The average of alice's number and bob's, for bob. The task learns his and stands at his label then; alice's privilege lets it learn hers and stay there.
+|proc main his a b p
+|unlabel y b
+|unlabel x a using p
+|let x = num x
+|let y = num y
+|let s = x + y
+|let m = s / 2
+|let t = str m
+|send his t
+|end
+input a.txt
+|40~
+input b.txt
+|44~
+words
+|p.json
+|s.lio
+|--history=history.txt
+status Done
+file his.txt
+|42~
+file history.txt
+|0 1 - <True %% True> raise unlabel <bob %% True> : ok
+|1 1 - <bob %% True> expose <alice %% True> <bob %% True> power<alice> "40" : ok
+|2 1 - <bob %% True> step : ok
+|3 1 - <bob %% True> step : ok
+|4 1 - <bob %% True> step : ok
+|5 1 - <bob %% True> step : ok
+|6 1 - <bob %% True> step : ok
+|7 1 0 <bob %% True> send "42" : ok
+|8 1 - <bob %% True> ended unit : ok
+entries 9
 case two_owners/two_owners.lio
 policy
 |{"version":1,"longest":4096,

@@ -69,6 +69,20 @@ notes
 |  3 | relabel x a <True %% True> p
 |  the privilege of bob doesn't release what is labelled alice %% True to True %% True
 entries 3
+case a channel in place of a privilege
+script
+|proc main c a p
+|send c "begun"
+|unlabel t a using c
+|end
+input a.txt
+|x~
+status Done
+notes
+|note: task 1, "main", ended with bad_type at s.lio:3, after 2 of 20 turns
+|  3 | unlabel t a using c
+|  "c" is a channel, a privilege is wanted
+entries 3
 case a name that isn't bound
 script
 |proc main c a p

@@ -193,6 +193,92 @@ file h
 |0 1 - <True %% True> release <alice %% True> <True %% True> power<bob> hidden : no flow_privilege power<bob> <alice %% True> <True %% True> at <True %% True>
 |1 1 - <True %% True> ended fault(flow_privilege power<bob> <alice %% True> <True %% True> at <True %% True>) : ok
 entries 2
+case a secret that is learned by its owner's privilege, and what anyone sees of it
+policy
+|{"version":1,"longest":4096,"principals":["alice","bob"],~
+|"channels":[{"name":"out","label":"True %% True","file":"out.txt"}],~
+|"inputs":[{"name":"a","label":"alice %% True","file":"a.txt"}],~
+|"tasks":[{"name":"main","proc":"main","label":"True %% True",~
+|"clearance":"alice /\\ bob %% True","turns":20,"cells":4,~
+|"args":[{"channel":"out"},{"input":"a"},{"power":"alice"}]}]}~
+script
+|proc main c a p
+|unlabel t a using p
+|send c t
+|end
+input a.txt
+|x~
+words
+|p.json
+|s.lio
+|--history=h
+|--view
+|v
+|--observer=True %% True
+status Done
+file out.txt
+|x~
+file h
+|0 1 - <True %% True> expose <alice %% True> <True %% True> power<alice> "x" : ok
+|1 1 0 <True %% True> send "x" : ok
+|2 1 - <True %% True> ended unit : ok
+file v
+|1 - <True %% True> expose <alice %% True> <True %% True> power<alice> "x" : ok
+|1 0 <True %% True> send "x" : ok
+|1 - <True %% True> ended unit : ok
+entries 3
+case a secret that is learned by another's privilege, and what anyone sees of it
+policy
+|{"version":1,"longest":4096,"principals":["alice","bob"],~
+|"channels":[{"name":"out","label":"True %% True","file":"out.txt"}],~
+|"inputs":[{"name":"a","label":"alice %% True","file":"a.txt"}],~
+|"tasks":[{"name":"main","proc":"main","label":"True %% True",~
+|"clearance":"alice /\\ bob %% True","turns":20,"cells":4,~
+|"args":[{"channel":"out"},{"input":"a"},{"power":"bob"}]}]}~
+input a.txt
+|x~
+words
+|p.json
+|s.lio
+|--history=h
+|--view
+|v
+|--observer=True %% True
+status Done
+file out.txt
+file h
+|0 1 - <True %% True> expose <alice %% True> <alice %% True> power<bob> "x" : ok
+|1 1 - <alice %% True> send "x" : no flow_current <alice %% True> <True %% True> at <alice %% True>
+|2 1 - <alice %% True> ended fault(flow_current <alice %% True> <True %% True> at <alice %% True>) : ok
+file v
+|1 - <True %% True> expose <alice %% True> <alice %% True> power<bob> hidden : ok
+entries 3
+case a secret above the clearance is learned by another's privilege
+policy
+|{"version":1,"longest":4096,"principals":["alice","bob"],~
+|"channels":[{"name":"out","label":"True %% True","file":"out.txt"}],~
+|"inputs":[{"name":"a","label":"alice %% True","file":"a.txt"}],~
+|"tasks":[{"name":"main","proc":"main","label":"True %% True",~
+|"clearance":"True %% True","turns":20,"cells":4,~
+|"args":[{"channel":"out"},{"input":"a"},{"power":"bob"}]}]}~
+input a.txt
+|x~
+words
+|p.json
+|s.lio
+|--history=h
+|--view
+|v
+|--observer=True %% True
+status Done
+file out.txt
+file h
+|0 1 - <True %% True> expose <alice %% True> <alice %% True> power<bob> hidden : no flow_raise <alice %% True> <True %% True> at <True %% True>
+|1 1 - <True %% True> ended fault(flow_raise <alice %% True> <True %% True> at <True %% True>) : ok
+file v
+|1 - <True %% True> expose <alice %% True> <alice %% True> power<bob> hidden : no flow_raise <alice %% True> <True %% True> at <True %% True>
+|1 - <True %% True> ended fault(flow_raise <alice %% True> <True %% True> at <True %% True>) : ok
+entries 2
 case two calendars, the summary, and what anyone sees of them
 policy
 |{"version":1,"longest":4096,"principals":["alice","bob"],~

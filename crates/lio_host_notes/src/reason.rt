@@ -190,7 +190,9 @@ fn print_too_long(
     front: &Front<'_, '_>,
 ) -> Result<(), NoMemory> {
     match front {
-        Front::Simple(Simple::Unlabel(_, _)) => printer.words("the input has more than ")?,
+        Front::Simple(Simple::Unlabel(..) | Simple::UnlabelUsing(..)) => {
+            printer.words("the input has more than ")?;
+        }
         _ => printer.words("the text would have more than ")?,
     }
     printer.show(longest)?;

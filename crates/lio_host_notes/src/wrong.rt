@@ -124,6 +124,10 @@ fn check_simple<'a>(names: &'a Environment, simple: &'a Simple) -> Option<Wrong<
         Simple::Return(a) | Simple::Throw(a) => check(names, a, Want::Bare),
         Simple::Label(_, l, a) => check_two(names, (l, label), (a, Want::Bare)),
         Simple::Unlabel(_, a) => check(names, a, Want::Of(Kind::Sealed)),
+        Simple::UnlabelUsing(_, a, p) => {
+            let power = Want::Of(Kind::Privilege);
+            check_two(names, (a, Want::Of(Kind::Sealed)), (p, power))
+        }
         Simple::Taint(l) | Simple::Lower(l) | Simple::NewVar(_, l) => check(names, l, label),
         Simple::Relabel(_, a, l, p) => {
             let power = check(names, p, Want::Of(Kind::Privilege));

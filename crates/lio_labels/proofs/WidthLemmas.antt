@@ -27,3 +27,14 @@ wide-neither x y z l h k n = (
   λ e. absurd (true≢false (ap is_ok e)),
   λ w. elim w [ inl s ↦ absurd (made-narrow x l.secrecy h s) | inr i ↦ absurd (made-narrow y l.integrity k i) ],
 )
+
+-- the integrity alone may be wide
+pub wide-integrity : {X : Type 0} (y : X) (z : Label) (l : Label) → ¬ formula.IsWide l.secrecy → IsWideExactly (Ok y) l.integrity → WideWhere (Ok z) (IsWide l)
+wide-integrity y z l h k n = (
+  λ e. absurd (true≢false (ap is_ok e)),
+  λ w. elim w [ inl s ↦ absurd (h s) | inr i ↦ absurd (made-narrow y l.integrity k i) ],
+)
+
+-- a part for which memory is wanting
+pub wide-wanting : {Y : Type 0} (fault : FormFault) (W : Type 0) → fault ≡ NoMemory → WideWhere {X = Y} (Err fault) W
+wide-wanting fault W e n = absurd (n (ap Err e))

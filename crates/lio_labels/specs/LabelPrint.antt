@@ -4,8 +4,10 @@ use Rattle.lio_clauses.specs.Names.{AreNames}
 use Rattle.lio_clauses.specs.FormulaPrint as formula
 use Rattle.lio_clauses.specs.FormulaPrint.{two_text}
 use Rattle.lio_labels.specs.declared.label.Label.{Label}
+use Rattle.lio_labels.specs.declared.privilege.Priv.{Priv}
 use Rattle.lio_labels.specs.IsLabel.{IsLabel}
 use Rattle.lio_labels.specs.Bounds.{join, meet}
+use Rattle.lio_labels.specs.Privilege.{downgraded}
 use Rattle.lio_labels.specs.LabelText.{reading}
 
 -- each principal of a label has a name
@@ -26,3 +28,7 @@ JoinIsNamed = (names : List (List ℕ)) (a b : Label) → AreNamed names a → A
 
 abbrev pub MeetIsNamed : Type 0
 MeetIsNamed = (names : List (List ℕ)) (a b : Label) → AreNamed names a → AreNamed names b → AreNamed names (meet a b)
+
+-- the principals of a label as a privilege lowers it have names where those of the label and of the privilege have
+abbrev pub DowngradedIsNamed : Type 0
+DowngradedIsNamed = (names : List (List ℕ)) (p : Priv) (a : Label) → formula.AreNamed names p.power → AreNamed names a → AreNamed names (downgraded p a)

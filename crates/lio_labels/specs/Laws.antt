@@ -1,13 +1,14 @@
 -- The laws of flow, of the bounds of labels, and of flow with a privilege (Disjunction Category Labels, 2011).
 use Rattle.std.specs.Prelude.{◌≡◌, ◌↔◌, IsTrue, []}
 use Rattle.lio_clauses.specs.Implication.{implies}
+use Rattle.lio_clauses.specs.Canonical.{IsCanonical}
 use Rattle.lio_labels.specs.declared.label.Label.{Label}
 use Rattle.lio_labels.specs.declared.privilege.Priv.{Priv}
 use Rattle.lio_labels.specs.Flow.{Flows, flows}
 use Rattle.lio_labels.specs.Bounds.{join, meet}
 use Rattle.lio_labels.specs.Extremes.{least, greatest}
 use Rattle.lio_labels.specs.IsLabel.{IsWide, IsLabel}
-use Rattle.lio_labels.specs.Privilege.{FlowsWith, flows_with}
+use Rattle.lio_labels.specs.Privilege.{FlowsWith, flows_with, downgraded}
 
 -- the test of flow and flow over all sets of principals agree
 abbrev pub FlowIsTested : Type 0
@@ -86,3 +87,17 @@ FlowThenPrivilege = (p : Priv) (a b c : Label) → IsTrue (flows a b) → IsTrue
 
 abbrev pub PrivilegeThenFlow : Type 0
 PrivilegeThenFlow = (p : Priv) (a b c : Label) → IsTrue (flows_with p a b) → IsTrue (flows b c) → IsTrue (flows_with p a c)
+
+-- as a privilege lowers it, a label flows back to itself; the label flows to it with the privilege, and it flows to each label to which the label flows so
+abbrev pub DowngradedFlowsBack : Type 0
+DowngradedFlowsBack = (p : Priv) (a : Label) → IsTrue (flows (downgraded p a) a)
+
+abbrev pub FlowsToDowngraded : Type 0
+FlowsToDowngraded = (p : Priv) (a : Label) → IsTrue (flows_with p a (downgraded p a))
+
+abbrev pub DowngradedIsLeast : Type 0
+DowngradedIsLeast = (p : Priv) (a b : Label) → IsTrue (flows_with p a b) → IsTrue (flows (downgraded p a) b)
+
+-- it is a label where it is not wide
+abbrev pub DowngradedIsLabel : Type 0
+DowngradedIsLabel = (p : Priv) (a : Label) → IsCanonical p.power → IsLabel a → ¬ IsWide (downgraded p a) → IsLabel (downgraded p a)

@@ -2,15 +2,18 @@
 //! nothing: its contract is the law.
 #![tactic(auto, using(crate::proofs::AllLaws::laws))]
 
-ghost use Rattle.lio_labels.specs.Laws.{AllFlowToGreatest, FlowIsAntisymmetric, FlowIsReflexive};
+ghost use Rattle.lio_labels.specs.Laws.{AllFlowToGreatest, DowngradedFlowsBack, DowngradedIsLabel};
+ghost use Rattle.lio_labels.specs.Laws.{DowngradedIsLeast, FlowIsAntisymmetric, FlowIsReflexive};
 ghost use Rattle.lio_labels.specs.Laws.{FlowIsTested, FlowIsTransitive, FlowIsWithPrivilege};
-ghost use Rattle.lio_labels.specs.Laws.{FlowThenPrivilege, JoinIsLabel, JoinIsLeast, JoinWithAbove};
+ghost use Rattle.lio_labels.specs.Laws.{FlowThenPrivilege, FlowsToDowngraded, JoinIsLabel};
+ghost use Rattle.lio_labels.specs.Laws.{JoinIsLeast, JoinWithAbove};
 ghost use Rattle.lio_labels.specs.Laws.{LeastFlowsToAll, LeftFlowsToJoin, MeetFlowsToLeft};
 ghost use Rattle.lio_labels.specs.Laws.{MeetFlowsToRight, MeetIsGreatest, MeetIsLabel};
 ghost use Rattle.lio_labels.specs.Laws.{MeetWithAbove, PrivilegeGrows, PrivilegeIsTested};
 ghost use Rattle.lio_labels.specs.Laws.{PrivilegeThenFlow, RightFlowsToJoin, TruePrivilegeIsFlow};
 ghost use Rattle.lio_labels.specs.IsLabel.{IsLabel};
-ghost use Rattle.lio_labels.specs.LabelPrint.{JoinIsNamed, MeetIsNamed, ReadsPrinted};
+ghost use Rattle.lio_labels.specs.LabelPrint.{DowngradedIsNamed, JoinIsNamed, MeetIsNamed};
+ghost use Rattle.lio_labels.specs.LabelPrint.{ReadsPrinted};
 ghost use Rattle.lio_labels.specs.LabelText.{DerivedIsRead, ReadIsDerived};
 
 use crate::label::Label;
@@ -131,6 +134,32 @@ pub fn flow_then_privilege()
 /// Flow with a privilege followed by flow is flow with that privilege.
 pub fn privilege_then_flow()
     ensures { PrivilegeThenFlow }
+{}
+
+/// As a privilege lowers it, a label flows back to itself.
+pub fn downgraded_flows_back()
+    ensures { DowngradedFlowsBack }
+{}
+
+/// A label flows with a privilege to itself as the privilege lowers it.
+pub fn flows_to_downgraded()
+    ensures { FlowsToDowngraded }
+{}
+
+/// As a privilege lowers it, a label flows to each label that it flows to with the privilege.
+pub fn downgraded_is_least()
+    ensures { DowngradedIsLeast }
+{}
+
+/// A label as a privilege lowers it is a label where it is not wide.
+pub fn downgraded_is_label()
+    ensures { DowngradedIsLabel }
+{}
+
+/// The principals of a label as a privilege lowers it have names where those of the label and of
+/// the privilege have.
+pub fn downgraded_is_named()
+    ensures { DowngradedIsNamed }
 {}
 
 /// The principals of a join have names where those of both labels have.

@@ -129,18 +129,42 @@ fn power_and_content(
     Ok((power, content))
 }
 
+/// Two labels on the heap: the one that a content comes from, and the one that it comes to.
+fn from_and_to(
+    words: &mut Words,
+    alloc: Global,
+    names: &Names,
+) -> Result<(Held<Label>, Held<Label>), FieldFault>
+    ensures source { IfOk result (λ labels. AreNamed names.now labels.0) }
+    ensures target { IfOk result (λ labels. AreNamed names.now labels.1) }
+{
+    let source = held_label(words, alloc, names)?;
+    beside(source, held_label(words, alloc, names))
+}
+
 /// A release: the label that it comes from, the label that it comes to, the privilege's formula,
 /// and the content.
 fn release(words: &mut Words, alloc: Global, names: &Names) -> Result<Act, FieldFault>
     ensures { IfOk result (CanPrint names.now) }
 {
-    let source = held_label(words, alloc, names)?;
-    let (source, target) = beside(source, held_label(words, alloc, names))?;
+    let labels = from_and_to(words, alloc, names)?;
     let ((source, target), (power, content)) = beside(
-        (source, target),
+        labels,
         power_and_content(words, alloc, names),
     )?;
     Ok(Act::Release(source, target, power, content))
+}
+
+/// What is exposed: as a release.
+fn expose(words: &mut Words, alloc: Global, names: &Names) -> Result<Act, FieldFault>
+    ensures { IfOk result (CanPrint names.now) }
+{
+    let labels = from_and_to(words, alloc, names)?;
+    let ((source, target), (power, content)) = beside(
+        labels,
+        power_and_content(words, alloc, names),
+    )?;
+    Ok(Act::Expose(source, target, power, content))
 }
 
 /// An act that makes a node.
@@ -187,6 +211,7 @@ fn act(words: &mut Words, alloc: Global, names: &Names) -> Result<Act, FieldFaul
         "raise" => Ok(Act::Raise(op(words)?, read_label(words, alloc, names)?)),
         "lower" => Ok(Act::Lower(read_label(words, alloc, names)?)),
         "release" => release(words, alloc, names),
+        "expose" => expose(words, alloc, names),
         "ended" => Ok(Act::Ended(held_content(words, alloc, names)?)),
         word => visit(word, words, alloc, names),
     }

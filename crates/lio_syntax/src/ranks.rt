@@ -24,6 +24,7 @@ fn bound_name(simple: &Simple) -> Option<&Name> {
         | Simple::Call(x, ..)
         | Simple::Label(x, ..)
         | Simple::Unlabel(x, ..)
+        | Simple::UnlabelUsing(x, ..)
         | Simple::Relabel(x, ..)
         | Simple::NewRef(x, ..)
         | Simple::NewVar(x, ..)
@@ -170,6 +171,7 @@ impl Ranks {
             Simple::Wait(x, a) => self.rank_one(x, a),
             Simple::LetTwo(x, a, _, b) => self.rank_two(x, a, b),
             Simple::Label(x, a, b) => self.rank_two(x, a, b),
+            Simple::UnlabelUsing(x, a, b) => self.rank_two(x, a, b),
             Simple::NewRef(x, a, b) => self.rank_two(x, a, b),
             Simple::FullVar(x, a, b) => self.rank_two(x, a, b),
             Simple::Relabel(x, a, b, c) => {

@@ -19,11 +19,11 @@ use Rattle.lio_syntax_lines.proofs.InlineLemmas.{Good, good_name, good_literal, 
 use Rattle.lio_syntax_lines.specs.declared.line.Operand.{Operand}
 use Rattle.lio_syntax_lines.specs.declared.line.Operand.TheVariants.{Name, Literal}
 use Rattle.lio_syntax_lines.specs.declared.line.Simple.{Simple}
-use Rattle.lio_syntax_lines.specs.declared.line.Simple.TheVariants.{Let, LetOne, LetTwo, Call, Return, Stop, Throw, Label, Unlabel, Taint, Lower, Relabel, NewRef, NewVar, FullVar, Read, Write, Take, Put, Fork, Spawn, Wait, Send}
+use Rattle.lio_syntax_lines.specs.declared.line.Simple.TheVariants.{Let, LetOne, LetTwo, Call, Return, Stop, Throw, Label, Unlabel, UnlabelUsing, Taint, Lower, Relabel, NewRef, NewVar, FullVar, Read, Write, Take, Put, Fork, Spawn, Wait, Send}
 use Rattle.lio_syntax_lines.specs.declared.line.Line.TheVariants.{Do}
 use Rattle.lio_syntax_lines.specs.Simple.{simple_operands, simple}
 use Rattle.lio_syntax_lines.specs.Line.{form}
-use Rattle.lio_syntax_lines.specs.Forms.{operands, one, two, three, name_one, name_two, name_three, called, call, spawn, fork, unary, binary, expression, assignment, begins_comment}
+use Rattle.lio_syntax_lines.specs.Forms.{operands, one, two, three, name_one, name_two, name_three, called, call, spawn, fork, unary, binary, expression, assignment, with_power, unlabelling, begins_comment}
 use Rattle.lio_syntax_lines.specs.Words.{spaced}
 use Rattle.lio_syntax_lines.specs.Operands.{operand_text, operand_spaced, operands_spaced}
 use Rattle.lio_syntax_lines.specs.Simple.{simple_text}
@@ -74,6 +74,9 @@ good_two op = record { solid = solid_two op; inline = two_inline op }
 good_equals : Good (codes "=")
 good_equals = record { solid = solid_plain _ refl; inline = refl }
 
+good_using : Good (codes "using")
+good_using = record { solid = solid_plain _ refl; inline = refl }
+
 -- operands
 pub good_operand : (names : List (List ℕ)) (a : Operand) → AreNames names → IsOperand names a → Good (operand_text names a)
 good_operand names (Name name) known h = good_name name h
@@ -113,6 +116,7 @@ simple_first Stop = keyword.Stop
 simple_first (Throw a) = keyword.Throw
 simple_first (Label x l a) = keyword.Label
 simple_first (Unlabel x a) = keyword.Unlabel
+simple_first (UnlabelUsing x a p) = keyword.Unlabel
 simple_first (Taint l) = keyword.Taint
 simple_first (Lower l) = keyword.Lower
 simple_first (Relabel x a l p) = keyword.Relabel
@@ -138,6 +142,7 @@ simple_rest names Stop = []
 simple_rest names (Throw a) = operand_text names a ∷ []
 simple_rest names (Label x l a) = x ∷ operand_text names l ∷ operand_text names a ∷ []
 simple_rest names (Unlabel x a) = x ∷ operand_text names a ∷ []
+simple_rest names (UnlabelUsing x a p) = x ∷ operand_text names a ∷ codes "using" ∷ operand_text names p ∷ []
 simple_rest names (Taint l) = operand_text names l ∷ []
 simple_rest names (Lower l) = operand_text names l ∷ []
 simple_rest names (Relabel x a l p) = x ∷ operand_text names a ∷ operand_text names l ∷ operand_text names p ∷ []
@@ -164,6 +169,7 @@ good_simple names Stop known h = tt
 good_simple names (Throw a) known h = (good_operand names a known h, tt)
 good_simple names (Label x l a) known h = (good_name x h.0, (good_operand names l known h.1, (good_operand names a known h.2, tt)))
 good_simple names (Unlabel x a) known h = (good_name x h.0, (good_operand names a known h.1, tt))
+good_simple names (UnlabelUsing x a p) known h = (good_name x h.0, (good_operand names a known h.1, (good_using, (good_operand names p known h.2, tt))))
 good_simple names (Taint l) known h = (good_operand names l known h, tt)
 good_simple names (Lower l) known h = (good_operand names l known h, tt)
 good_simple names (Relabel x a l p) known h = (good_name x h.0, (good_operand names a known h.1, (good_operand names l known h.2, (good_operand names p known h.3, tt))))
@@ -218,6 +224,7 @@ simple_spelled names Stop = refl
 simple_spelled names (Throw a) = spell_one (word_of keyword.Throw) (operand_spaced names a)
 simple_spelled names (Label x l a) = spell_three (word_of keyword.Label) (spaced x) (operand_spaced names l) (operand_spaced names a)
 simple_spelled names (Unlabel x a) = spell_two (word_of keyword.Unlabel) (spaced x) (operand_spaced names a)
+simple_spelled names (UnlabelUsing x a p) = spell_four (word_of keyword.Unlabel) (spaced x) (operand_spaced names a) (spaced (codes "using")) (operand_spaced names p)
 simple_spelled names (Taint l) = spell_one (word_of keyword.Taint) (operand_spaced names l)
 simple_spelled names (Lower l) = spell_one (word_of keyword.Lower) (operand_spaced names l)
 simple_spelled names (Relabel x a l p) = spell_four (word_of keyword.Relabel) (spaced x) (operand_spaced names a) (operand_spaced names l) (operand_spaced names p)
@@ -237,7 +244,7 @@ simple_spelled names (Send c a) = spell_two (word_of keyword.Send) (operand_spac
 
 -- the words of a line are of its form
 pub simple_back : (names : List (List ℕ)) (statement : Simple) → AreNames names → IsSimple names statement → simple names (simple_first statement) (simple_rest names statement) ≡ Some statement
-unfolding simple assignment expression unary binary one two three name_one name_two name_three called call spawn fork
+unfolding simple assignment expression unary binary one two three name_one name_two name_three called call spawn fork with_power unlabelling
 simple_back names (Let x a) known h = rw (h.0, operand_back names a known h.1) refl
 simple_back names (LetOne x op a) known h = rw (h.0, one_back op, operand_back names a known h.1) refl
 simple_back names (LetTwo x a op b) known h = rw (h.0, operand_back names a known h.1, two_back op, operand_back names b known h.2) refl
@@ -247,6 +254,7 @@ simple_back names Stop known h = refl
 simple_back names (Throw a) known h = rw (operand_back names a known h) refl
 simple_back names (Label x l a) known h = rw (h.0, operand_back names l known h.1, operand_back names a known h.2) refl
 simple_back names (Unlabel x a) known h = rw (h.0, operand_back names a known h.1) refl
+simple_back names (UnlabelUsing x a p) known h = rw (h.0, operand_back names a known h.1, operand_back names p known h.2) refl
 simple_back names (Taint l) known h = rw (operand_back names l known h) refl
 simple_back names (Lower l) known h = rw (operand_back names l known h) refl
 simple_back names (Relabel x a l p) known h = rw (h.0, operand_back names a known h.1, operand_back names l known h.2, operand_back names p known h.3) refl
@@ -285,6 +293,7 @@ operands_made names Stop h = All-nil (IsOperand names)
 operands_made names (Throw a) h = made_one names a h
 operands_made names (Label x l a) h = made_two names l a h.1 h.2
 operands_made names (Unlabel x a) h = made_one names a h.1
+operands_made names (UnlabelUsing x a p) h = made_two names a p h.1 h.2
 operands_made names (Taint l) h = made_one names l h
 operands_made names (Lower l) h = made_one names l h
 operands_made names (Relabel x a l p) h = All-cons (IsOperand names) a (l ∷ p ∷ []) h.1 (made_two names l p h.2 h.3)

@@ -6,7 +6,7 @@ use Rattle.lio_syntax_lines.specs.declared.keyword.Keyword.{Keyword}
 use Rattle.lio_syntax_lines.specs.declared.keyword.Keyword.TheVariants as keyword
 use Rattle.lio_syntax_lines.specs.declared.line.Operand.{Operand}
 use Rattle.lio_syntax_lines.specs.declared.line.Simple.{Simple}
-use Rattle.lio_syntax_lines.specs.declared.line.Simple.TheVariants.{Let, LetOne, LetTwo}
+use Rattle.lio_syntax_lines.specs.declared.line.Simple.TheVariants.{Let, LetOne, LetTwo, Unlabel, UnlabelUsing}
 use Rattle.lio_syntax_lines.specs.declared.line.Line.{Line}
 use Rattle.lio_syntax_lines.specs.declared.line.ParsedLine.{ParsedLine}
 use Rattle.lio_syntax_lines.specs.declared.line.ParsedLine.TheVariants.{Invalid, Says}
@@ -175,6 +175,18 @@ assignment names ws = do
   x ← name_at ws
   value ← behind_equals x.rest
   expression names x.value value
+
+-- behind `unlabel X A`: nothing, or `using P`
+unfoldable pub with_power : List (List ℕ) → List ℕ → Operand → List (List ℕ) → Option Simple
+with_power names x a [] = Some (Unlabel x a)
+with_power names x a (word ∷ rest) = if bytes_eq word (codes "using") then option_map (UnlabelUsing x a) (one names rest) else None
+
+-- X A, and what stands behind it
+unfoldable pub unlabelling : List (List ℕ) → List (List ℕ) → Option Simple
+unlabelling names ws = do
+  x ← name_at ws
+  a ← operand_at names x.rest
+  with_power names x.value a.value a.rest
 
 -- what is read, or an invalid line
 abbrev pub parsed : Option Line → ParsedLine

@@ -5,13 +5,13 @@ use Rattle.lio_syntax_lines.specs.declared.keyword.Keyword.{Keyword}
 use Rattle.lio_syntax_lines.specs.declared.keyword.Keyword.TheVariants as keyword
 use Rattle.lio_syntax_lines.specs.declared.line.Operand.{Operand}
 use Rattle.lio_syntax_lines.specs.declared.line.Simple.{Simple}
-use Rattle.lio_syntax_lines.specs.declared.line.Simple.TheVariants.{Let, LetOne, LetTwo, Call, Return, Stop, Throw, Label, Unlabel, Taint, Lower, Relabel, NewRef, NewVar, FullVar, Read, Write, Take, Put, Fork, Spawn, Wait, Send}
+use Rattle.lio_syntax_lines.specs.declared.line.Simple.TheVariants.{Let, LetOne, LetTwo, Call, Return, Stop, Throw, Label, Unlabel, UnlabelUsing, Taint, Lower, Relabel, NewRef, NewVar, FullVar, Read, Write, Take, Put, Fork, Spawn, Wait, Send}
 use Rattle.lio_syntax_lines.specs.Keyword.{word_of}
 use Rattle.lio_syntax_lines.specs.Operators.{one_word, two_word}
 use Rattle.lio_syntax_lines.specs.Words.{spaced}
 use Rattle.lio_syntax_lines.specs.Literals.{IsName}
 use Rattle.lio_syntax_lines.specs.Operands.{IsOperand, operand_spaced, operands_spaced}
-use Rattle.lio_syntax_lines.specs.Forms.{ended, one, two, name_one, name_two, name_three, call, spawn, fork, assignment}
+use Rattle.lio_syntax_lines.specs.Forms.{ended, one, two, name_one, name_two, name_three, call, spawn, fork, assignment, unlabelling}
 
 -- the statement that begins with the word, if there is such a form
 unfoldable pub simple : List (List ℕ) → Keyword → List (List ℕ) → Option Simple
@@ -21,7 +21,7 @@ simple names keyword.Return ws = option_map Return (one names ws)
 simple names keyword.Stop ws = ended Stop ws
 simple names keyword.Throw ws = option_map Throw (one names ws)
 simple names keyword.Label ws = option_map (λ p. Label p.0 p.1 p.2) (name_two names ws)
-simple names keyword.Unlabel ws = option_map (λ p. Unlabel p.0 p.1) (name_one names ws)
+simple names keyword.Unlabel ws = unlabelling names ws
 simple names keyword.Taint ws = option_map Taint (one names ws)
 simple names keyword.Lower ws = option_map Lower (one names ws)
 simple names keyword.Relabel ws = option_map (λ p. Relabel p.0 p.1 p.2 p.3) (name_three names ws)
@@ -55,6 +55,7 @@ simple_text names Stop = word_of keyword.Stop
 simple_text names (Throw a) = word_of keyword.Throw ++ operand_spaced names a
 simple_text names (Label x l a) = word_of keyword.Label ++ spaced x ++ operand_spaced names l ++ operand_spaced names a
 simple_text names (Unlabel x a) = word_of keyword.Unlabel ++ spaced x ++ operand_spaced names a
+simple_text names (UnlabelUsing x a p) = word_of keyword.Unlabel ++ spaced x ++ operand_spaced names a ++ spaced (codes "using") ++ operand_spaced names p
 simple_text names (Taint l) = word_of keyword.Taint ++ operand_spaced names l
 simple_text names (Lower l) = word_of keyword.Lower ++ operand_spaced names l
 simple_text names (Relabel x a l p) = word_of keyword.Relabel ++ spaced x ++ operand_spaced names a ++ operand_spaced names l ++ operand_spaced names p
@@ -81,6 +82,7 @@ IsSimple names Stop = Unit {0}
 IsSimple names (Throw a) = IsOperand names a
 IsSimple names (Label x l a) = IsName x × IsOperand names l × IsOperand names a
 IsSimple names (Unlabel x a) = IsName x × IsOperand names a
+IsSimple names (UnlabelUsing x a p) = IsName x × IsOperand names a × IsOperand names p
 IsSimple names (Taint l) = IsOperand names l
 IsSimple names (Lower l) = IsOperand names l
 IsSimple names (Relabel x a l p) = IsName x × IsOperand names a × IsOperand names l × IsOperand names p
@@ -107,6 +109,7 @@ simple_operands Stop = []
 simple_operands (Throw a) = a ∷ []
 simple_operands (Label x l a) = l ∷ a ∷ []
 simple_operands (Unlabel x a) = a ∷ []
+simple_operands (UnlabelUsing x a p) = a ∷ p ∷ []
 simple_operands (Taint l) = l ∷ []
 simple_operands (Lower l) = l ∷ []
 simple_operands (Relabel x a l p) = a ∷ l ∷ p ∷ []

@@ -38,6 +38,8 @@ pub enum Simple {
     Label(Name, Operand, Operand),
     /// `unlabel X A`
     Unlabel(Name, Operand),
+    /// `unlabel X A using P`
+    UnlabelUsing(Name, Operand, Operand),
     /// `taint L`
     Taint(Operand),
     /// `lower L`

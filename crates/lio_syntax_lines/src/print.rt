@@ -193,6 +193,11 @@ impl Simple {
             Simple::Throw(a) => print_one(out, names, Keyword::Throw, a),
             Simple::Label(x, l, a) => print_name_two(out, names, Keyword::Label, x, l, a),
             Simple::Unlabel(x, a) => print_name_one(out, names, Keyword::Unlabel, x, a),
+            Simple::UnlabelUsing(x, a, p) => {
+                print_name_one(out, names, Keyword::Unlabel, x, a)?;
+                print_word(out, b"using")?;
+                print_operand(out, names, p)
+            }
             Simple::Taint(l) => print_one(out, names, Keyword::Taint, l),
             Simple::Lower(l) => print_one(out, names, Keyword::Lower, l),
             Simple::Relabel(x, a, l, p) => {

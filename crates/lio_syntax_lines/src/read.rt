@@ -6,13 +6,14 @@ ghost use Rattle.lio_syntax_lines.specs.Forms as spec;
 ghost use Rattle.lio_syntax_lines.specs.Line as line_spec;
 ghost use Rattle.lio_syntax_lines.specs.Line.{line_of};
 ghost use Rattle.lio_syntax_lines.specs.Literals.{IsName};
+ghost use Rattle.lio_syntax_lines.specs.Operands.{IsOperand};
 ghost use Rattle.lio_syntax_lines.specs.Simple as simple_spec;
 ghost use Rattle.lio_syntax_lines.specs.Simple.{IsSimple};
 ghost use Rattle.lio_syntax_lines.specs.Line.{IsLine, IsParsed};
 
 use crate::fault::LineFault;
 use crate::forms::{Words, read_operand};
-use crate::line::{Line, ParsedLine, Simple};
+use crate::line::{Line, Operand, ParsedLine, Simple};
 use crate::{Keyword, One, Two, without_return};
 use lio_clauses::{Names, NoMemory, beside};
 use lio_values::Name;
@@ -94,6 +95,45 @@ fn assignment(alloc: Global, names: &Names, words: &mut Words) -> Result<Simple,
     }
 }
 
+/// What stands behind `unlabel X A`: nothing, or `using P`
+#[tactic(auto, unfolding(crate::specs::Forms::with_power))]
+fn with_power(
+    alloc: Global,
+    names: &Names,
+    x: Name,
+    a: Operand,
+    words: &mut Words,
+) -> Result<Simple, LineFault>
+    requires name { IsName x }
+    requires operand { IsOperand names.now a }
+    ensures ok { IfOk result (λ simple. spec.with_power names.now x a words.old ≡ Some simple) }
+    ensures sound { IfOk result (IsSimple names.now) }
+    ensures invalid { IfErr result
+        (λ fault. fault ≡ LineFault.Invalid → spec.with_power names.now x a words.old ≡ None) }
+{
+    match words.next() {
+        None => Ok(Simple::Unlabel(x, a)),
+        Some(word) if word == b"using".as_slice() => {
+            let (a, p) = beside(a, words.one(alloc, names))?;
+            Ok(Simple::UnlabelUsing(x, a, p))
+        }
+        Some(_) => Err(LineFault::Invalid),
+    }
+}
+
+/// What stands behind `unlabel`
+#[tactic(auto, unfolding(crate::specs::Forms::unlabelling))]
+fn unlabelling(alloc: Global, names: &Names, words: &mut Words) -> Result<Simple, LineFault>
+    ensures ok { IfOk result (λ simple. spec.unlabelling names.now words.old ≡ Some simple) }
+    ensures sound { IfOk result (IsSimple names.now) }
+    ensures invalid { IfErr result
+        (λ fault. fault ≡ LineFault.Invalid → spec.unlabelling names.now words.old ≡ None) }
+{
+    let x = words.name(alloc)?;
+    let a = words.operand(alloc, names)?;
+    with_power(alloc, names, x, a, words)
+}
+
 /// The statement that begins with the keyword, if it begins one.
 #[tactic(auto, unfolding(crate::specs::Simple::simple))]
 fn read_simple(
@@ -125,10 +165,7 @@ fn read_simple(
             let (x, l, a) = words.name_two(alloc, names)?;
             Ok(Simple::Label(x, l, a))
         }
-        Keyword::Unlabel => {
-            let (x, a) = words.name_one(alloc, names)?;
-            Ok(Simple::Unlabel(x, a))
-        }
+        Keyword::Unlabel => unlabelling(alloc, names, words),
         Keyword::Taint => Ok(Simple::Taint(words.one(alloc, names)?)),
         Keyword::Lower => Ok(Simple::Lower(words.one(alloc, names)?)),
         Keyword::Relabel => {

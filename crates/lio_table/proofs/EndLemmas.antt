@@ -341,6 +341,7 @@ ready-no_end state (act.Seal l) ready = refl
 ready-no_end state (act.Raise op l) ready = refl
 ready-no_end state (act.Lower l) ready = refl
 ready-no_end state (act.Release source target power content) ready = refl
+ready-no_end state (act.Expose source target power content) ready = refl
 ready-no_end state (act.NewRef l value) ready = refl
 ready-no_end state (act.NewVar l value) ready = refl
 ready-no_end state (act.Fork birth) ready = refl

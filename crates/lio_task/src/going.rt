@@ -375,14 +375,35 @@ impl Task {
         let content = released(alloc, act)?;
         self.go_bind(alloc, script, name, Value::Sealed(label, content))
     }
+
+    /// Raises the current label, and binds a name to the content that an act exposes; a fault in it
+    /// is thrown instead.
+    fn go_expose(
+        &mut self,
+        alloc: Global,
+        script: &Script,
+        name: &Name,
+        label: Label,
+        act: &Act,
+    ) -> Done
+        requires at { AtStatement (state_in script.now self.old).items }
+        requires cleared { IsTrue (flows label self.old.clearance) }
+        ensures ok { OnOk result (state_in script.now self.new
+            ≡ going.given (record (spent (state_in script.now self.old)) { label = label })
+            name.now (going.released act.now)) }
+        ensures err { OnErr result (state_in script.now self.new ≡ state_in script.now self.old) }
+    {
+        let content = released(alloc, act)?;
+        self.go_unlabel(alloc, script, name, label, content.into_inner())
+    }
 }
 
-/// The content that an act releases.
+/// The content that an act releases or exposes.
 fn released(alloc: Global, act: &Act) -> Result<Held<Content>, NoMemory>
     ensures { IfOk result (λ content. content ≡ released act.now) }
 {
     match act {
-        Act::Release(_, _, _, content) => content.copy(alloc),
+        Act::Release(_, _, _, content) | Act::Expose(_, _, _, content) => content.copy(alloc),
         _ => Held::new(alloc, Content::Hidden),
     }
 }

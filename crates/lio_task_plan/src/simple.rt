@@ -43,6 +43,9 @@ pub(crate) fn plan_simple<'s>(
         Simple::Throw(value) => plan_throw(alloc, task, value),
         Simple::Label(name, label, value) => task.plan_label(alloc, name, label, value),
         Simple::Unlabel(name, value) => task.plan_unlabel(alloc, name, value),
+        Simple::UnlabelUsing(name, value, power) => {
+            task.plan_unlabel_using(alloc, name, value, power)
+        }
         Simple::Taint(label) => task.plan_taint(alloc, label),
         Simple::Lower(label) => task.plan_lower(alloc, label),
         Simple::Relabel(name, value, label, power) => {

@@ -51,6 +51,7 @@ onward_of lines simple (onward.RaiseTo label) = going.RaiseTo label simple
 onward_of lines simple (onward.Unlabel name label source content) = going.Unlabel name.now label source content
 onward_of lines simple (onward.Lower clearance) = going.Lower clearance
 onward_of lines simple (onward.Release name label) = going.Release name.now label
+onward_of lines simple (onward.Expose name label) = going.Expose name.now label
 onward_of lines simple (onward.HoldReference name label) = going.HoldReference name.now label
 onward_of lines simple (onward.HoldVariable name label) = going.HoldVariable name.now label
 onward_of lines simple (onward.Fork name label cells turns) = going.Fork name.now label cells turns

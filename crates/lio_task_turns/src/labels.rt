@@ -1,4 +1,4 @@
-//! Sealing, unlabelling, raising, lowering and releasing.
+//! Sealing, unlabelling, raising, lowering, releasing and exposing.
 #![tactic(auto, unfolding(lio_calculus::specs::Plan::plan_simple))]
 
 ghost use Rattle.std.specs.Prelude.{◌≡◌, IfOk};
@@ -14,7 +14,7 @@ use crate::operands;
 use crate::standing::Standing;
 use crate::turn::{Attempt, Onward, Turn};
 use lio_clauses::{NoMemory, beside};
-use lio_guards::{Verdict, guard_relabel};
+use lio_guards::{Verdict, guard_expose, guard_relabel};
 use lio_labels::{Label, Priv};
 use lio_syntax_lines::Operand;
 use lio_values::{Act, Content, FaultKind, Held, Name, Op, Plain, Reply};
@@ -25,6 +25,7 @@ impl Standing<'_> {
     ghost use Rattle.lio_syntax_lines.specs.declared.line.Line.{Line};
     ghost use Rattle.lio_syntax_lines.specs.declared.line.Simple.TheVariants as line;
     ghost use Rattle.lio_calculus.specs.Plan as plan;
+    ghost use Rattle.lio_guards.specs.declared.verdict.Verdict.TheVariants as verdict;
     ghost use Rattle.lio_values.specs.declared.act.Act.TheVariants as act;
     ghost use Rattle.lio_values.specs.declared.value.Content.TheVariants as content;
     ghost use Rattle.lio_task_turns.specs.Turns.{Is, Lowers, Plans, Seals, Taints, Unlabels};
@@ -210,6 +211,68 @@ impl Standing<'_> {
         let (kind, act) = beside(kind, hidden_release(alloc, source, target, power))?;
         self.refused(alloc, act, kind)
     }
+
+    /// `unlabel X A using P`
+    pub fn plan_unlabel_using<'s>(
+        &self,
+        alloc: Global,
+        name: &'s Name,
+        value: &Operand,
+        power: &Operand,
+    ) -> Attempt<'s>
+        ensures { IfOk result (Plans self.now
+            (line.UnlabelUsing name.now value.now power.now)) }
+    {
+        let environment = self.environment();
+        let Some((source, content)) = operands::sealed(environment, value) else {
+            return self.bad_type(alloc);
+        };
+        let Some(power) = operands::power(environment, power) else {
+            return self.bad_type(alloc);
+        };
+        self.exposing(alloc, name, source, content, power)
+    }
+
+    /// The exposure of a content that is sealed under a label, by a privilege.
+    fn exposing<'s>(
+        &self,
+        alloc: Global,
+        name: &'s Name,
+        source: &Label,
+        content: &Content,
+        power: &Priv,
+    ) -> Attempt<'s>
+        ensures { IfOk result (λ planned. Is self.now planned
+            (λ (lines : List Line). plan.exposing (state_of lines self.now) name.now
+            (record { label = source.now; content = content.now }) power.now)) }
+    {
+        match guard_expose(alloc, self.label, self.clearance, source, power)? {
+            Verdict::Go(label) => expose_turn(alloc, name, source, content, power, label),
+            Verdict::No(kind) => self.refused_expose(alloc, source, power, kind),
+        }
+    }
+
+    /// A refused exposure, which shows no content. Its second label is the one that doesn't flow to
+    /// the clearance, or the source's where a label is too wide.
+    fn refused_expose<'s>(
+        &self,
+        alloc: Global,
+        source: &Label,
+        power: &Priv,
+        kind: FaultKind,
+    ) -> Attempt<'s>
+        ensures { IfOk result (λ planned. planned ≡ refusal self.now (act.Expose source.now
+            (plan.exposed_to source.now (verdict.No kind)) power.now content.Hidden) kind) }
+    {
+        let act = match &kind {
+            FaultKind::FlowRaise(raised, _clearance) => {
+                expose_act(alloc, source, raised, power, &Content::Hidden)
+            }
+            _ => expose_act(alloc, source, source, power, &Content::Hidden),
+        };
+        let (kind, act) = beside(kind, act)?;
+        self.refused(alloc, act, kind)
+    }
 }
 
 /// The turn that seals a plain value.
@@ -343,4 +406,39 @@ fn release_act(
     let labels = both(held_label(alloc, source), held_label(alloc, target));
     let (content, (by, (from, to))) = beside(content, both(power.copy(alloc), labels))?;
     Ok(Act::Release(from, to, by, content))
+}
+
+/// The turn that exposes a content, and raises the current label to `label`.
+fn expose_turn<'s>(
+    alloc: Global,
+    name: &'s Name,
+    source: &Label,
+    content: &Content,
+    power: &Priv,
+    label: Label,
+) -> Attempt<'s>
+    ensures { IfOk result (λ made. made ≡ turn.Own (act.Expose source.now label power.now
+        content.now) reply.Done (onward.Expose name.entry label)) }
+{
+    let act = expose_act(alloc, source, &label, power, content);
+    let (label, act) = beside(label, act)?;
+    Ok(Turn::Own(act, Reply::Done, Onward::Expose(name, label)))
+}
+
+/// The exposure of a content that is sealed under a label, by a privilege, at a raised label.
+fn expose_act(
+    alloc: Global,
+    source: &Label,
+    target: &Label,
+    power: &Priv,
+    content: &Content,
+) -> Result<Act, NoMemory>
+    ensures { IfOk result (λ made. made ≡ act.Expose source.now target.now power.now content.now) }
+{
+    let labels = both(held_label(alloc, source), held_label(alloc, target));
+    let (by, ((from, to), content)) = both(
+        power.copy(alloc),
+        both(labels, held_content(alloc, content)),
+    )?;
+    Ok(Act::Expose(from, to, by, content))
 }

@@ -58,6 +58,8 @@ pub enum Onward<'s> {
     Lower(Label),
     /// The name is bound to the content that was released, sealed under the label.
     Release(&'s Name, Label),
+    /// At the raised label, with the content that was exposed bound to the name, or thrown.
+    Expose(&'s Name, Label),
     /// The name is bound to the handle of the new reference.
     HoldReference(&'s Name, Label),
     /// The name is bound to the handle of the new variable.

@@ -118,24 +118,27 @@ acts = exact_variants act_type.enum _ (
         (
           exact_more labels (exact_more labels (exact_more privileges (exact_last contents))),
           (
-            exact_more labels (exact_last values),
+            exact_more labels (exact_more labels (exact_more privileges (exact_last contents))),
             (
-              exact_more labels (exact_last (exact_options values)),
+              exact_more labels (exact_last values),
               (
-                exact_last births,
+                exact_more labels (exact_last (exact_options values)),
                 (
                   exact_last births,
                   (
-                    exact_point,
+                    exact_last births,
                     (
-                      exact_last values,
+                      exact_point,
                       (
-                        exact_point,
+                        exact_last values,
                         (
-                          exact_last values,
+                          exact_point,
                           (
-                            exact_point,
-                            (exact_last (exact_lists exact_numbers), (exact_last contents, tt)),
+                            exact_last values,
+                            (
+                              exact_point,
+                              (exact_last (exact_lists exact_numbers), (exact_last contents, tt)),
+                            ),
                           ),
                         ),
                       ),

@@ -9,7 +9,7 @@ use Rattle.lio_values.specs.declared.value.Content.TheVariants.{Hidden}
 use Rattle.lio_values.specs.declared.value.Value.{Value}
 use Rattle.lio_values.specs.declared.value.Value.TheVariants.{Bare, Sealed}
 use Rattle.lio_values.specs.declared.act.Act.{Act}
-use Rattle.lio_values.specs.declared.act.Act.TheVariants.{Release, NewRef, NewVar, Fork, Spawn, Write, Put, Step, Seal, Raise, Lower, Read, Take, Wait, Send, Ended}
+use Rattle.lio_values.specs.declared.act.Act.TheVariants.{Release, Expose, NewRef, NewVar, Fork, Spawn, Write, Put, Step, Seal, Raise, Lower, Read, Take, Wait, Send, Ended}
 use Rattle.lio_values.specs.declared.act.Birth.{Birth}
 use Rattle.lio_values.specs.declared.act.Reply.{Reply}
 use Rattle.lio_values.specs.declared.act.Reply.TheVariants.{Got, Done, Told, Refused}
@@ -53,6 +53,7 @@ birth_erased_below lower higher birth below = ap (λ (args : List Value). record
 act_erased_below : (lower higher : Label) (act : Act) → IsTrue (flows lower higher)
     → erase_act lower (erase_act higher act) ≡ erase_act lower act
 act_erased_below lower higher (Release source target power content) below = ap (Release source target power) (content_erased_below lower higher target content below)
+act_erased_below lower higher (Expose source target power content) below = ap (Expose source target power) (content_erased_below lower higher target content below)
 act_erased_below lower higher (NewRef label value) below = ap (NewRef label) (value_erased_below lower higher value below)
 act_erased_below lower higher (NewVar label value) below = ap (NewVar label) (option_erased_below lower higher value below)
 act_erased_below lower higher (Fork birth) below = ap Fork (birth_erased_below lower higher birth below)

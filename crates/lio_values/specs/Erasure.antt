@@ -9,7 +9,7 @@ use Rattle.lio_values.specs.declared.value.Content.TheVariants.{Hidden}
 use Rattle.lio_values.specs.declared.value.Value.{Value}
 use Rattle.lio_values.specs.declared.value.Value.TheVariants.{Bare, Sealed}
 use Rattle.lio_values.specs.declared.act.Act.{Act}
-use Rattle.lio_values.specs.declared.act.Act.TheVariants.{Step, Seal, Raise, Lower, Release, NewRef, NewVar, Fork, Spawn, Read, Write, Take, Put, Wait, Send, Ended}
+use Rattle.lio_values.specs.declared.act.Act.TheVariants.{Step, Seal, Raise, Lower, Release, Expose, NewRef, NewVar, Fork, Spawn, Read, Write, Take, Put, Wait, Send, Ended}
 use Rattle.lio_values.specs.declared.act.Birth.{Birth}
 use Rattle.lio_values.specs.declared.act.Reply.{Reply}
 use Rattle.lio_values.specs.declared.act.Reply.TheVariants.{Done, Got, Told, Refused}
@@ -28,9 +28,10 @@ erase_value observer (Sealed label content) = Sealed label (erase_content observ
 abbrev pub erase_birth : Label → Birth → Birth
 erase_birth observer birth = record birth { args = map (erase_value observer) birth.args }
 
--- an act, with its values erased; the content of a release is hidden where the label that it comes to doesn't flow to the observer's
+-- an act, with its values erased; the content of a release or of an exposure is hidden where the label that it comes to doesn't flow to the observer's
 abbrev pub erase_act : Label → Act → Act
 erase_act observer (Release source target power content) = Release source target power (erase_content observer target content)
+erase_act observer (Expose source target power content) = Expose source target power (erase_content observer target content)
 erase_act observer (NewRef label value) = NewRef label (erase_value observer value)
 erase_act observer (NewVar label value) = NewVar label (option_map (erase_value observer) value)
 erase_act observer (Fork birth) = Fork (erase_birth observer birth)

@@ -67,6 +67,9 @@ pub enum Act {
     Lower(Label),
     /// Releases a content from the first label to the second by a privilege.
     Release(Held<Label>, Held<Label>, Priv, Held<Content>),
+    /// Opens what has the first label by a privilege, and raises the current label to the second:
+    /// by what the privilege doesn't cover.
+    Expose(Held<Label>, Held<Label>, Priv, Held<Content>),
     /// Makes a reference with this label that holds the value.
     NewRef(Label, Held<Value>),
     /// Makes a variable with this label, which is full where there is a value.
@@ -171,6 +174,22 @@ pub(crate) fn released(
     Ok(Act::Release(source, target, power, content))
 }
 
+/// An act that exposes a content, with copies of its labels and of its privilege.
+pub(crate) fn exposed(
+    alloc: Global,
+    source: &Held<Label>,
+    target: &Held<Label>,
+    power: &Priv,
+    content: Held<Content>,
+) -> Result<Act, NoMemory>
+    ensures { IfOk result
+        (λ expose. expose ≡ act.Expose source.now target.now power.now content) }
+{
+    let (content, power) = beside(content, power.copy(alloc))?;
+    let (content, (source, target)) = beside(content, copied_labels(alloc, source, target))?;
+    Ok(Act::Expose(source, target, power, content))
+}
+
 impl Act {
     /// An equal act.
     pub fn copy(&self, alloc: Global) -> Result<Act, NoMemory>
@@ -183,6 +202,9 @@ impl Act {
             Act::Lower(label) => Ok(Act::Lower(label.copy(alloc)?)),
             Act::Release(source, target, power, content) => {
                 released(alloc, source, target, power, content.copy(alloc)?)
+            }
+            Act::Expose(source, target, power, content) => {
+                exposed(alloc, source, target, power, content.copy(alloc)?)
             }
             Act::NewRef(label, value) => Ok(Act::NewRef(label.copy(alloc)?, value.copy(alloc)?)),
             Act::NewVar(label, value) => Ok(Act::NewVar(label.copy(alloc)?, value.copy(alloc)?)),

@@ -6,7 +6,7 @@ ghost use Rattle.std.specs.Option.{option_map};
 ghost use Rattle.lio_values.specs.Erasure.{erase_content, erase_value, erase_birth, erase_act};
 ghost use Rattle.lio_values.specs.Erasure.{erase_reply, erase_entry};
 
-use crate::act::{Act, Birth, Reply, released};
+use crate::act::{Act, Birth, Reply, exposed, released};
 use crate::entry::Entry;
 use crate::held::Held;
 use crate::list::List;
@@ -118,6 +118,10 @@ impl Act {
                 let content = content.erase(alloc, observer, target.get())?;
                 released(alloc, source, target, power, content)
             }
+            Act::Expose(source, target, power, content) => {
+                let seen = content.erase(alloc, observer, target.get())?;
+                exposed(alloc, source, target, power, seen)
+            }
             Act::NewRef(label, value) => Ok(Act::NewRef(
                 label.copy(alloc)?,
                 value.erase(alloc, observer)?,
@@ -157,8 +161,8 @@ impl Reply {
 
 impl Entry {
     /// The entry as an observer at the label `observer` sees it: all its values are erased, and the
-    /// content of a release is hidden where the label that it comes to doesn't flow to the
-    /// observer's. Source: the erasure of the concurrent calculus of LIO, ICFP 2012.
+    /// content of a release or an exposure is hidden where the label that it comes to doesn't flow
+    /// to the observer's. Source: the erasure of the concurrent calculus of LIO, ICFP 2012.
     pub fn erase(&self, alloc: Global, observer: &Label) -> Result<Entry, NoMemory>
         ensures { IfOk result (λ entry. entry ≡ erase_entry observer.now self.now) }
     {

@@ -9,7 +9,7 @@ use Rattle.lio_values.specs.declared.value.Content.TheVariants.{Hidden}
 use Rattle.lio_values.specs.declared.value.Value.{Value}
 use Rattle.lio_values.specs.declared.value.Value.TheVariants.{Bare, Sealed}
 use Rattle.lio_values.specs.declared.act.Act.{Act}
-use Rattle.lio_values.specs.declared.act.Act.TheVariants.{Step, Seal, Raise, Lower, Release, NewRef, NewVar, Fork, Spawn, Read, Write, Take, Put, Wait, Send, Ended}
+use Rattle.lio_values.specs.declared.act.Act.TheVariants.{Step, Seal, Raise, Lower, Release, Expose, NewRef, NewVar, Fork, Spawn, Read, Write, Take, Put, Wait, Send, Ended}
 use Rattle.lio_values.specs.declared.act.Birth.{Birth}
 use Rattle.lio_values.specs.declared.act.Reply.{Reply}
 use Rattle.lio_values.specs.declared.act.Reply.TheVariants.{Done, Got, Told, Refused}
@@ -54,6 +54,7 @@ birth-fits observer birth fits =
 
 act-fits : (observer : Label) (act : Act) → ActFits act → ActFits (erase_act observer act)
 act-fits observer (Release source target power content) fits = (fits.0, fits.1, fits.2, content-fits observer target content fits.3)
+act-fits observer (Expose source target power content) fits = (fits.0, fits.1, fits.2, content-fits observer target content fits.3)
 act-fits observer (NewRef label value) fits = (fits.0, value-fits observer value fits.1)
 act-fits observer (NewVar label value) fits = (fits.0, option-fits observer value fits.1)
 act-fits observer (Fork birth) fits = birth-fits observer birth fits

@@ -32,11 +32,16 @@ record Needs (observer : Label) (look : ℕ → Cell) (p : Plan) : Type 0 where
   moves : move_of look p ≡ Some move
   needs : opened observer move.act move.reply [] ≡ None
 
--- an act that isn't a release needs none
+-- an act that is no release and no exposure needs none
 needs-release : (observer : Label) (look other : ℕ → Cell) (asked : Act) (target : Target) (onward : Onward) → opened observer asked (answer (met target (look (number_of target)).state) asked) [] ≡ None → Needs observer other (Visit asked target onward)
 unfolding opened answer
 needs-release observer look other (act.Release source to power content) target onward needs = record {
   move = record { act = act.Release source to power content; target = Some target; reply = answer (met target (other (number_of target)).state) (act.Release source to power content); onward = onward };
+  moves = refl;
+  needs = needs;
+}
+needs-release observer look other (act.Expose source to power content) target onward needs = record {
+  move = record { act = act.Expose source to power content; target = Some target; reply = answer (met target (other (number_of target)).state) (act.Expose source to power content); onward = onward };
   moves = refl;
   needs = needs;
 }

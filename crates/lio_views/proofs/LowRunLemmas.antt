@@ -45,6 +45,8 @@ opened-more : (observer : Label) (asked : Act) (reply : Reply) (contents more : 
 unfolding opened
 opened-more observer (act.Release source target power content) Done contents more o is =
     release-more observer (act.Release source target power content) target (act.Release source target power) content contents more o is
+opened-more observer (act.Expose source target power content) Done contents more o is =
+    release-more observer (act.Expose source target power content) target (act.Expose source target power) content contents more o is
 opened-more observer asked reply contents more o is = kept-more asked contents more o is
 
 -- a turn takes the same contents where more are behind them

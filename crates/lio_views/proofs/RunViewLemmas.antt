@@ -33,15 +33,17 @@ use Rattle.lio_views.proofs.LackLemmas.{complete-lacks_none}
 use Rattle.lio_views.proofs.ViewLemmas.{releases-first}
 use Rattle.lio_views.proofs.WalkLemmas.{rounds_come_or_lack}
 
+-- what comes to the observer isn't hidden from it
+shown-twice : (content : Content) (above below : Bool) → (if above && below then (if below then content else Hidden) ∷ [] else []) ≡ (if above && below then content ∷ [] else [])
+shown-twice content true true = refl
+shown-twice content true false = refl
+shown-twice content false below = refl
+
 -- what an erased act releases is what the act releases
 released-erased : (observer : Label) (asked : Act) (reply : Reply) → released_to observer (erase_act observer asked) (erase_reply observer reply) ≡ released_to observer asked reply
 unfolding released_to erase_content
-released-erased observer (act.Release source target power content) Done = by (not (flows source observer)) (flows target observer)
-  where
-    by : (above below : Bool) → (if above && below then (if below then content else Hidden) ∷ [] else []) ≡ (if above && below then content ∷ [] else [])
-    by true true = refl
-    by true false = refl
-    by false below = refl
+released-erased observer (act.Release source target power content) Done = shown-twice content (not (flows source observer)) (flows target observer)
+released-erased observer (act.Expose source target power content) Done = shown-twice content (not (flows source observer)) (flows target observer)
 released-erased observer asked reply = refl
 
 releases-view-one : (observer : Label) (ticket : ℕ) (entry : Entry) (entries : List Entry) → (flows entry.at observer ≡ false → released_to observer entry.act entry.reply ≡ [])

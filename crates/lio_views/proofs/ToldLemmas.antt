@@ -16,7 +16,7 @@ use Rattle.lio_calculus.specs.Task.{TaskState}
 use Rattle.lio_calculus.specs.Plan.{Plan, Over, Own, Visit, plan}
 use Rattle.lio_calculus.specs.Hiding.{hide_asked, hide_plan, hide_task}
 use Rattle.lio_calculus.specs.Step.{Cell, Configuration, Move, cell_at, met, move_of, number_of, waits}
-use Rattle.lio_calculus.specs.Erased.{LowTurn, Opened, erase, low, low_turn, low_with, opened, taking_front}
+use Rattle.lio_calculus.specs.Erased.{LowTurn, Opened, erase, low, low_turn, low_with, opened, opened_release, taking_front}
 use Rattle.lio_calculus.specs.Sound.{IsTaskOf}
 use Rattle.lio_calculus.proofs.PlanHidden.{plan-hidden}
 use Rattle.lio_calculus_rounds.proofs.LowTurnLemmas.{low-parts}
@@ -80,42 +80,50 @@ above-lists observer source target shown e = ap (λ (b : Bool). length (if not (
     none true = refl
     none false = refl
 
+-- what a release or an exposure of a content shows to the observer
+abbrev listed : Label → Label → Label → Content → List Content
+listed observer source target content = if not (flows source observer) && flows target observer then erase_content observer target content ∷ [] else []
+
+-- a content that isn't hidden is kept, and nothing is listed
+kept-opens : (observer source target : Label) (into : Content → Act) (content : Content) (contents : List Content) (o : Opened) → (content ≡ Hidden → ⊥) → erase_content observer source content ≡ content
+    → Some (let here : Opened = record { act = into content; left = contents } in here) ≡ Some o → (held : Content) × (into held ≡ o.act) × (length (listed observer source target held) + length o.left ≤ length contents)
+kept-opens observer source target into content contents o held is opens =
+    let same : record { act = into content; left = contents } ≡ o = cc in
+    let none = kept-lists observer source target (erase_content observer target content) (held-seen observer source content held is) in
+    let left : contents ≡ o.left = ap (λ (x : Opened). x.left) same in
+    (content, ap (λ (x : Opened). x.act) same, subst (λ (cs : List Content). length (listed observer source target content) + length cs ≤ length contents) left (omega (arith, none)))
+
+-- a release or an exposure, whatever act its content makes, takes as many contents as it lists
+opening-lists : (observer source target : Label) (into : Content → Act) (hidden : Content) (contents : List Content) (o : Opened) → erase_content observer source hidden ≡ hidden
+    → opened_release observer (into hidden) target into hidden contents ≡ Some o → (content : Content) × (into content ≡ o.act) × (length (listed observer source target content) + length o.left ≤ length contents)
+opening-lists observer source target into Hidden contents o held is = by (flows target observer) refl contents is
+  where
+    by : (b : Bool) → flows target observer ≡ b → (contents : List Content)
+        → (if b then taking_front (into Hidden) into contents else Some (let here : Opened = record { act = into Hidden; left = contents } in here)) ≡ Some o
+        → (content : Content) × (into content ≡ o.act) × (length (listed observer source target content) + length o.left ≤ length contents)
+    by true e [] i = absurd (cc)
+    by true e (content ∷ contents) i =
+        let same : record { act = into content; left = contents } ≡ o = cc in
+        let most = one-most (not (flows source observer) && flows target observer) (erase_content observer target content) in
+        let left : contents ≡ o.left = ap (λ (x : Opened). x.left) same in
+        (content, ap (λ (x : Opened). x.act) same, subst (λ (cs : List Content). length (listed observer source target content) + length cs ≤ suc (length contents)) left (omega (arith, most)))
+    by false e contents i =
+        let same : record { act = into Hidden; left = contents } ≡ o = cc in
+        let none = above-lists observer source target (erase_content observer target Hidden) e in
+        let left : contents ≡ o.left = ap (λ (x : Opened). x.left) same in
+        (Hidden, ap (λ (x : Opened). x.act) same, subst (λ (cs : List Content). length (listed observer source target Hidden) + length cs ≤ length contents) left (omega (arith, none)))
+opening-lists observer source target into (Kept plain) contents o held is = kept-opens observer source target into (Kept plain) contents o (λ e. absurd (cc)) held is
+opening-lists observer source target into (Faulted fault) contents o held is = kept-opens observer source target into (Faulted fault) contents o (λ e. absurd (cc)) held is
+
 -- an act that is seen so takes at least as many contents as it releases
 pub opened-lists : (observer : Label) (asked : Act) (reply : Reply) (contents : List Content) (o : Opened) → hide_asked observer asked ≡ asked → opened observer asked reply contents ≡ Some o
     → length (released_to observer (erase_act observer o.act) (erase_reply observer reply)) + length o.left ≤ length contents
 unfolding opened released_to hide_asked
-opened-lists observer (act.Release source target power Hidden) Done contents o hidden is = by (flows target observer) refl contents is
+opened-lists observer (act.Release source target power content) Done contents o hidden is =
+    let l = opening-lists observer source target (act.Release source target power) content contents o (held_in hidden) is in
+    subst (λ (a : Act). length (released_to observer (erase_act observer a) Done) + length o.left ≤ length contents) l.1 l.2
   where
-    lists : Content → List Content → ℕ
-    lists content left = length (released_to observer (erase_act observer (act.Release source target power content)) Done) + length left
-
-    by : (b : Bool) → flows target observer ≡ b → (contents : List Content)
-        → (if b then taking_front (act.Release source target power Hidden) (act.Release source target power) contents else Some (let here : Opened = record { act = act.Release source target power Hidden; left = contents } in here)) ≡ Some o
-        → length (released_to observer (erase_act observer o.act) Done) + length o.left ≤ length contents
-    by true e [] i = absurd (cc)
-    by true e (content ∷ contents) i =
-        let same : record { act = act.Release source target power content; left = contents } ≡ o = cc in
-        let most = one-most (not (flows source observer) && flows target observer) (erase_content observer target content) in
-        subst (λ (x : Opened). length (released_to observer (erase_act observer x.act) Done) + length x.left ≤ suc (length contents)) same (omega (arith, most))
-    by false e contents i =
-        let same : record { act = act.Release source target power Hidden; left = contents } ≡ o = cc in
-        let none = above-lists observer source target (erase_content observer target Hidden) e in
-        subst (λ (x : Opened). length (released_to observer (erase_act observer x.act) Done) + length x.left ≤ length contents) same (omega (arith, none))
-opened-lists observer (act.Release source target power (Kept plain)) Done contents o hidden is =
-    let same : record { act = act.Release source target power (Kept plain); left = contents } ≡ o = cc in
-    let inner : erase_content observer source (Kept plain) ≡ Kept plain = held_in hidden in
-    let none = kept-lists observer source target (erase_content observer target (Kept plain)) (held-seen observer source (Kept plain) (λ e. absurd (cc)) inner) in
-    subst (λ (x : Opened). length (released_to observer (erase_act observer x.act) Done) + length x.left ≤ length contents) same (omega (arith, none))
-  where
-    held_in : act.Release source target power (erase_content observer source (Kept plain)) ≡ act.Release source target power (Kept plain) → erase_content observer source (Kept plain) ≡ Kept plain
-    held_in e = cc
-opened-lists observer (act.Release source target power (Faulted fault)) Done contents o hidden is =
-    let same : record { act = act.Release source target power (Faulted fault); left = contents } ≡ o = cc in
-    let inner : erase_content observer source (Faulted fault) ≡ Faulted fault = held_in hidden in
-    let none = kept-lists observer source target (erase_content observer target (Faulted fault)) (held-seen observer source (Faulted fault) (λ e. absurd (cc)) inner) in
-    subst (λ (x : Opened). length (released_to observer (erase_act observer x.act) Done) + length x.left ≤ length contents) same (omega (arith, none))
-  where
-    held_in : act.Release source target power (erase_content observer source (Faulted fault)) ≡ act.Release source target power (Faulted fault) → erase_content observer source (Faulted fault) ≡ Faulted fault
+    held_in : act.Release source target power (erase_content observer source content) ≡ act.Release source target power content → erase_content observer source content ≡ content
     held_in e = cc
 opened-lists observer (act.Release source target power content) (Got value) contents o hidden is =
     let same : record { act = act.Release source target power content; left = contents } ≡ o = cc in
@@ -125,6 +133,21 @@ opened-lists observer (act.Release source target power content) (Told told) cont
     subst (λ (x : Opened). length (released_to observer (erase_act observer x.act) (erase_reply observer (Told told))) + length x.left ≤ length contents) same (omega arith)
 opened-lists observer (act.Release source target power content) (Refused fault) contents o hidden is =
     let same : record { act = act.Release source target power content; left = contents } ≡ o = cc in
+    subst (λ (x : Opened). length (released_to observer (erase_act observer x.act) (erase_reply observer (Refused fault))) + length x.left ≤ length contents) same (omega arith)
+opened-lists observer (act.Expose source target power content) Done contents o hidden is =
+    let l = opening-lists observer source target (act.Expose source target power) content contents o (held_in hidden) is in
+    subst (λ (a : Act). length (released_to observer (erase_act observer a) Done) + length o.left ≤ length contents) l.1 l.2
+  where
+    held_in : act.Expose source target power (erase_content observer source content) ≡ act.Expose source target power content → erase_content observer source content ≡ content
+    held_in e = cc
+opened-lists observer (act.Expose source target power content) (Got value) contents o hidden is =
+    let same : record { act = act.Expose source target power content; left = contents } ≡ o = cc in
+    subst (λ (x : Opened). length (released_to observer (erase_act observer x.act) (erase_reply observer (Got value))) + length x.left ≤ length contents) same (omega arith)
+opened-lists observer (act.Expose source target power content) (Told told) contents o hidden is =
+    let same : record { act = act.Expose source target power content; left = contents } ≡ o = cc in
+    subst (λ (x : Opened). length (released_to observer (erase_act observer x.act) (erase_reply observer (Told told))) + length x.left ≤ length contents) same (omega arith)
+opened-lists observer (act.Expose source target power content) (Refused fault) contents o hidden is =
+    let same : record { act = act.Expose source target power content; left = contents } ≡ o = cc in
     subst (λ (x : Opened). length (released_to observer (erase_act observer x.act) (erase_reply observer (Refused fault))) + length x.left ≤ length contents) same (omega arith)
 opened-lists observer (act.NewRef label value) reply contents o hidden is =
     let same : record { act = act.NewRef label value; left = contents } ≡ o = cc in
@@ -142,35 +165,35 @@ pub record Takes (observer : Label) (asked : Act) (reply : Reply) (contents : Li
 takes-none : (asked : Act) (contents : List Content) (o : Opened) → Some (let here : Opened = record { act = asked; left = contents } in here) ≡ Some o → (contents ≡ o.left) × (asked ≡ o.act)
 takes-none asked contents o is = let same : record { act = asked; left = contents } ≡ o = cc in (ap (λ (x : Opened). x.left) same, ap (λ (x : Opened). x.act) same)
 
-pub opened-takes : (observer : Label) (asked : Act) (reply : Reply) (contents : List Content) (o : Opened) → opened observer asked reply contents ≡ Some o → Takes observer asked reply contents o
-unfolding opened
-opened-takes observer (act.Release source target power Hidden) Done contents o is = by (flows target observer) refl contents is
+-- a release or an exposure, whatever act its content makes
+opening-takes : (observer target : Label) (into : Content → Act) (hidden : Content) (contents : List Content) (o : Opened) → opened_release observer (into hidden) target into hidden contents ≡ Some o
+    → (taken : List Content) × (contents ≡ taken ++ o.left) × (opened_release observer (into hidden) target into hidden taken ≡ Some (record { act = o.act; left = [] }))
+opening-takes observer target into Hidden contents o is = by (flows target observer) refl contents is
   where
-    hidden : Act
-    hidden = act.Release source target power Hidden
-
-    opens : (b : Bool) → flows target observer ≡ b → (taken : List Content) → opened observer hidden Done taken ≡ (if b then taking_front hidden (act.Release source target power) taken else Some (record { act = hidden; left = taken }))
-    opens b e taken = ap (λ (x : Bool). if x then taking_front hidden (act.Release source target power) taken else Some (let here : Opened = record { act = hidden; left = taken } in here)) e
+    opens : (b : Bool) → flows target observer ≡ b → (taken : List Content) → opened_release observer (into Hidden) target into Hidden taken ≡ (if b then taking_front (into Hidden) into taken else Some (record { act = into Hidden; left = taken }))
+    opens b e taken = ap (λ (x : Bool). if x then taking_front (into Hidden) into taken else Some (let here : Opened = record { act = into Hidden; left = taken } in here)) e
 
     by : (b : Bool) → flows target observer ≡ b → (contents : List Content)
-        → (if b then taking_front hidden (act.Release source target power) contents else Some (let here : Opened = record { act = hidden; left = contents } in here)) ≡ Some o → Takes observer hidden Done contents o
+        → (if b then taking_front (into Hidden) into contents else Some (let here : Opened = record { act = into Hidden; left = contents } in here)) ≡ Some o
+        → (taken : List Content) × (contents ≡ taken ++ o.left) × (opened_release observer (into Hidden) target into Hidden taken ≡ Some (record { act = o.act; left = [] }))
     by true e [] i = absurd (cc)
     by true e (content ∷ contents) i =
-        let same : record { act = act.Release source target power content; left = contents } ≡ o = cc in
-        record {
-          taken = content ∷ [];
-          splits = ap (λ (x : Opened). content ∷ x.left) same;
-          enough = opens true e (content ∷ []) ∙ ap (λ (x : Opened). let here : Opened = record { act = x.act; left = [] } in Some here) same;
-        }
+        let same : record { act = into content; left = contents } ≡ o = cc in
+        (content ∷ [], ap (λ (x : Opened). content ∷ x.left) same, opens true e (content ∷ []) ∙ ap (λ (x : Opened). let here : Opened = record { act = x.act; left = [] } in Some here) same)
     by false e contents i =
-        let p = takes-none hidden contents o i in
-        record { taken = []; splits = p.0; enough = opens false e [] ∙ ap (λ (a : Act). let here : Opened = record { act = a; left = [] } in Some here) p.1 }
-opened-takes observer (act.Release source target power (Kept plain)) Done contents o is =
-    let p = takes-none (act.Release source target power (Kept plain)) contents o is in
-    record { taken = []; splits = p.0; enough = ap (λ (a : Act). let here : Opened = record { act = a; left = [] } in Some here) p.1 }
-opened-takes observer (act.Release source target power (Faulted fault)) Done contents o is =
-    let p = takes-none (act.Release source target power (Faulted fault)) contents o is in
-    record { taken = []; splits = p.0; enough = ap (λ (a : Act). let here : Opened = record { act = a; left = [] } in Some here) p.1 }
+        let p = takes-none (into Hidden) contents o i in
+        ([], p.0, opens false e [] ∙ ap (λ (a : Act). let here : Opened = record { act = a; left = [] } in Some here) p.1)
+opening-takes observer target into (Kept plain) contents o is =
+    let p = takes-none (into (Kept plain)) contents o is in ([], p.0, ap (λ (a : Act). let here : Opened = record { act = a; left = [] } in Some here) p.1)
+opening-takes observer target into (Faulted fault) contents o is =
+    let p = takes-none (into (Faulted fault)) contents o is in ([], p.0, ap (λ (a : Act). let here : Opened = record { act = a; left = [] } in Some here) p.1)
+
+pub opened-takes : (observer : Label) (asked : Act) (reply : Reply) (contents : List Content) (o : Opened) → opened observer asked reply contents ≡ Some o → Takes observer asked reply contents o
+unfolding opened
+opened-takes observer (act.Release source target power content) Done contents o is =
+    let t = opening-takes observer target (act.Release source target power) content contents o is in record { taken = t.0; splits = t.1; enough = t.2 }
+opened-takes observer (act.Expose source target power content) Done contents o is =
+    let t = opening-takes observer target (act.Expose source target power) content contents o is in record { taken = t.0; splits = t.1; enough = t.2 }
 opened-takes observer asked reply contents o is =
     let p = takes-none asked contents o is in
     record { taken = []; splits = p.0; enough = ap (λ (a : Act). let here : Opened = record { act = a; left = [] } in Some here) p.1 }

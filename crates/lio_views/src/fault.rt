@@ -29,7 +29,7 @@ impl From<NoMemory> for ViewFault {
 /// Why the view of a run by rounds can't be computed.
 #[derive(Debug, Clone, Copy, PartialEq, Eq, Error)]
 pub enum RerunFault {
-    /// The task with this number releases a content that wasn't told.
+    /// The task with this number releases or exposes a content that wasn't told.
     #[error("no content is left that task {0} releases")]
     NoRelease(u32),
     /// No memory was left.

@@ -16,6 +16,8 @@ enum Part {
     Name(&'static str),
     /// A name or a value.
     Operand(&'static str),
+    /// A word of the form's own, by which it was found.
+    Word(&'static str),
 }
 
 /// The words of a form behind the first.
@@ -34,6 +36,10 @@ const VALUE: Part = Part::Operand("a value");
 const LABEL: Part = Part::Operand("a label");
 
 const RESULT: Part = Part::Name("the name that is bound");
+
+const SEALED: Part = Part::Operand("a sealed value");
+
+const PRIVILEGE: Part = Part::Operand("a privilege");
 
 const TURNS: Part = Part::Operand("the child's turns");
 
@@ -85,18 +91,10 @@ fn form_of(keyword: Keyword) -> Form {
         Keyword::Stop => closed_form("stop", &[]),
         Keyword::Throw => closed_form("throw A", &[VALUE]),
         Keyword::Label => closed_form("label X L A", &[RESULT, LABEL, VALUE]),
-        Keyword::Unlabel => closed_form("unlabel X A", &[RESULT, Part::Operand("a sealed value")]),
+        Keyword::Unlabel => closed_form("unlabel X A", &[RESULT, SEALED]),
         Keyword::Taint => closed_form("taint L", &[LABEL]),
         Keyword::Lower => closed_form("lower L", &[LABEL]),
-        Keyword::Relabel => closed_form(
-            "relabel X A L P",
-            &[
-                RESULT,
-                Part::Operand("a sealed value"),
-                LABEL,
-                Part::Operand("a privilege"),
-            ],
-        ),
+        Keyword::Relabel => closed_form("relabel X A L P", &[RESULT, SEALED, LABEL, PRIVILEGE]),
         Keyword::NewRef => closed_form("newref X L A", &[RESULT, LABEL, VALUE]),
         Keyword::NewVar => closed_form("newvar X L", &[RESULT, LABEL]),
         Keyword::FullVar => closed_form("fullvar X L A", &[RESULT, LABEL, VALUE]),
@@ -120,6 +118,21 @@ fn form_of(keyword: Keyword) -> Form {
     }
 }
 
+/// The form of an `unlabel` with a privilege.
+const USING: Form = Form {
+    text: "unlabel X A using P",
+    parts: &[RESULT, SEALED, Part::Word("using"), PRIVILEGE],
+    more: false,
+};
+
+/// The form of a line that begins with a first word and goes on with these words.
+fn form_meant(keyword: Keyword, behind: &[Word<'_>]) -> Form {
+    match (keyword, behind) {
+        (Keyword::Unlabel, [_, _, word, ..]) if word.is("using") => USING,
+        _ => form_of(keyword),
+    }
+}
+
 /// What is wrong with the words behind a first word. `end` is how many bytes the line has.
 pub(crate) fn form_mistake(
     alloc: Global,
@@ -133,7 +146,7 @@ pub(crate) fn form_mistake(
         Keyword::Let => let_mistake(alloc, names, behind, end),
         Keyword::Proc => procedure_mistake(alloc, behind, end),
         _ => {
-            let form = form_of(keyword);
+            let form = form_meant(keyword, behind);
             parts_mistake(alloc, names, &form, first, behind, end)
         }
     }
@@ -173,6 +186,7 @@ fn part_mistake(alloc: Global, names: &Names, part: Part, word: Word<'_>) -> Fou
     match part {
         Part::Name(_) => name_mistake(alloc, word),
         Part::Operand(_) => operand_mistake(alloc, names, word),
+        Part::Word(_) => Ok(None),
     }
 }
 
@@ -192,7 +206,7 @@ fn operands_mistake(alloc: Global, names: &Names, words: &[Word<'_>]) -> Found {
 /// A word of a form that isn't there.
 fn missing(alloc: Global, form: &Form, part: Part, end: usize) -> Found {
     let what = match part {
-        Part::Name(what) | Part::Operand(what) => what,
+        Part::Name(what) | Part::Operand(what) | Part::Word(what) => what,
     };
     let text = form.text;
     found(end, format!(in alloc; "{what} is missing here: {text}"))

@@ -65,6 +65,7 @@ impl Task {
                 Ok(())
             }
             Onward::Release(name, label) => self.go_release(alloc, script, name, label, act),
+            Onward::Expose(name, label) => self.go_expose(alloc, script, name, label, act),
             Onward::HoldReference(name, label) => {
                 let handle = Plain::RefOf(self.newest(label));
                 self.go_hold(alloc, script, name, handle, 0)
