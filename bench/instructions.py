@@ -47,6 +47,21 @@ write r i
 end
 end
 '''),
+    ('lists', 'lists that get 16 items: push, at, a loop', 1, '''proc main c
+let loop = true
+while loop
+let l = []
+let i = 0
+let go = true
+while go
+let l = l push i
+let x = l at i
+let i = i + 1
+let go = i < 16
+end
+end
+end
+'''),
     ('send', 'sends of 40 bytes', 1, '''proc main c
 let go = true
 while go

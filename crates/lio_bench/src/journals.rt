@@ -2,7 +2,7 @@
 //! to the observer.
 ghost use Rattle.std.specs.Prelude.{◌≡◌, All, IfOk, true, length, []};
 ghost use Rattle.lio_events.specs.JournalText.{journal_text};
-ghost use Rattle.lio_events.specs.Printable.{IsActNamed, IsPrintable, IsRaiseOf};
+ghost use Rattle.lio_events.specs.Printable.{ActKeepsPure, IsActNamed, IsPrintable, IsRaiseOf};
 
 use lio_clauses::{Formula, Names, NoMemory};
 use lio_events::{Journal, print_journal, releases, view};
@@ -17,6 +17,7 @@ const TEXT: &[u8] = b"abcdefghijklmnopqrst";
 fn release(alloc: Global) -> Result<Act, NoMemory>
     ensures named { IfOk result (IsActNamed []) }
     ensures raise { IfOk result IsRaiseOf }
+    ensures pure { IfOk result ActKeepsPure }
 {
     let content = Content::Kept(Plain::Bytes(Text::of(alloc, TEXT)?));
     let content = Held::new(alloc, content)?;
@@ -32,6 +33,7 @@ fn release(alloc: Global) -> Result<Act, NoMemory>
 fn act_of(alloc: Global, ticket: u32) -> Result<Act, NoMemory>
     ensures named { IfOk result (IsActNamed []) }
     ensures raise { IfOk result IsRaiseOf }
+    ensures pure { IfOk result ActKeepsPure }
 {
     if ticket % 2 == 0 {
         Ok(Act::Send(Text::of(alloc, TEXT)?))

@@ -138,7 +138,7 @@ fn count_whole(alloc: Global, times: u32) -> Result<(), CountFault> {
 /// So many turns of the task in the erased calculus.
 fn turns(alloc: Global, low: &mut Low, times: u32) -> Result<(), LowFault> {
     let mut contents = Contents::new(alloc);
-    for _ in 0..times {
+    for _turn in 0..times {
         let entry = low.turn(alloc, TASK, &mut contents)?;
         drop(entry);
     }

@@ -30,7 +30,7 @@ use Rattle.lio_calculus.proofs.SoundAfter.{bound-map, task-map, Extends, value-e
 -- a property of a plan's values that follows from another
 pub onward-map : (P Q : Value → Type 0) → ((v : Value) → P v → Q v) → (asked : Act) (onward : Onward) → EachInOnward P asked onward → EachInOnward Q asked onward
 onward-map P Q implies asked (Bind name value) p = implies value p
-onward-map P Q implies asked (Seal name label plain) p = implies _ p
+onward-map P Q implies asked (Seal name label plain) p = (implies _ p.0, p.1)
 onward-map P Q implies asked (Call name environment body) p = bound-map P Q implies environment p
 onward-map P Q implies asked (Return value) p = implies value p
 onward-map P Q implies asked (Leave caller name) p = bound-map P Q implies caller p

@@ -53,7 +53,7 @@ given-each P closed task name Hidden source each p = record { environment = bind
 -- the values of a task
 pub gone-each : (P : Value → Type 0) → IsClosed P → (task : TaskState) (onward : Onward) (asked : Act) (reply : Reply) → EachInTask P task → EachInOnward P asked onward → EachInReply P reply → EachHandle P task onward → EachInTask P (gone task onward asked reply)
 gone-each P closed task (Bind name value) asked reply each p r h = record { environment = bind-each P task.environment name value each.environment p; items = each.items }
-gone-each P closed task (Seal name label plain) asked reply each p r h = record { environment = bind-each P task.environment name _ each.environment (closed.seal label plain p); items = each.items }
+gone-each P closed task (Seal name label plain) asked reply each p r h = record { environment = bind-each P task.environment name _ each.environment (closed.seal label plain p.1 p.0); items = each.items }
 gone-each P closed task (Enter block) asked reply each p r h = record { environment = each.environment; items = enter-all (EachInItem P) (λ s. tt) block task.items each.items }
 gone-each P closed task (Repeat condition block) asked reply each p r h =
     record { environment = each.environment; items = enter-all (EachInItem P) (λ s. tt) block (Do (While condition block) ∷ task.items) (All-cons (EachInItem P) (Do (While condition block)) task.items tt each.items) }

@@ -13,11 +13,11 @@ use Rattle.lio_values.specs.Erasure.{erase_content, erase_value, erase_reply}
 use Rattle.lio_syntax.specs.Statements.{While}
 use Rattle.lio_calculus.specs.Task.{TaskState}
 use Rattle.lio_task_control.specs.Items.{Item, Do, Mark, Back, enter}
-use Rattle.lio_calculus.specs.Going.{Onward, Advance, Bind, Seal, Enter, Repeat, Try, Call, Return, Leave, Unlabel, Release, Expose, HoldReference, HoldVariable, Fork, BindReply, Throw, End, binding, throwing, given, replied, released, taking, newest, gone}
+use Rattle.lio_calculus.specs.Going.{Onward, Advance, Bind, Seal, Enter, Repeat, Try, Call, Return, Leave, Unlabel, Release, Expose, HoldReference, HoldVariable, Fork, BindReply, Throw, End, binding, given, released, taking, newest, gone}
 use Rattle.lio_task_control.specs.Hiding.{hide_environment}
 use Rattle.lio_task_control.proofs.HidingLemmas.{enter-hidden}
 use Rattle.lio_calculus.specs.Hiding.{hide_task, hide_onward}
-use Rattle.lio_calculus.proofs.GoingLemmas.{returned-hidden, at-hidden, binding-hidden, throwing-hidden, given-hidden, replied-hidden}
+use Rattle.lio_calculus.proofs.GoingLemmas.{returned-hidden, at-hidden, binding-hidden, bound-alike, throwing-hidden, given-hidden, replied-hidden}
 use Rattle.lio_calculus.proofs.TwiceLemmas.{hide_task-twice}
 
 -- what a way of going on asks of the task's act and of what the observer may learn: an unlabelled content is one that it may learn, since the task is seen at
@@ -31,15 +31,6 @@ Agrees observer onward act seen = Unit {0}
 learned : (observer source : Label) (content : Content) → IsTrue (flows source observer) → erase_content observer source content ≡ content
 unfolding erase_content
 learned observer source content may = rw may refl
-
--- a binding of what is seen alike
-bound-alike : (observer : Label) (task : TaskState) (name : List ℕ) (value seen : Value) → erase_value observer seen ≡ erase_value observer value
-    → hide_task observer (binding (hide_task observer task) name seen) ≡ hide_task observer (binding task name value)
-bound-alike observer task name value seen alike =
-    sym (binding-hidden observer (hide_task observer task) name seen)
-    ∙ ap (λ (t : TaskState). binding t name (erase_value observer seen)) (hide_task-twice observer task)
-    ∙ ap (λ (v : Value). binding (hide_task observer task) name v) alike
-    ∙ binding-hidden observer task name value
 
 -- from one that goes on alike before it is hidden once more
 once_more : (observer : Label) (seen task : TaskState) → seen ≡ hide_task observer task → hide_task observer seen ≡ hide_task observer task
@@ -73,18 +64,18 @@ gone-hidden observer task (Return value) act seen reply agrees =
 gone-hidden observer task (Leave caller name) act seen reply agrees =
     once_more observer _ (gone task (Leave caller name) act reply) (binding-hidden observer (record task { environment = caller }) name _)
 gone-hidden observer task (Unlabel name label source content) act seen reply agrees =
-    rw (learned observer source content agrees) (once_more observer _ (given (record task { label = label }) name content) (given-hidden observer (record task { label = label }) name content))
+    rw (learned observer source content agrees) (given-hidden observer (record task { label = label }) name content)
 gone-hidden observer task (Release name label) act seen reply agrees = bound-alike observer task name _ _ (ap (Sealed label) agrees)
 gone-hidden observer task (Expose name label) act seen reply agrees =
     let same : released seen ≡ released act = sym (learned observer label (released seen) agrees.0) ∙ agrees.1 ∙ learned observer label (released act) agrees.0 in
     ap (λ (content : Content). hide_task observer (given (record (hide_task observer task) { label = label }) name content)) same
-    ∙ once_more observer _ (given (record task { label = label }) name (released act)) (given-hidden observer (record task { label = label }) name (released act))
+    ∙ given-hidden observer (record task { label = label }) name (released act)
 gone-hidden observer task (HoldReference name label) act seen reply agrees = once_more observer _ (gone task (HoldReference name label) act reply) (holding-hidden observer task name (Bare (RefOf (newest task label))) 0 refl)
 gone-hidden observer task (HoldVariable name label) act seen reply agrees = once_more observer _ (gone task (HoldVariable name label) act reply) (holding-hidden observer task name (Bare (VarOf (newest task label))) 0 refl)
 gone-hidden observer task (Fork name label cells turns) act seen reply agrees =
     once_more observer _ (gone task (Fork name label cells turns) act reply)
     (ap (λ (t : TaskState). record t { turns = task.turns - turns }) (holding-hidden observer task name (Bare (ResultOf (newest task label))) cells refl))
-gone-hidden observer task (BindReply name) act seen reply agrees = once_more observer _ (replied task name reply) (replied-hidden observer task name reply)
-gone-hidden observer task (Throw fault) act seen reply agrees = once_more observer _ (throwing task fault) (throwing-hidden observer task fault)
+gone-hidden observer task (BindReply name) act seen reply agrees = replied-hidden observer task name reply
+gone-hidden observer task (Throw fault) act seen reply agrees = throwing-hidden observer task fault
 gone-hidden observer task End act seen reply agrees = refl
 gone-hidden observer task onward act seen reply agrees = once_more observer _ (gone task onward act reply) refl

@@ -40,3 +40,5 @@ pub mod PowerLemmas
 pub mod HandleLemmas
 pub mod SendLemmas
 pub mod EffectLemmas
+pub mod TurnEach
+pub mod PurityLemmas

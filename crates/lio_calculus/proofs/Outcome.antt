@@ -1,5 +1,5 @@
 -- What the plan of a statement that opens no block can be, case by case: the statement with what it looked up, and the plan.
-use Rattle.std.proofs.Common.{◌≡◌, ◌∙◌, refl, ap, ℕ, ◌+◌, ◌-◌, ◌<◌, ◌≤◌, Bool, true, false, if◌then◌else◌, nat_le, List, Option, Some, None, Result, Ok, Err, arith, []}
+use Rattle.std.proofs.Common.{◌≡◌, ◌∙◌, refl, ap, subst, IsTrue, ℕ, ◌+◌, ◌-◌, ◌<◌, ◌≤◌, Bool, true, false, if◌then◌else◌, nat_le, List, Option, Some, None, Result, Ok, Err, arith, []}
 use Rattle.std.specs.Prelude.{option_and_then, slice_get, ◌==◌}
 use Rattle.std.proofs.lemmas.Bool.Decides.{nat_tests}
 use Rattle.lio_labels.specs.declared.label.Label.{Label}
@@ -30,10 +30,11 @@ use Rattle.lio_operators.specs.Operators.{operate1, operate2}
 use Rattle.lio_cells.specs.State.{Kind, Reference, Variable, Channel, Result as result}
 use Rattle.lio_task_control.specs.Environment.{bind_all}
 use Rattle.lio_task_control.specs.Items.{open_calls}
-use Rattle.lio_calculus.specs.Operands.{bound, all_bound, Labelled, sealed_of, seen_as, label_of, power_of, text_of, reference_of, variable_of, result_of, channel_of, count_of}
+use Rattle.lio_values.specs.Measures.{is_pure}
+use Rattle.lio_calculus.specs.Operands.{bound, all_bound, pure_of, Labelled, sealed_of, seen_as, label_of, power_of, text_of, reference_of, variable_of, result_of, channel_of, count_of}
 use Rattle.lio_calculus.specs.Task.{TaskState}
 use Rattle.lio_calculus.specs.Going.{Onward, Bind, Seal, Call, Return, Raise, RaiseTo, Unlabel, Lower, Release, Expose, HoldReference, HoldVariable, Fork, Spawn, BindReply, Advance}
-use Rattle.lio_calculus.specs.Plan.{Program, Plan, Own, Visit, Node, New, stepping, refused, bad_type, ending, verdict_on, procedure_at, birth_of, with_seen, with_verdict, with_cells, with_turns, computed, calling, returning, raising, new_variable, exposed_to, plan_simple}
+use Rattle.lio_calculus.specs.Plan.{Program, Plan, Own, Visit, Node, New, stepping, refused, bad_type, ending, verdict_on, procedure_at, birth_of, with_seen, with_verdict, with_cells, with_turns, computed, calling, returning, raising, new_variable, exposed_to, plan_simple, ending_with}
 use Rattle.lio_calculus.proofs.SoundLemmas.{seen-plain}
 
 -- a statement with an access: the operation of its raise; and the act, the node and the way of going on of the access, whose handle it names
@@ -126,13 +127,13 @@ pub data Outcome (program : Program) (task : TaskState) : Simple → Plan → Ty
       → Outcome program task (line.Call x p arguments) (stepping (Call x (bind_all [] procedure.parameters vs) procedure.body))
   IsTooDeep : {x p : List ℕ} {arguments : List Operand} → Outcome program task (line.Call x p arguments) (refused task act.Step Depth)
   Returns : {a : Operand} {value : Value} → bound task.environment a ≡ Some value → Outcome program task (line.Return a) (stepping (Return value))
-  Finishes : {a : Operand} {plain : Plain} → bound task.environment a ≡ Some (Bare plain)
+  Finishes : {a : Operand} {plain : Plain} → bound task.environment a ≡ Some (Bare plain) → IsTrue (is_pure plain)
       → Outcome program task (line.Return a) (ending (Kept plain))
   Stops : Outcome program task line.Stop (ending (Kept unit))
-  Throws : {a : Operand} {plain : Plain} → bound task.environment a ≡ Some (Bare plain)
+  Throws : {a : Operand} {plain : Plain} → bound task.environment a ≡ Some (Bare plain) → IsTrue (is_pure plain)
       → Outcome program task (line.Throw a) (refused task act.Step (User plain))
   Seals : {x : List ℕ} {l a : Operand} {label : Label} {plain : Plain} → seen_as label_of task.environment l ≡ Some label
-      → bound task.environment a ≡ Some (Bare plain) → Outcome program task (line.Label x l a) (Own (act.Seal label) Done (Seal x label plain))
+      → bound task.environment a ≡ Some (Bare plain) → IsTrue (is_pure plain) → Outcome program task (line.Label x l a) (Own (act.Seal label) Done (Seal x label plain))
   Unlabels : {x : List ℕ} {a : Operand} {sealed : Labelled} {current : Label} → option_and_then sealed_of (bound task.environment a) ≡ Some sealed
       → verdict_on task op.Unlabel sealed.label ≡ Go current
       → Outcome program task (line.Unlabel x a) (Own (act.Raise op.Unlabel sealed.label) Done (Unlabel x current sealed.label sealed.content))
@@ -176,14 +177,17 @@ pub data Outcome (program : Program) (task : TaskState) : Simple → Plan → Ty
       → Outcome program task (line.Spawn t n p arguments)
       (Visit (act.Spawn (birth_of place vs task.clearance task.clearance turns (task.first + 1) cells)) (New task.first) (Spawn cells turns))
 
--- a view without a kind shows a bare value
-seen-bare : (task : TaskState) (a : Operand) (plain : Plain) → seen_as Some task.environment a ≡ Some plain → bound task.environment a ≡ Some (Bare plain)
-seen-bare task a plain e =
-    let seen = seen-plain Some task.environment a plain e in
-    let is : seen.0 ≡ plain = inner seen.0 plain seen.2 in seen.1 ∙ ap (λ (p : Plain). Some (Bare p)) is
+-- a view of pure values shows a bare value that is pure
+seen-pure : (task : TaskState) (a : Operand) (plain : Plain) → seen_as pure_of task.environment a ≡ Some plain
+    → (bound task.environment a ≡ Some (Bare plain)) × IsTrue (is_pure plain)
+seen-pure task a plain e =
+    let seen = seen-plain pure_of task.environment a plain e in
+    let pure = by seen.0 (is_pure seen.0) refl seen.2 in
+    (seen.1 ∙ ap (λ (p : Plain). Some (Bare p)) pure.0, pure.1)
   where
-    inner : (p q : Plain) → Some p ≡ Some q → p ≡ q
-    inner p q h = cc
+    by : (p : Plain) (b : Bool) → is_pure p ≡ b → (if b then Some p else None) ≡ Some plain → (p ≡ plain) × IsTrue (is_pure plain)
+    by p true is found = let same : p ≡ plain = cc in (same, subst (λ (q : Plain). IsTrue (is_pure q)) same is)
+    by p false is found = absurd (cc)
 
 nat_le-tells : (m n : ℕ) → nat_le m n ≡ true → m ≤ n
 nat_le-tells m n e = grind (arith, nat_tests)
@@ -245,7 +249,11 @@ module _ (program : Program) (task : TaskState) where
       if-out (nat_le 64 (open_calls task.items)) _ _ (λ deep. IsTooDeep) (λ shallow. Calls all found (nat_le-fails 64 (open_calls task.items) shallow))
 
   returning-out : (a : Operand) (value : Value) → bound task.environment a ≡ Some value → Outcome program task (line.Return a) (returning task value)
-  returning-out a (Bare plain) e = if-out (open_calls task.items == 0) _ _ (λ none. Finishes e) (λ some. Returns e)
+  returning-out a (Bare plain) e = if-out (open_calls task.items == 0) _ _ (λ none. finishing (is_pure plain) refl) (λ some. Returns e)
+    where
+      finishing : (pure : Bool) → is_pure plain ≡ pure → Outcome program task (line.Return a) (ending_with task (if pure then Some plain else None))
+      finishing true is = Finishes e is
+      finishing false is = Mistyped
   returning-out a (Sealed label content) e = if-out (open_calls task.items == 0) _ _ (λ none. Mistyped) (λ some. Returns e)
 
 -- the plan of a statement that opens no block
@@ -260,10 +268,11 @@ outcome program task (line.Call x p arguments) =
     seen-out (all_bound task.environment arguments) _ (λ vs e. calling-out program task x p arguments vs (option_and_then (slice_get program.procedures) (procedure_at program p)) e refl)
 outcome program task (line.Return a) = seen-out (bound task.environment a) _ (returning-out program task a)
 outcome program task line.Stop = Stops
-outcome program task (line.Throw a) = seen-out (seen_as Some task.environment a) _ (λ plain e. Throws (seen-bare task a plain e))
+outcome program task (line.Throw a) =
+    seen-out (seen_as pure_of task.environment a) _ (λ plain e. let seen = seen-pure task a plain e in Throws seen.0 seen.1)
 outcome program task (line.Label x l a) =
-    seen-out (seen_as label_of task.environment l) _ (λ label e. seen-out (seen_as Some task.environment a) _
-    (λ plain f. tested (act.Seal label) (On op.Seal label) _ (Sealing e) (λ current g. Seals e (seen-bare task a plain f))))
+    seen-out (seen_as label_of task.environment l) _ (λ label e. seen-out (seen_as pure_of task.environment a) _
+    (λ plain f. tested (act.Seal label) (On op.Seal label) _ (Sealing e) (λ current g. let seen = seen-pure task a plain f in Seals e seen.0 seen.1)))
 outcome program task (line.Unlabel x a) =
     seen-out (option_and_then sealed_of (bound task.environment a)) _
     (λ s e. tested (act.Raise op.Unlabel s.label) (On op.Unlabel s.label) _ (Unlabelling e) (λ current g. Unlabels e g))

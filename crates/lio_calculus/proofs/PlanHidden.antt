@@ -10,7 +10,7 @@ use Rattle.lio_values.specs.declared.value.Value.TheVariants.{Bare, Sealed}
 use Rattle.lio_values.specs.declared.value.Plain.{Plain}
 use Rattle.lio_values.specs.declared.act.Act.TheVariants as act
 use Rattle.lio_values.specs.declared.act.Op.TheVariants as op
-use Rattle.lio_values.specs.Erasure.{erase_content, erase_value}
+use Rattle.lio_values.specs.Erasure.{erase_content, erase_plain, erase_value}
 use Rattle.lio_syntax_lines.specs.declared.line.Operand.{Operand}
 use Rattle.lio_syntax_lines.specs.declared.line.Simple.{Simple}
 use Rattle.lio_syntax_lines.specs.declared.line.Simple.TheVariants as line
@@ -20,20 +20,20 @@ use Rattle.lio_operators.specs.Operators.{operate1, operate2}
 use Rattle.lio_operators.specs.Laws.{hide_result}
 use Rattle.lio_operators.proofs.OperatorLemmas.{hidden_from_one, hidden_from_two}
 use Rattle.lio_task_control.specs.Environment.{bind_all}
-use Rattle.lio_calculus.specs.Operands.{bound, all_bound, Labelled, sealed_of, flag_of, label_of, power_of, text_of, count_of, reference_of, variable_of, result_of, channel_of, seen_as}
+use Rattle.lio_calculus.specs.Operands.{bound, all_bound, pure_of, Labelled, sealed_of, flag_of, label_of, power_of, text_of, count_of, reference_of, variable_of, result_of, channel_of, seen_as}
 use Rattle.lio_calculus.specs.Task.{TaskState}
 use Rattle.lio_task_control.specs.Items.{Item, Do, Access, open_calls}
 use Rattle.lio_calculus.specs.Going.{Call, Return}
-use Rattle.lio_calculus.specs.Plan.{Program, Plan, Over, fault_at, bad_type, refused, stepping, ending, computed, calling, returning, choosing, looping, with_seen, verdict_on, birth_of, procedure_at, plan_simple, plan_statement, plan_access, plan_items, plan}
+use Rattle.lio_calculus.specs.Plan.{Program, Plan, Over, fault_at, bad_type, refused, stepping, ending, ending_with, computed, calling, returning, choosing, looping, with_seen, verdict_on, birth_of, procedure_at, plan_simple, plan_statement, plan_access, plan_items, plan}
 use Rattle.lio_task_control.specs.Hiding.{hide_environment, hide_item}
 use Rattle.lio_calculus.specs.Hiding.{hide_task, hide_asked, hide_onward, hide_plan}
-use Rattle.lio_calculus.proofs.HidingLemmas.{bound-hidden, seen_as-hidden, open_calls-hidden, all_bound-hidden, bind_all-hidden}
+use Rattle.lio_calculus.proofs.HidingLemmas.{bound-hidden, seen_as-hidden, open_calls-hidden, all_bound-hidden, bind_all-hidden, IsBlind, blind-at-lists, pure-blind}
 use Rattle.lio_calculus.proofs.PlanLemmas.{bad_type-hidden, with_seen-same, with_seen-mapped, with_verdict-hidden, raising-hidden, sealing-hidden, releasing-hidden, exposing-hidden, new_reference-hidden, new_variable-hidden, writing-hidden, sending-hidden, forking-hidden, spawning-hidden, unlabelling-hidden}
 
 -- a view of an operand
-seen : {X : Type 0} (view : Plain → Option X) (observer : Label) (task : TaskState) (operand : Operand) (next hidden : X → Plan) → ((x : X) → hidden x ≡ hide_plan observer (next x))
+seen : {X : Type 0} (view : Plain → Option X) → IsBlind view → (observer : Label) (task : TaskState) (operand : Operand) (next hidden : X → Plan) → ((x : X) → hidden x ≡ hide_plan observer (next x))
     → with_seen (hide_task observer task) (seen_as view (hide_environment observer task.environment) operand) hidden ≡ hide_plan observer (with_seen task (seen_as view task.environment operand) next)
-seen view observer task operand next hidden is = rw (seen_as-hidden view observer task.environment operand) (with_seen-same observer task (seen_as view task.environment operand) next hidden is)
+seen view blind observer task operand next hidden is = rw (seen_as-hidden view blind observer task.environment operand) (with_seen-same observer task (seen_as view task.environment operand) next hidden is)
 
 -- what an operand stands for
 value : (observer : Label) (task : TaskState) (operand : Operand) (next hidden : Value → Plan) → ((v : Value) → hidden (erase_value observer v) ≡ hide_plan observer (next v))
@@ -82,7 +82,15 @@ calling-hidden observer task name vs (Some procedure) =
 returning-hidden : (observer : Label) (task : TaskState) (v : Value) → returning (hide_task observer task) (erase_value observer v) ≡ hide_plan observer (returning task v)
 unfolding hide_asked hide_onward
 returning-hidden observer task (Bare plain) =
-    rw (open_calls-hidden observer task.items) (elim (open_calls task.items == 0) as (λ b. (if b then ending (Kept plain) else stepping (Return (Bare plain))) ≡ hide_plan observer (if b then ending (Kept plain) else stepping (Return (Bare plain)))) [ true ↦ refl | false ↦ refl ])
+    rw (open_calls-hidden observer task.items) (rw (pure-blind observer plain)
+    (elim (open_calls task.items == 0) as (λ b. (if b then ending_with (hide_task observer task) (pure_of plain) else stepping (Return (Bare (erase_plain observer plain)))) ≡ hide_plan observer (if b then ending_with task (pure_of plain) else stepping (Return (Bare plain)))) [
+      | true ↦ ended (pure_of plain)
+      | false ↦ refl
+    ]))
+  where
+    ended : (kept : Option Plain) → ending_with (hide_task observer task) kept ≡ hide_plan observer (ending_with task kept)
+    ended None = bad_type-hidden observer task
+    ended (Some p) = refl
 returning-hidden observer task (Sealed label content) =
     rw (open_calls-hidden observer task.items) (elim (open_calls task.items == 0) as (λ b. (if b then bad_type (hide_task observer task) else stepping (Return (erase_value observer (Sealed label content)))) ≡ hide_plan observer (if b then bad_type task else stepping (Return (Sealed label content)))) [ true ↦ refl | false ↦ refl ])
 
@@ -98,32 +106,32 @@ plan_simple-hidden program observer task (line.Call x p arguments) =
     values observer task arguments _ _ (λ vs. calling-hidden observer task x vs (option_and_then (slice_get program.procedures) (procedure_at program p)))
 plan_simple-hidden program observer task (line.Return a) = value observer task a _ _ (returning-hidden observer task)
 plan_simple-hidden program observer task line.Stop = refl
-plan_simple-hidden program observer task (line.Throw a) = seen Some observer task a _ _ (λ plain. refl)
-plan_simple-hidden program observer task (line.Label x l a) = seen label_of observer task l _ _ (λ label. seen Some observer task a _ _ (sealing-hidden observer task x label))
+plan_simple-hidden program observer task (line.Throw a) = seen pure_of pure-blind observer task a _ _ (λ plain. refl)
+plan_simple-hidden program observer task (line.Label x l a) = seen label_of (blind-at-lists label_of (λ items. refl)) observer task l _ _ (λ label. seen pure_of pure-blind observer task a _ _ (sealing-hidden observer task x label))
 plan_simple-hidden program observer task (line.Unlabel x a) = labelled observer task a _ _ (unlabelling-hidden observer task x)
-plan_simple-hidden program observer task (line.UnlabelUsing x a p) = labelled observer task a _ _ (λ s. seen power_of observer task p _ _ (exposing-hidden observer task x s))
+plan_simple-hidden program observer task (line.UnlabelUsing x a p) = labelled observer task a _ _ (λ s. seen power_of (blind-at-lists power_of (λ items. refl)) observer task p _ _ (exposing-hidden observer task x s))
 plan_simple-hidden program observer task (line.Taint l) =
-    seen label_of observer task l _ _ (λ label. with_verdict-hidden observer task (act.Raise op.Taint label) (verdict_on task op.Taint label) _ _ (λ current. refl))
+    seen label_of (blind-at-lists label_of (λ items. refl)) observer task l _ _ (λ label. with_verdict-hidden observer task (act.Raise op.Taint label) (verdict_on task op.Taint label) _ _ (λ current. refl))
 plan_simple-hidden program observer task (line.Lower l) =
-    seen label_of observer task l _ _ (λ label. with_verdict-hidden observer task (act.Lower label) (verdict_on task op.Lower label) _ _ (λ current. refl))
+    seen label_of (blind-at-lists label_of (λ items. refl)) observer task l _ _ (λ label. with_verdict-hidden observer task (act.Lower label) (verdict_on task op.Lower label) _ _ (λ current. refl))
 plan_simple-hidden program observer task (line.Relabel x a l p) =
-    labelled observer task a _ _ (λ s. seen label_of observer task l _ _ (λ label. seen power_of observer task p _ _ (releasing-hidden observer task x s label)))
-plan_simple-hidden program observer task (line.NewRef x l a) = seen label_of observer task l _ _ (λ label. value observer task a _ _ (new_reference-hidden observer task x label))
-plan_simple-hidden program observer task (line.NewVar x l) = seen label_of observer task l _ _ (λ label. new_variable-hidden observer task x label None)
-plan_simple-hidden program observer task (line.FullVar x l a) = seen label_of observer task l _ _ (λ label. value observer task a _ _ (λ v. new_variable-hidden observer task x label (Some v)))
-plan_simple-hidden program observer task (line.Read x r) = seen reference_of observer task r _ _ (raising-hidden observer task op.Read (line.Read x r))
-plan_simple-hidden program observer task (line.Write r a) = seen reference_of observer task r _ _ (λ handle. value observer task a _ _ (writing-hidden observer task handle))
-plan_simple-hidden program observer task (line.Take x v) = seen variable_of observer task v _ _ (raising-hidden observer task op.Take (line.Take x v))
+    labelled observer task a _ _ (λ s. seen label_of (blind-at-lists label_of (λ items. refl)) observer task l _ _ (λ label. seen power_of (blind-at-lists power_of (λ items. refl)) observer task p _ _ (releasing-hidden observer task x s label)))
+plan_simple-hidden program observer task (line.NewRef x l a) = seen label_of (blind-at-lists label_of (λ items. refl)) observer task l _ _ (λ label. value observer task a _ _ (new_reference-hidden observer task x label))
+plan_simple-hidden program observer task (line.NewVar x l) = seen label_of (blind-at-lists label_of (λ items. refl)) observer task l _ _ (λ label. new_variable-hidden observer task x label None)
+plan_simple-hidden program observer task (line.FullVar x l a) = seen label_of (blind-at-lists label_of (λ items. refl)) observer task l _ _ (λ label. value observer task a _ _ (λ v. new_variable-hidden observer task x label (Some v)))
+plan_simple-hidden program observer task (line.Read x r) = seen reference_of (blind-at-lists reference_of (λ items. refl)) observer task r _ _ (raising-hidden observer task op.Read (line.Read x r))
+plan_simple-hidden program observer task (line.Write r a) = seen reference_of (blind-at-lists reference_of (λ items. refl)) observer task r _ _ (λ handle. value observer task a _ _ (writing-hidden observer task handle))
+plan_simple-hidden program observer task (line.Take x v) = seen variable_of (blind-at-lists variable_of (λ items. refl)) observer task v _ _ (raising-hidden observer task op.Take (line.Take x v))
 plan_simple-hidden program observer task (line.Put v a) =
-    seen variable_of observer task v _ _ (λ handle. value observer task a _ _ (λ w. raising-hidden observer task op.Put (line.Put v a) handle))
+    seen variable_of (blind-at-lists variable_of (λ items. refl)) observer task v _ _ (λ handle. value observer task a _ _ (λ w. raising-hidden observer task op.Put (line.Put v a) handle))
 plan_simple-hidden program observer task (line.Fork x l t n p arguments) =
-    seen label_of observer task l _ _ (λ label. seen count_of observer task t _ _ (λ turns. seen count_of observer task n _ _ (λ cells. with_seen-same observer task (procedure_at program p) _ _
+    seen label_of (blind-at-lists label_of (λ items. refl)) observer task l _ _ (λ label. seen count_of (blind-at-lists count_of (λ items. refl)) observer task t _ _ (λ turns. seen count_of (blind-at-lists count_of (λ items. refl)) observer task n _ _ (λ cells. with_seen-same observer task (procedure_at program p) _ _
     (λ place. values observer task arguments _ _ (λ vs. forking-hidden observer task x label turns cells (birth_of place vs label label turns (task.first + 1) cells))))))
 plan_simple-hidden program observer task (line.Spawn t n p arguments) =
-    seen count_of observer task t _ _ (λ turns. seen count_of observer task n _ _ (λ cells. with_seen-same observer task (procedure_at program p) _ _
+    seen count_of (blind-at-lists count_of (λ items. refl)) observer task t _ _ (λ turns. seen count_of (blind-at-lists count_of (λ items. refl)) observer task n _ _ (λ cells. with_seen-same observer task (procedure_at program p) _ _
     (λ place. values observer task arguments _ _ (λ vs. spawning-hidden observer task turns cells (birth_of place vs task.clearance task.clearance turns (task.first + 1) cells)))))
-plan_simple-hidden program observer task (line.Wait x r) = seen result_of observer task r _ _ (raising-hidden observer task op.Wait (line.Wait x r))
-plan_simple-hidden program observer task (line.Send c a) = seen channel_of observer task c _ _ (λ handle. seen text_of observer task a _ _ (sending-hidden observer task handle))
+plan_simple-hidden program observer task (line.Wait x r) = seen result_of (blind-at-lists result_of (λ items. refl)) observer task r _ _ (raising-hidden observer task op.Wait (line.Wait x r))
+plan_simple-hidden program observer task (line.Send c a) = seen channel_of (blind-at-lists channel_of (λ items. refl)) observer task c _ _ (λ handle. seen text_of (blind-at-lists text_of (λ items. refl)) observer task a _ _ (sending-hidden observer task handle))
 
 -- a statement
 choosing-hidden : (observer : Label) (block other : Statements) (flag : Bool) → choosing block other flag ≡ hide_plan observer (choosing block other flag)
@@ -139,18 +147,18 @@ looping-hidden observer condition block false = refl
 plan_statement-hidden : (program : Program) (observer : Label) (task : TaskState) (s : Statement) → plan_statement program (hide_task observer task) s ≡ hide_plan observer (plan_statement program task s)
 unfolding hide_asked hide_onward
 plan_statement-hidden program observer task (statement.Do simple) = plan_simple-hidden program observer task simple
-plan_statement-hidden program observer task (statement.If a block) = seen flag_of observer task a _ _ (choosing-hidden observer block Nothing)
-plan_statement-hidden program observer task (statement.IfElse a block other) = seen flag_of observer task a _ _ (choosing-hidden observer block other)
-plan_statement-hidden program observer task (statement.While a block) = seen flag_of observer task a _ _ (looping-hidden observer a block)
+plan_statement-hidden program observer task (statement.If a block) = seen flag_of (blind-at-lists flag_of (λ items. refl)) observer task a _ _ (choosing-hidden observer block Nothing)
+plan_statement-hidden program observer task (statement.IfElse a block other) = seen flag_of (blind-at-lists flag_of (λ items. refl)) observer task a _ _ (choosing-hidden observer block other)
+plan_statement-hidden program observer task (statement.While a block) = seen flag_of (blind-at-lists flag_of (λ items. refl)) observer task a _ _ (looping-hidden observer a block)
 plan_statement-hidden program observer task (statement.Try block code payload handler) = refl
 
 -- an access, whose act may carry a value
 plan_access-hidden : (observer : Label) (task : TaskState) (simple : Simple) → plan_access (hide_task observer task) simple ≡ hide_plan observer (plan_access task simple)
 unfolding plan_access hide_asked hide_onward
-plan_access-hidden observer task (line.Read x r) = seen reference_of observer task r _ _ (λ handle. refl)
-plan_access-hidden observer task (line.Take x v) = seen variable_of observer task v _ _ (λ handle. refl)
-plan_access-hidden observer task (line.Put v a) = seen variable_of observer task v _ _ (λ handle. value observer task a _ _ (λ w. refl))
-plan_access-hidden observer task (line.Wait x r) = seen result_of observer task r _ _ (λ handle. refl)
+plan_access-hidden observer task (line.Read x r) = seen reference_of (blind-at-lists reference_of (λ items. refl)) observer task r _ _ (λ handle. refl)
+plan_access-hidden observer task (line.Take x v) = seen variable_of (blind-at-lists variable_of (λ items. refl)) observer task v _ _ (λ handle. refl)
+plan_access-hidden observer task (line.Put v a) = seen variable_of (blind-at-lists variable_of (λ items. refl)) observer task v _ _ (λ handle. value observer task a _ _ (λ w. refl))
+plan_access-hidden observer task (line.Wait x r) = seen result_of (blind-at-lists result_of (λ items. refl)) observer task r _ _ (λ handle. refl)
 plan_access-hidden observer task simple = refl
 
 -- the items of a task

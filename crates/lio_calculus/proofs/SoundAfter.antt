@@ -22,7 +22,10 @@ use Rattle.lio_task_control.specs.Items.{Item, Do, Access, Mark, Back, Fail, ope
 use Rattle.lio_calculus.specs.Task.{TaskState}
 use Rattle.lio_calculus.specs.Plan.{Program}
 use Rattle.lio_calculus.specs.Step.{Cell, Configuration, blank, cell_at}
-use Rattle.lio_calculus.specs.Sound.{Names, PlainNames, KindNames, ValueNames, IsOpen, EachBound, EachInItem, EachInTask, EachInState, ItemSays, block_says, AccessIsRaised, IsTaskOf, IsInRange, IsSound}
+use Rattle.lio_values.specs.Forest as forest
+use Rattle.lio_values.specs.Forest.{Tree, Problem, Inner, Forest}
+use Rattle.lio_values.specs.Views.{item_of}
+use Rattle.lio_calculus.specs.Sound.{Names, TreeNames, ProblemNames, InnerNames, ItemNames, ItemsName, ValueNames, IsOpen, EachBound, EachInItem, EachInTask, EachInState, ItemSays, block_says, AccessIsRaised, IsTaskOf, IsInRange, IsSound}
 
 -- a property of values that follows from another
 all-map : {X : Type 0} (P Q : X → Type 0) → ((x : X) → P x → Q x) → (xs : List X) → All P xs → All Q xs
@@ -54,28 +57,42 @@ state-map P Q implies state p = tt
 unfoldable pub Extends : Configuration → Configuration → Type 0
 Extends c d = (kind : Kind) (handle : Handle) → Names c kind handle → Names d kind handle
 
-plain-extends : (c d : Configuration) → Extends c d → (plain : Plain) → PlainNames c plain → PlainNames d plain
-unfolding Extends
-plain-extends c d extends (RefOf handle) names = extends Reference handle names
-plain-extends c d extends (VarOf handle) names = extends Variable handle names
-plain-extends c d extends (ResultOf handle) names = extends Result handle names
-plain-extends c d extends (ChanOf handle) names = extends Channel handle names
-plain-extends c d extends unit names = tt
-plain-extends c d extends (Flag flag) names = tt
-plain-extends c d extends (Whole number) names = tt
-plain-extends c d extends (Bytes text) names = tt
-plain-extends c d extends (Lab label) names = tt
-plain-extends c d extends (Power power) names = tt
+module _ (c d : Configuration) (extends : Extends c d) where
+  mutual
+    unfolding Extends
 
-kind-extends : (c d : Configuration) → Extends c d → (kind : FaultKind) → KindNames c kind → KindNames d kind
-kind-extends c d extends (User plain) names = plain-extends c d extends plain names
-kind-extends c d extends kind names = tt
+    tree-extends : (tree : Tree) → TreeNames c tree → TreeNames d tree
+    tree-extends (forest.RefOf handle) names = extends Reference handle names
+    tree-extends (forest.VarOf handle) names = extends Variable handle names
+    tree-extends (forest.ResultOf handle) names = extends Result handle names
+    tree-extends (forest.ChanOf handle) names = extends Channel handle names
+    tree-extends (forest.Items items) names = items-extend items names
+    tree-extends forest.Unit names = tt
+    tree-extends (forest.Flag flag) names = tt
+    tree-extends (forest.Whole number) names = tt
+    tree-extends (forest.Bytes text) names = tt
+    tree-extends (forest.Lab label) names = tt
+    tree-extends (forest.Power power) names = tt
+
+    problem-extends : (problem : Problem) → ProblemNames c problem → ProblemNames d problem
+    problem-extends (forest.User tree) names = tree-extends tree names
+    problem-extends problem names = tt
+
+    inner-extends : (inner : Inner) → InnerNames c inner → InnerNames d inner
+    inner-extends (forest.Kept tree) names = tree-extends tree names
+    inner-extends (forest.Faulted problem at) names = problem-extends problem names
+    inner-extends forest.Hidden names = tt
+
+    item-extends : (item : forest.Item) → ItemNames c item → ItemNames d item
+    item-extends (forest.Bare tree) names = tree-extends tree names
+    item-extends (forest.Sealed label inner) names = inner-extends inner names
+
+    items-extend : (items : Forest) → ItemsName c items → ItemsName d items
+    items-extend forest.Nothing names = tt
+    items-extend (forest.Then item items) names = (item-extends item names.0, items-extend items names.1)
 
 pub value-extends : (c d : Configuration) → Extends c d → (value : Value) → ValueNames c value → ValueNames d value
-value-extends c d extends (Bare plain) names = plain-extends c d extends plain names
-value-extends c d extends (Sealed label (Kept plain)) names = plain-extends c d extends plain names
-value-extends c d extends (Sealed label (Faulted fault)) names = kind-extends c d extends fault.kind names
-value-extends c d extends (Sealed label Hidden) names = tt
+value-extends c d extends value names = item-extends c d extends (item_of value) names
 
 -- a task is fine in a configuration, with the state of its cell
 pub record Fine (c : Configuration) (state : State) (task : TaskState) : Type 0 where

@@ -1,7 +1,7 @@
 -- What the parts of a well-formed configuration give: of looked-up values, and of the cells that handles name.
 use Rattle.std.proofs.Common.{◌≡◌, ◌∙◌, refl, sym, ap, subst, ℕ, ◌<◌, ◌≤◌, ◌⊎◌, inl, inr, Bool, true, false, if◌then◌else◌, IsTrue, List, [], ◌∷◌, length, bytes_eq, Option, Some, None, is_some, true≢false, arith}
 use Rattle.std.specs.Prelude.{option_and_then, nat_lt}
-use Rattle.std.specs.Option.{option_map_or}
+use Rattle.std.specs.Option.{option_map, option_map_or}
 use Rattle.std.specs.List.{list_all}
 use Rattle.std.proofs.lemmas.Bool.{and_parts}
 use Rattle.std.proofs.lemmas.Bool.Decides.{Decides-eqb, nat_tests}
@@ -13,8 +13,10 @@ use Rattle.lio_labels.specs.Equality.{same_formula, same_label}
 use Rattle.lio_labels.proofs.FlowLemmas.{same-label}
 use Rattle.lio_values.specs.declared.value.Handle.{Handle}
 use Rattle.lio_values.specs.declared.value.Plain.{Plain}
-use Rattle.lio_values.specs.declared.value.Plain.TheVariants.{Unit as unit, Flag, Whole, Bytes, Lab, Power, RefOf, VarOf, ResultOf, ChanOf}
+use Rattle.lio_values.specs.declared.value.Plain.TheVariants.{Unit as unit, Flag, Whole, Bytes, Lab, Power, RefOf, VarOf, ResultOf, ChanOf, Items}
 use Rattle.lio_values.specs.declared.value.Value.{Value}
+use Rattle.lio_values.specs.Forest.{Nothing, Then}
+use Rattle.lio_values.specs.Measures.{is_pure}
 use Rattle.lio_values.specs.declared.value.Value.TheVariants.{Bare, Sealed}
 use Rattle.lio_syntax_lines.specs.declared.line.Operand.{Operand}
 use Rattle.lio_syntax_lines.specs.declared.line.Operand.TheVariants.{Name, Literal}
@@ -49,7 +51,7 @@ pub second-said : (a b : Operand) (operands : List Operand) → IsTrue (list_all
 second-said a b operands said = first-said b operands (rest-said a (b ∷ operands) said)
 
 -- what a name is bound to has what each bound value has
-value_of-each : (P : Value → Type 0) (environment : Environment) (name : List ℕ) (value : Value) → EachBound P environment → value_of environment name ≡ Some value → P value
+pub value_of-each : (P : Value → Type 0) (environment : Environment) (name : List ℕ) (value : Value) → EachBound P environment → value_of environment name ≡ Some value → P value
 unfolding value_of
 value_of-each P [] name value each e = absurd (cc)
 value_of-each P (first ∷ rest) name value each e =
@@ -63,7 +65,11 @@ value_of-each P (first ∷ rest) name value each e =
 pub bound-each : (P : Value → Type 0) (environment : Environment) (operand : Operand) (value : Value) → ((plain : Plain) → IsTrue (can_be_said plain) → P (Bare plain))
     → EachBound P environment → IsTrue (is_said operand) → bound environment operand ≡ Some value → P value
 bound-each P environment (Name name) value literal each said e = value_of-each P environment name value each e
-bound-each P environment (Literal plain) value literal each said e = let is : Bare plain ≡ value = cc in subst P is (literal plain said)
+bound-each P environment (Literal plain) value literal each said e = by (is_pure plain) e
+  where
+    by : (pure : Bool) → option_map Bare (if pure then Some plain else None) ≡ Some value → P value
+    by true f = let is : Bare plain ≡ value = cc in subst P is (literal plain said)
+    by false f = absurd (cc)
 
 -- a said literal is no handle
 pub said-names : (c : Configuration) (plain : Plain) → IsTrue (can_be_said plain) → ValueNames c (Bare plain)
@@ -77,9 +83,17 @@ said-names c (RefOf handle) said = absurd (true≢false (sym said))
 said-names c (VarOf handle) said = absurd (true≢false (sym said))
 said-names c (ResultOf handle) said = absurd (true≢false (sym said))
 said-names c (ChanOf handle) said = absurd (true≢false (sym said))
+said-names c (Items Nothing) said = tt
+said-names c (Items (Then item items)) said = absurd (true≢false (sym said))
 
 pub said-open : (plain : Plain) → IsTrue (can_be_said plain) → IsOpen (Bare plain)
-said-open plain said = tt
+said-open unit said = tt
+said-open (Flag flag) said = tt
+said-open (Whole number) said = tt
+said-open (Bytes text) said = tt
+said-open (Lab label) said = tt
+said-open (Items Nothing) said = tt
+said-open plain said = absurd (true≢false (sym said))
 
 -- the plain value that a view is of
 plain-seen : {X : Type 0} (view : Plain → Option X) (v : Option Value) (x : X) → option_and_then (λ w. option_and_then view (bare_of w)) v ≡ Some x → (plain : Plain) × (v ≡ Some (Bare plain)) × (view plain ≡ Some x)
@@ -103,6 +117,7 @@ reference-is (Power power) handle e = absurd (cc)
 reference-is (VarOf h) handle e = absurd (cc)
 reference-is (ResultOf h) handle e = absurd (cc)
 reference-is (ChanOf h) handle e = absurd (cc)
+reference-is (Items items) handle e = absurd (cc)
 
 variable-is : (plain : Plain) (handle : Handle) → variable_of plain ≡ Some handle → plain ≡ VarOf handle
 variable-is (VarOf h) handle e = let is : h ≡ handle = cc in ap VarOf is
@@ -115,6 +130,7 @@ variable-is (Power power) handle e = absurd (cc)
 variable-is (RefOf h) handle e = absurd (cc)
 variable-is (ResultOf h) handle e = absurd (cc)
 variable-is (ChanOf h) handle e = absurd (cc)
+variable-is (Items items) handle e = absurd (cc)
 
 result-is : (plain : Plain) (handle : Handle) → result_of plain ≡ Some handle → plain ≡ ResultOf handle
 result-is (ResultOf h) handle e = let is : h ≡ handle = cc in ap ResultOf is
@@ -127,6 +143,7 @@ result-is (Power power) handle e = absurd (cc)
 result-is (RefOf h) handle e = absurd (cc)
 result-is (VarOf h) handle e = absurd (cc)
 result-is (ChanOf h) handle e = absurd (cc)
+result-is (Items items) handle e = absurd (cc)
 
 channel-is : (plain : Plain) (handle : Handle) → channel_of plain ≡ Some handle → plain ≡ ChanOf handle
 channel-is (ChanOf h) handle e = let is : h ≡ handle = cc in ap ChanOf is
@@ -139,6 +156,7 @@ channel-is (Power power) handle e = absurd (cc)
 channel-is (RefOf h) handle e = absurd (cc)
 channel-is (VarOf h) handle e = absurd (cc)
 channel-is (ResultOf h) handle e = absurd (cc)
+channel-is (Items items) handle e = absurd (cc)
 
 seen-each : {X : Type 0} (c : Configuration) (view : Plain → Option X) (into : X → Plain) → ((plain : Plain) (x : X) → view plain ≡ Some x → plain ≡ into x)
     → (environment : Environment) (operand : Operand) (x : X) → EachBound (ValueNames c) environment → IsTrue (is_said operand) → seen_as view environment operand ≡ Some x → PlainNames c (into x)

@@ -4,7 +4,7 @@ use Rattle.std.specs.Prelude.{option_and_then, option_map}
 use Rattle.std.proofs.lemmas.List.Elements.{All-head}
 use Rattle.lio_labels.specs.Flow.{flows}
 use Rattle.lio_values.specs.declared.value.Handle.{Handle}
-use Rattle.lio_values.specs.declared.value.Content.TheVariants.{Hidden}
+use Rattle.lio_values.specs.Views.{inner_of}
 use Rattle.lio_values.specs.declared.value.Value.{Value}
 use Rattle.lio_values.specs.declared.value.Value.TheVariants.{Bare, Sealed}
 use Rattle.lio_values.specs.declared.act.Act.{Act}
@@ -19,7 +19,7 @@ use Rattle.lio_calculus.specs.Task.{TaskState}
 use Rattle.lio_calculus.specs.Plan.{Program, Plan, plan}
 use Rattle.lio_calculus.specs.Step.{Configuration, cell_at, Move, move_of, Turn, step, turn_of, entry_of, after}
 use Rattle.lio_calculus.specs.Guarded.{IsShown, IsGuarded}
-use Rattle.lio_calculus.specs.Sound.{EachBound, ValueNames, IsOpen, IsTaskOf, IsSound, ItemSays, says, statement_says, FrontIsRaised}
+use Rattle.lio_calculus.specs.Sound.{EachBound, ValueNames, InnerIsOpen, IsOpen, IsTaskOf, IsSound, ItemSays, says, statement_says, FrontIsRaised}
 use Rattle.lio_calculus.proofs.SoundLemmas.{first-said, bound-each, said-open, reference-names, variable-names, result-names, channel-names}
 use Rattle.lio_calculus.proofs.GuardedLemmas.{GuardedBy, over-guarded, own-guarded, raise-guarded, visit-guarded, refused-guarded}
 use Rattle.lio_calculus.proofs.Outcome.{Reads, Takes, Puts, Waits, Test, Asks, Outcome}
@@ -27,13 +27,13 @@ use Rattle.lio_calculus.proofs.Outcome as out
 use Rattle.lio_calculus.proofs.PlanCases.{ItemsCase, Does, Visits, plan-by}
 use Rattle.lio_calculus.proofs.VisitGuarded.{write-guarded, read-guarded, send-guarded, take-guarded, put-guarded, wait-guarded, new_reference-guarded, new_variable-guarded, fork-guarded, spawn-guarded}
 
--- a sealed value that a task looks up isn't hidden
-sealed-shown : (v : Option Value) (sealed : Labelled) → option_and_then sealed_of v ≡ Some sealed → ((value : Value) → v ≡ Some value → IsOpen value) → sealed.content ≡ Hidden → ⊥
-sealed-shown None sealed e shown hidden = absurd (cc)
-sealed-shown (Some (Bare plain)) sealed e shown hidden = absurd (cc)
-sealed-shown (Some (Sealed label content)) sealed e shown hidden =
+-- a sealed value that a task looks up isn't hidden, and keeps a pure one
+sealed-shown : (v : Option Value) (sealed : Labelled) → option_and_then sealed_of v ≡ Some sealed → ((value : Value) → v ≡ Some value → IsOpen value) → InnerIsOpen (inner_of sealed.content)
+sealed-shown None sealed e shown = absurd (cc)
+sealed-shown (Some (Bare plain)) sealed e shown = absurd (cc)
+sealed-shown (Some (Sealed label content)) sealed e shown =
     let made : Labelled = record { label = label; content = content } in
-    let is : made ≡ sealed = cc in shown (Sealed label content) refl (ap (λ (s : Labelled). s.content) is ∙ hidden)
+    let is : made ≡ sealed = cc in subst (λ (s : Labelled). InnerIsOpen (inner_of s.content)) is (shown (Sealed label content) refl)
 
 -- a refused act shows no content
 asks-shown : {program : Program} {task : TaskState} {s : Simple} {asked : Act} {test : Test} → Asks program task s asked test → (fault : Fault) → IsShown asked (Refused fault)

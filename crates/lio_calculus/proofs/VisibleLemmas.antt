@@ -1,5 +1,5 @@
 -- A turn of a task below the observer is the erased turn.
-use Rattle.std.proofs.Common.{◌≡◌, ◌∙◌, refl, sym, ap, Bool, true, false, not, ◌&&◌, if◌then◌else◌, List, [], ◌∷◌, ◌++◌, Some, None}
+use Rattle.std.proofs.Common.{◌≡◌, ◌∙◌, refl, sym, ap, subst, Bool, true, false, not, ◌&&◌, if◌then◌else◌, List, [], ◌∷◌, ◌++◌, Some, None}
 use Rattle.lio_labels.specs.declared.label.Label.{Label}
 use Rattle.lio_labels.specs.declared.privilege.Priv.{Priv}
 use Rattle.lio_labels.specs.Flow.{flows}
@@ -18,6 +18,8 @@ use Rattle.lio_calculus.specs.Hiding.{hide_asked}
 use Rattle.lio_calculus.proofs.PlanLemmas.{hidden-twice}
 use Rattle.lio_calculus.proofs.CellLemmas.{state_after-hidden}
 use Rattle.lio_calculus.specs.Guarded.{IsShown, IsNoRelease}
+use Rattle.lio_calculus.specs.Sound.{InnerIsOpen}
+use Rattle.lio_values.specs.Views.{inner_of}
 use Rattle.lio_events.specs.Views.{released_to}
 use Rattle.lio_calculus.specs.Erased.{hide_state, opened_release, opened}
 
@@ -178,13 +180,17 @@ taken-unexposed observer source target power content reply rest hidden refused =
   same = λ plain. absurd plain;
 }
 
+-- what isn't hidden
+not-hidden : (content : Content) → InnerIsOpen (inner_of content) → content ≡ Hidden → ⊥
+not-hidden content shown hidden = subst (λ (c : Content). InnerIsOpen (inner_of c)) hidden shown
+
 -- what an act opens, and how it then appears
 pub taken : (observer : Label) (asked : Act) (reply : Reply) (rest : List Content) → IsShown asked reply → Taken observer asked reply rest
-taken observer (act.Release source target power content) Done rest shown = taken-release observer source target power content rest shown
+taken observer (act.Release source target power content) Done rest shown = taken-release observer source target power content rest (not-hidden content shown)
 taken observer (act.Release source target power content) (Got value) rest shown = taken-refused observer source target power content (Got value) rest shown (λ e. absurd (cc))
 taken observer (act.Release source target power content) (Told told) rest shown = taken-refused observer source target power content (Told told) rest shown (λ e. absurd (cc))
 taken observer (act.Release source target power content) (Refused fault) rest shown = taken-refused observer source target power content (Refused fault) rest shown (λ e. absurd (cc))
-taken observer (act.Expose source target power content) Done rest shown = taken-exposure observer source target power content rest shown
+taken observer (act.Expose source target power content) Done rest shown = taken-exposure observer source target power content rest (not-hidden content shown)
 taken observer (act.Expose source target power content) (Got value) rest shown = taken-unexposed observer source target power content (Got value) rest shown (λ e. absurd (cc))
 taken observer (act.Expose source target power content) (Told told) rest shown = taken-unexposed observer source target power content (Told told) rest shown (λ e. absurd (cc))
 taken observer (act.Expose source target power content) (Refused fault) rest shown = taken-unexposed observer source target power content (Refused fault) rest shown (λ e. absurd (cc))

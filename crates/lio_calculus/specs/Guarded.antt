@@ -3,6 +3,7 @@ use Rattle.std.specs.Prelude.{◌≡◌, ℕ, Bool, true, false, IsTrue, Some}
 use Rattle.lio_labels.specs.declared.label.Label.{Label}
 use Rattle.lio_labels.specs.Flow.{flows}
 use Rattle.lio_values.specs.declared.value.Content.TheVariants.{Hidden}
+use Rattle.lio_values.specs.Views.{inner_of}
 use Rattle.lio_values.specs.declared.act.Act.{Act}
 use Rattle.lio_values.specs.declared.act.Act.TheVariants as act
 use Rattle.lio_calculus.specs.Task.{TaskState}
@@ -12,7 +13,7 @@ use Rattle.lio_values.specs.declared.act.Reply.TheVariants.{Done, Got, Told, Ref
 use Rattle.lio_calculus.specs.Plan.{plan, Plan, Over, Own, Visit, Target, Node, New}
 use Rattle.lio_calculus.specs.Step.{Cell, Configuration, Turn, step, blank, cell_at, number_of, is_met, waits, met_after}
 use Rattle.lio_calculus.specs.Erased.{label_of_cell}
-use Rattle.lio_calculus.specs.Sound.{IsTaskOf, IsSound}
+use Rattle.lio_calculus.specs.Sound.{InnerIsOpen, IsTaskOf, IsSound}
 
 -- the current label after a turn: raised by a raise or an exposure, and else as it was
 abbrev pub label_after : Onward → Label → Label
@@ -51,13 +52,13 @@ IsReleaseOf (act.Release source target power content) label = target ≡ label
 IsReleaseOf (act.Expose source target power content) label = target ≡ label
 IsReleaseOf asked label = ⊥
 
--- a release or an exposure that is carried out shows its content, and a refused one shows none
+-- a release or an exposure that is carried out shows its content, and what that keeps is pure; a refused one shows none
 abbrev pub IsShown : Act → Reply → Type 0
-IsShown (act.Release source target power content) Done = content ≡ Hidden → ⊥
+IsShown (act.Release source target power content) Done = InnerIsOpen (inner_of content)
 IsShown (act.Release source target power content) (Got value) = content ≡ Hidden
 IsShown (act.Release source target power content) (Told told) = content ≡ Hidden
 IsShown (act.Release source target power content) (Refused fault) = content ≡ Hidden
-IsShown (act.Expose source target power content) Done = content ≡ Hidden → ⊥
+IsShown (act.Expose source target power content) Done = InnerIsOpen (inner_of content)
 IsShown (act.Expose source target power content) (Got value) = content ≡ Hidden
 IsShown (act.Expose source target power content) (Told told) = content ≡ Hidden
 IsShown (act.Expose source target power content) (Refused fault) = content ≡ Hidden

@@ -3,7 +3,7 @@ use Rattle.std.specs.Prelude.{◌≡◌, ℕ, IsTrue, IsFalse, List, [], ◌++�
 use Rattle.lio_labels.specs.declared.label.Label.{Label}
 use Rattle.lio_labels.specs.Flow.{flows}
 use Rattle.lio_values.specs.declared.value.Content.{Content}
-use Rattle.lio_values.specs.declared.value.Content.TheVariants.{Hidden}
+use Rattle.lio_values.specs.Views.{inner_of}
 use Rattle.lio_values.specs.Erasure.{erase_entry}
 use Rattle.lio_calculus.specs.Task.{TaskState}
 use Rattle.lio_calculus.specs.Step.{Configuration, Turn, step}
@@ -11,7 +11,7 @@ use Rattle.lio_events.specs.Views.{released_to}
 use Rattle.lio_calculus.specs.Erased.{erase, low}
 use Rattle.lio_events.specs.Views.{view, who, releases}
 use Rattle.lio_calculus.specs.Run.{Ran, run, low_run}
-use Rattle.lio_calculus.specs.Sound.{IsTaskOf, IsSound}
+use Rattle.lio_calculus.specs.Sound.{InnerIsOpen, IsTaskOf, IsSound}
 
 -- each turn keeps a configuration sound
 abbrev pub TurnKeepsSoundness : Type 0
@@ -37,12 +37,12 @@ SeenTurnIsErasedTurn = (observer : Label) (ticket : ℕ) (c : Configuration) (k 
     → low observer ticket (erase observer c) k (released_to observer turn.entry.act turn.entry.reply ++ rest)
     ≡ Some (record { entry = erase_entry observer turn.entry; next = erase observer turn.next; left = rest })
 
--- a content that isn't hidden
+-- a content that isn't hidden, and what it keeps is pure
 abbrev pub IsShownContent : Content → Type 0
-IsShownContent content = content ≡ Hidden → ⊥
+IsShownContent content = InnerIsOpen (inner_of content)
 
 -- A run from a sound configuration, seen by an observer, is the run of the erased calculus from what the observer sees of the configuration, over the actors that it sees
--- and the contents that the journal releases to it: it gives the view, what the observer sees of the last configuration, and no released content is left. None of these contents is hidden, and the last configuration is sound.
+-- and the contents that the journal releases to it: it gives the view, what the observer sees of the last configuration, and no released content is left. None of these contents is hidden, what they keep is pure, and the last configuration is sound.
 pub record RunSeenAs (observer : Label) (c : Configuration) (ran : Ran) : Type 0 where
   pub erased : low_run observer 0 (erase observer c) (who observer ran.entries) (releases observer ran.entries)
       ≡ Some (record { entries = view observer 0 ran.entries; last = erase observer ran.last; left = [] })

@@ -18,3 +18,4 @@ pub mod Powers
 pub mod Handles
 pub mod Sends
 pub mod Effect
+pub mod Purity

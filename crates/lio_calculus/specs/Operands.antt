@@ -9,14 +9,19 @@ use Rattle.lio_values.specs.declared.value.Plain.TheVariants.{Flag, Whole, Bytes
 use Rattle.lio_values.specs.declared.value.Content.{Content}
 use Rattle.lio_values.specs.declared.value.Value.{Value}
 use Rattle.lio_values.specs.declared.value.Value.TheVariants.{Bare, Sealed}
+use Rattle.lio_values.specs.Measures.{is_pure}
 use Rattle.lio_syntax_lines.specs.declared.line.Operand.{Operand}
 use Rattle.lio_syntax_lines.specs.declared.line.Operand.TheVariants.{Name, Literal}
 use Rattle.lio_task_control.specs.Environment.{Environment, value_of}
 
--- what an operand stands for
+-- a plain value, where it is pure
+abbrev pub pure_of : Plain → Option Plain
+pure_of plain = if is_pure plain then Some plain else None
+
+-- what an operand stands for; a literal is pure
 abbrev pub bound : Environment → Operand → Option Value
 bound environment (Name name) = value_of environment name
-bound environment (Literal plain) = Some (Bare plain)
+bound environment (Literal plain) = option_map Bare (pure_of plain)
 
 -- what operands stand for, where all are bound
 unfoldable pub all_bound : Environment → List Operand → Option (List Value)

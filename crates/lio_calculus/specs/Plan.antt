@@ -31,7 +31,7 @@ use Rattle.lio_guards.specs.declared.verdict.Verdict.TheVariants.{Go, No}
 use Rattle.lio_operators.specs.Operators.{operate1, operate2}
 use Rattle.lio_cells.specs.State.{Kind, Reference, Variable, Channel, Result as result}
 use Rattle.lio_task_control.specs.Environment.{bind_all}
-use Rattle.lio_calculus.specs.Operands.{bound, all_bound, bare_of, Labelled, sealed_of, flag_of, label_of, power_of, text_of, count_of, reference_of, variable_of, result_of, channel_of, seen_as}
+use Rattle.lio_calculus.specs.Operands.{bound, all_bound, bare_of, pure_of, Labelled, sealed_of, flag_of, label_of, power_of, text_of, count_of, reference_of, variable_of, result_of, channel_of, seen_as}
 use Rattle.lio_calculus.specs.Task.{TaskState}
 use Rattle.lio_task_control.specs.Items.{Item, Do, Access, Mark, Back, Fail, open_calls}
 use Rattle.lio_calculus.specs.Going.{Onward, Advance, Bind, Seal, Enter, Repeat, Try, Call, Return, Leave, Raise, RaiseTo, Unlabel, Lower, Release, Expose, HoldReference, HoldVariable, Fork, Spawn, BindReply, Throw, End}
@@ -115,7 +115,7 @@ ending_with task None = bad_type task
 ending_with task (Some plain) = ending (Kept plain)
 
 abbrev pub returning : TaskState → Value → Plan
-returning task value = if open_calls task.items == 0 then ending_with task (bare_of value) else stepping (Return value)
+returning task value = if open_calls task.items == 0 then ending_with task (option_and_then pure_of (bare_of value)) else stepping (Return value)
 
 -- a loop goes on as long as its condition holds
 abbrev pub looping : Operand → Statements → Bool → Plan
@@ -195,9 +195,9 @@ plan_simple program task (line.Call x p arguments) =
     with_seen task (all_bound task.environment arguments) (λ values. calling task x values (option_and_then (slice_get program.procedures) (procedure_at program p)))
 plan_simple program task (line.Return a) = with_seen task (bound task.environment a) (returning task)
 plan_simple program task line.Stop = ending (Kept unit)
-plan_simple program task (line.Throw a) = with_seen task (seen_as Some task.environment a) (λ plain. refused task act.Step (User plain))
+plan_simple program task (line.Throw a) = with_seen task (seen_as pure_of task.environment a) (λ plain. refused task act.Step (User plain))
 plan_simple program task (line.Label x l a) =
-    with_seen task (seen_as label_of task.environment l) (λ label. with_seen task (seen_as Some task.environment a)
+    with_seen task (seen_as label_of task.environment l) (λ label. with_seen task (seen_as pure_of task.environment a)
     (λ plain. with_verdict task (act.Seal label) (verdict_on task op.Seal label) (λ current. Own (act.Seal label) Done (Seal x label plain))))
 plan_simple program task (line.Unlabel x a) =
     with_seen task (option_and_then sealed_of (bound task.environment a))

@@ -3,38 +3,75 @@ use Rattle.std.specs.Prelude.{◌≡◌, ℕ, List, Some}
 use Rattle.std.specs.List.{Contains}
 use Rattle.lio_labels.specs.declared.privilege.Priv.{Priv}
 use Rattle.lio_values.specs.declared.fault.FaultKind.{FaultKind}
-use Rattle.lio_values.specs.declared.fault.FaultKind.TheVariants.{User}
 use Rattle.lio_values.specs.declared.value.Plain.{Plain}
-use Rattle.lio_values.specs.declared.value.Plain.TheVariants.{Power}
 use Rattle.lio_values.specs.declared.value.Content.{Content}
-use Rattle.lio_values.specs.declared.value.Content.TheVariants.{Kept, Faulted, Hidden}
 use Rattle.lio_values.specs.declared.value.Value.{Value}
-use Rattle.lio_values.specs.declared.value.Value.TheVariants.{Bare, Sealed}
+use Rattle.lio_values.specs.Forest as forest
+use Rattle.lio_values.specs.Forest.{Tree, Problem, Inner, Item, Forest}
+use Rattle.lio_values.specs.Views.{tree_of, problem_of, inner_of, item_of}
 use Rattle.lio_values.specs.declared.act.Act.{Act}
 use Rattle.lio_values.specs.declared.act.Act.TheVariants.{Step, Seal, Raise, Lower, Release, Expose, NewRef, NewVar, Fork, Spawn, Read, Write, Take, Put, Wait, Send, Ended}
 use Rattle.lio_calculus.specs.Task.{TaskState}
 use Rattle.lio_calculus.specs.Step.{Configuration, Turn, cell_at, step}
 use Rattle.lio_calculus.specs.Sound.{EachInTask, EachInState, IsTaskOf, IsSound}
 
--- a plain value that is a privilege is one of these
-abbrev pub PlainIsAmong : List Priv → Plain → Type 0
-PlainIsAmong powers (Power power) = Contains powers power
-PlainIsAmong powers plain = Unit {0}
+-- Each privilege in a value is one of these: in what its contents keep, in what faults carry, and in the items of a list. What other faults tell isn't a value.
+abbrev mutual
+  pub TreeIsAmong : List Priv → Tree → Type 0
+  TreeIsAmong powers (forest.Power power) = Contains powers power
+  TreeIsAmong powers (forest.Items items) = ItemsAreAmong powers items
+  TreeIsAmong powers forest.Unit = Unit {0}
+  TreeIsAmong powers (forest.Flag flag) = Unit {0}
+  TreeIsAmong powers (forest.Whole number) = Unit {0}
+  TreeIsAmong powers (forest.Bytes text) = Unit {0}
+  TreeIsAmong powers (forest.Lab label) = Unit {0}
+  TreeIsAmong powers (forest.RefOf handle) = Unit {0}
+  TreeIsAmong powers (forest.VarOf handle) = Unit {0}
+  TreeIsAmong powers (forest.ResultOf handle) = Unit {0}
+  TreeIsAmong powers (forest.ChanOf handle) = Unit {0}
 
--- a fault that a script throws keeps a value; what other faults tell isn't a value
+  pub ProblemIsAmong : List Priv → Problem → Type 0
+  ProblemIsAmong powers (forest.User tree) = TreeIsAmong powers tree
+  ProblemIsAmong powers (forest.FlowCurrent current target) = Unit {0}
+  ProblemIsAmong powers (forest.FlowClearance target clearance) = Unit {0}
+  ProblemIsAmong powers (forest.FlowRaise raised clearance) = Unit {0}
+  ProblemIsAmong powers (forest.FlowPrivilege power source target) = Unit {0}
+  ProblemIsAmong powers forest.BadType = Unit {0}
+  ProblemIsAmong powers forest.Overflow = Unit {0}
+  ProblemIsAmong powers forest.DivZero = Unit {0}
+  ProblemIsAmong powers forest.TooLong = Unit {0}
+  ProblemIsAmong powers forest.NoTurns = Unit {0}
+  ProblemIsAmong powers (forest.NoCells asked left) = Unit {0}
+  ProblemIsAmong powers (forest.ChildTurns asked left) = Unit {0}
+  ProblemIsAmong powers forest.Depth = Unit {0}
+  ProblemIsAmong powers (forest.LabelWide left right) = Unit {0}
+
+  pub InnerIsAmong : List Priv → Inner → Type 0
+  InnerIsAmong powers (forest.Kept tree) = TreeIsAmong powers tree
+  InnerIsAmong powers (forest.Faulted problem at) = ProblemIsAmong powers problem
+  InnerIsAmong powers forest.Hidden = Unit {0}
+
+  pub ItemIsAmong : List Priv → Item → Type 0
+  ItemIsAmong powers (forest.Bare tree) = TreeIsAmong powers tree
+  ItemIsAmong powers (forest.Sealed label inner) = InnerIsAmong powers inner
+
+  pub ItemsAreAmong : List Priv → Forest → Type 0
+  ItemsAreAmong powers forest.Nothing = Unit {0}
+  ItemsAreAmong powers (forest.Then item items) = ItemIsAmong powers item × ItemsAreAmong powers items
+
+-- ---- the same of plain values, kinds of faults, contents and values
+
+abbrev pub PlainIsAmong : List Priv → Plain → Type 0
+PlainIsAmong powers plain = TreeIsAmong powers (tree_of plain)
+
 abbrev pub KindIsAmong : List Priv → FaultKind → Type 0
-KindIsAmong powers (User plain) = PlainIsAmong powers plain
-KindIsAmong powers kind = Unit {0}
+KindIsAmong powers kind = ProblemIsAmong powers (problem_of kind)
 
 abbrev pub ContentIsAmong : List Priv → Content → Type 0
-ContentIsAmong powers (Kept plain) = PlainIsAmong powers plain
-ContentIsAmong powers (Faulted fault) = KindIsAmong powers fault.kind
-ContentIsAmong powers Hidden = Unit {0}
+ContentIsAmong powers content = InnerIsAmong powers (inner_of content)
 
--- so is the privilege in a value, open or sealed
 abbrev pub ValueIsAmong : List Priv → Value → Type 0
-ValueIsAmong powers (Bare plain) = PlainIsAmong powers plain
-ValueIsAmong powers (Sealed label content) = ContentIsAmong powers content
+ValueIsAmong powers value = ItemIsAmong powers (item_of value)
 
 -- each privilege in a configuration is one of these: in environments, callers' too, in faults, in nodes and in results
 pub record PowersAreAmong (powers : List Priv) (c : Configuration) : Type 0 where

@@ -5,13 +5,16 @@ use Rattle.lio_labels.specs.declared.label.Label.{Label}
 use Rattle.lio_labels.specs.Flow.{flows}
 use Rattle.lio_values.specs.declared.value.Handle.{Handle}
 use Rattle.lio_values.specs.declared.value.Plain.{Plain}
-use Rattle.lio_values.specs.declared.value.Plain.TheVariants.{RefOf, VarOf, ResultOf, ChanOf}
 use Rattle.lio_values.specs.declared.fault.FaultKind.{FaultKind}
-use Rattle.lio_values.specs.declared.fault.FaultKind.TheVariants.{User}
 use Rattle.lio_values.specs.declared.value.Content.{Content}
-use Rattle.lio_values.specs.declared.value.Content.TheVariants.{Kept, Faulted, Hidden}
+use Rattle.lio_values.specs.declared.value.Content.TheVariants.{Faulted}
 use Rattle.lio_values.specs.declared.value.Value.{Value}
-use Rattle.lio_values.specs.declared.value.Value.TheVariants.{Bare, Sealed}
+use Rattle.lio_values.specs.declared.value.Value.TheVariants.{Sealed}
+use Rattle.lio_values.specs.Forest as forest
+use Rattle.lio_values.specs.Forest.{Tree, Problem, Inner, Forest}
+use Rattle.lio_values.specs.Measures.{tree_is_pure}
+use Rattle.lio_values.specs.Purity.{IsProblemPure}
+use Rattle.lio_values.specs.Views.{tree_of, problem_of, inner_of, item_of}
 use Rattle.lio_syntax_lines.specs.declared.line.Simple.{Simple}
 use Rattle.lio_syntax_lines.specs.declared.line.Simple.TheVariants.{Read, Take, Put, Wait}
 use Rattle.lio_syntax_lines.specs.Operands.{is_said}
@@ -31,33 +34,95 @@ use Rattle.lio_calculus.specs.Step.{Configuration, blank, cell_at, is_named}
 abbrev pub Names : Configuration → Kind → Handle → Type 0
 Names c kind handle = IsTrue (is_named kind handle (cell_at c handle.number).state)
 
--- what holds of the handle that a plain value is, if it is one
+-- what holds of each handle in a value, in what its contents keep, in what faults carry, and in the items of a list
+abbrev mutual
+  pub TreeNames : Configuration → Tree → Type 0
+  TreeNames c (forest.RefOf handle) = Names c Reference handle
+  TreeNames c (forest.VarOf handle) = Names c Variable handle
+  TreeNames c (forest.ResultOf handle) = Names c Result handle
+  TreeNames c (forest.ChanOf handle) = Names c Channel handle
+  TreeNames c (forest.Items items) = ItemsName c items
+  TreeNames c forest.Unit = Unit {0}
+  TreeNames c (forest.Flag flag) = Unit {0}
+  TreeNames c (forest.Whole number) = Unit {0}
+  TreeNames c (forest.Bytes text) = Unit {0}
+  TreeNames c (forest.Lab label) = Unit {0}
+  TreeNames c (forest.Power power) = Unit {0}
+
+  pub ProblemNames : Configuration → Problem → Type 0
+  ProblemNames c (forest.User tree) = TreeNames c tree
+  ProblemNames c (forest.FlowCurrent current target) = Unit {0}
+  ProblemNames c (forest.FlowClearance target clearance) = Unit {0}
+  ProblemNames c (forest.FlowRaise raised clearance) = Unit {0}
+  ProblemNames c (forest.FlowPrivilege power source target) = Unit {0}
+  ProblemNames c forest.BadType = Unit {0}
+  ProblemNames c forest.Overflow = Unit {0}
+  ProblemNames c forest.DivZero = Unit {0}
+  ProblemNames c forest.TooLong = Unit {0}
+  ProblemNames c forest.NoTurns = Unit {0}
+  ProblemNames c (forest.NoCells asked left) = Unit {0}
+  ProblemNames c (forest.ChildTurns asked left) = Unit {0}
+  ProblemNames c forest.Depth = Unit {0}
+  ProblemNames c (forest.LabelWide left right) = Unit {0}
+
+  pub InnerNames : Configuration → Inner → Type 0
+  InnerNames c (forest.Kept tree) = TreeNames c tree
+  InnerNames c (forest.Faulted problem at) = ProblemNames c problem
+  InnerNames c forest.Hidden = Unit {0}
+
+  pub ItemNames : Configuration → forest.Item → Type 0
+  ItemNames c (forest.Bare tree) = TreeNames c tree
+  ItemNames c (forest.Sealed label inner) = InnerNames c inner
+
+  pub ItemsName : Configuration → Forest → Type 0
+  ItemsName c forest.Nothing = Unit {0}
+  ItemsName c (forest.Then item items) = ItemNames c item × ItemsName c items
+
+-- each handle in a plain value names a cell
 abbrev pub PlainNames : Configuration → Plain → Type 0
-PlainNames c (RefOf handle) = Names c Reference handle
-PlainNames c (VarOf handle) = Names c Variable handle
-PlainNames c (ResultOf handle) = Names c Result handle
-PlainNames c (ChanOf handle) = Names c Channel handle
-PlainNames c plain = Unit {0}
+PlainNames c plain = TreeNames c (tree_of plain)
 
--- the handle in a kind of fault
+-- so does each in a kind of fault
 abbrev pub KindNames : Configuration → FaultKind → Type 0
-KindNames c (User plain) = PlainNames c plain
-KindNames c kind = Unit {0}
+KindNames c kind = ProblemNames c (problem_of kind)
 
--- the handle in a value, open or sealed, names a cell
+-- and each in a value, open or sealed
 abbrev pub ContentNames : Configuration → Content → Type 0
-ContentNames c (Kept plain) = PlainNames c plain
-ContentNames c (Faulted fault) = KindNames c fault.kind
-ContentNames c Hidden = Unit {0}
+ContentNames c content = InnerNames c (inner_of content)
 
 abbrev pub ValueNames : Configuration → Value → Type 0
-ValueNames c (Bare plain) = PlainNames c plain
-ValueNames c (Sealed label content) = ContentNames c content
+ValueNames c value = ItemNames c (item_of value)
 
--- the content of a value isn't hidden
+-- no content in a value is hidden, and what a content keeps and a fault carries is pure
+abbrev mutual
+  pub TreeIsOpen : Tree → Type 0
+  TreeIsOpen (forest.Items items) = ItemsAreOpen items
+  TreeIsOpen forest.Unit = Unit {0}
+  TreeIsOpen (forest.Flag flag) = Unit {0}
+  TreeIsOpen (forest.Whole number) = Unit {0}
+  TreeIsOpen (forest.Bytes text) = Unit {0}
+  TreeIsOpen (forest.Lab label) = Unit {0}
+  TreeIsOpen (forest.Power power) = Unit {0}
+  TreeIsOpen (forest.RefOf handle) = Unit {0}
+  TreeIsOpen (forest.VarOf handle) = Unit {0}
+  TreeIsOpen (forest.ResultOf handle) = Unit {0}
+  TreeIsOpen (forest.ChanOf handle) = Unit {0}
+
+  pub ItemIsOpen : forest.Item → Type 0
+  ItemIsOpen (forest.Bare tree) = TreeIsOpen tree
+  ItemIsOpen (forest.Sealed label inner) = InnerIsOpen inner
+
+  pub InnerIsOpen : Inner → Type 0
+  InnerIsOpen (forest.Kept tree) = IsTrue (tree_is_pure tree)
+  InnerIsOpen (forest.Faulted problem at) = IsProblemPure problem
+  InnerIsOpen forest.Hidden = ⊥
+
+  pub ItemsAreOpen : Forest → Type 0
+  ItemsAreOpen forest.Nothing = Unit {0}
+  ItemsAreOpen (forest.Then item items) = ItemIsOpen item × ItemsAreOpen items
+
 abbrev pub IsOpen : Value → Type 0
-IsOpen (Bare plain) = Unit {0}
-IsOpen (Sealed label content) = content ≡ Hidden → ⊥
+IsOpen value = ItemIsOpen (item_of value)
 
 -- a property of each value in an environment, an item, a task, a node; a fault and a result count as sealed
 abbrev pub EachBound : (Value → Type 0) → Environment → Type 0
@@ -159,7 +224,7 @@ pub record IsSound (c : Configuration) : Type 0 where
   pub literals : (k : ℕ) (task : TaskState) → IsTaskOf c k task → All ItemSays task.items
   pub calls : (k : ℕ) (task : TaskState) → IsTaskOf c k task → open_calls task.items ≤ 64
   pub program : All (λ procedure. IsTrue (block_says procedure.body)) c.program.procedures
-  -- no content is hidden
+  -- no content is hidden, and what a content keeps and a fault carries is pure
   pub shown : (k : ℕ) (task : TaskState) → IsTaskOf c k task → EachInTask IsOpen task
   pub node_shown : (n : ℕ) → EachInState IsOpen (cell_at c n).state
   -- numbers have 31 bits

@@ -11,6 +11,8 @@ ghost use Rattle.lio_calculus.specs.Locality.{RefusedTurnChangesActorAlone, Step
 ghost use Rattle.lio_calculus.specs.Locality.{StepLooksAtTwoCells, StepMakesTheSameCells};
 ghost use Rattle.lio_calculus.specs.Meeting.{VisitMeetsNode};
 ghost use Rattle.lio_calculus.specs.Powers.{PowersAreGiven};
+ghost use Rattle.lio_calculus.specs.Purity.{ErasedIsPure, LowTurnKeepsPurity, SoundIsPure};
+ghost use Rattle.lio_calculus.specs.Purity.{TurnKeepsPurity};
 ghost use Rattle.lio_calculus.specs.Sends.{SendsAreSeen};
 ghost use Rattle.lio_calculus.specs.Waiting.{TaskCanUnlessStill};
 
@@ -119,4 +121,25 @@ pub fn powers_are_given()
 /// An observer of a channel sees all that a run sends to it.
 pub fn sends_are_seen()
     ensures { SendsAreSeen }
+{}
+
+/// What the contents of a sound configuration keep is pure.
+pub fn sound_is_pure()
+    ensures { SoundIsPure }
+{}
+
+/// What an observer sees of pure contents is pure.
+pub fn erased_is_pure()
+    ensures { ErasedIsPure }
+{}
+
+/// A turn leaves contents pure, and shows pure ones.
+pub fn turn_keeps_purity()
+    ensures { TurnKeepsPurity }
+{}
+
+/// A turn of the erased calculus leaves contents pure, and shows pure ones, where the released
+/// contents are pure.
+pub fn low_turn_keeps_purity()
+    ensures { LowTurnKeepsPurity }
 {}

@@ -12,7 +12,7 @@ use Rattle.lio_values.specs.declared.act.Op.{Op}
 use Rattle.lio_values.specs.declared.fault.FaultKind.{FaultKind}
 use Rattle.lio_values.specs.declared.fault.FaultKind.TheVariants.{FlowCurrent, FlowClearance, FlowRaise, FlowPrivilege, LabelWide}
 use Rattle.lio_values.specs.PlainText.{IsPowerNamed}
-use Rattle.lio_events.specs.Named.{IsKindNamed}
+use Rattle.lio_values.specs.Named.{IsKindNamed}
 use Rattle.lio_guards.specs.declared.class.Class.{Class}
 use Rattle.lio_guards.specs.declared.class.Class.TheVariants.{Write, Raise, Exchange}
 use Rattle.lio_guards.specs.declared.verdict.Verdict.{Verdict}

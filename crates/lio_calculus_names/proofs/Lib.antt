@@ -10,3 +10,4 @@ pub mod Literals
 pub mod LowTurns
 pub mod FlowLemmas
 pub mod PowerLaws
+pub mod ContentLemmas

@@ -2,7 +2,8 @@
 use Rattle.std.proofs.Common.{ℕ, List, [], ◌∷◌, All}
 use Rattle.std.proofs.lemmas.List.Elements.{All-nil, All-head, All-tail, All-cons}
 use Rattle.lio_values.specs.declared.value.Plain.{Plain}
-use Rattle.lio_values.specs.declared.value.Plain.TheVariants.{Unit as unit, Flag, Whole, Bytes, Lab, Power, RefOf, VarOf, ResultOf, ChanOf}
+use Rattle.lio_values.specs.declared.value.Plain.TheVariants.{Unit as unit, Flag, Whole, Bytes, Lab, Power, RefOf, VarOf, ResultOf, ChanOf, Items}
+use Rattle.lio_values.specs.Forest as forest
 use Rattle.lio_values.specs.PlainText.{IsPlainNamed}
 use Rattle.lio_syntax_lines.specs.Literals.{IsLiteral}
 use Rattle.lio_syntax_lines.specs.Operands.{IsOperand}
@@ -31,6 +32,8 @@ literal_named names (RefOf handle) is = absurd is
 literal_named names (VarOf handle) is = absurd is
 literal_named names (ResultOf handle) is = absurd is
 literal_named names (ChanOf handle) is = absurd is
+literal_named names (Items forest.Nothing) is = tt
+literal_named names (Items (forest.Then item items)) is = absurd is
 
 operand_named : (names : List (List ℕ)) (operand : Operand) → IsOperand names operand → IsOperandNamed names operand
 operand_named names (Name name) is = tt

@@ -1,5 +1,5 @@
 -- Each principal in what an operand stands for has a name.
-use Rattle.std.proofs.Common.{◌≡◌, refl, subst, ℕ, Bool, true, false, if◌then◌else◌, List, [], ◌∷◌, bytes_eq, All, Option, Some, None}
+use Rattle.std.proofs.Common.{◌≡◌, refl, subst, ℕ, Bool, true, false, if◌then◌else◌, List, [], ◌∷◌, All, Option, Some, None}
 use Rattle.std.specs.Prelude.{option_and_then}
 use Rattle.std.specs.Option.{option_map}
 use Rattle.std.proofs.lemmas.List.Elements.{All-nil, All-head, All-tail, All-cons}
@@ -12,31 +12,24 @@ use Rattle.lio_values.specs.declared.value.Plain.TheVariants.{Lab, Power, RefOf,
 use Rattle.lio_values.specs.declared.value.Value.{Value}
 use Rattle.lio_values.specs.declared.value.Value.TheVariants.{Bare, Sealed}
 use Rattle.lio_values.specs.PlainText.{IsPowerNamed, IsPlainNamed}
-use Rattle.lio_events.specs.Named.{IsContentNamed, IsValueNamed}
+use Rattle.lio_values.specs.Measures.{is_pure}
+use Rattle.lio_values.specs.Named.{IsContentNamed, IsValueNamed}
 use Rattle.lio_syntax_lines.specs.declared.line.Operand.{Operand}
 use Rattle.lio_syntax_lines.specs.declared.line.Operand.TheVariants.{Name, Literal}
-use Rattle.lio_task_control.specs.declared.binding.Binding.{Binding}
-use Rattle.lio_task_control.specs.Environment.{Environment, value_of}
+use Rattle.lio_task_control.specs.Environment.{Environment}
 use Rattle.lio_calculus.specs.Operands.{bound, all_bound, Labelled, sealed_of, seen_as, label_of, power_of, reference_of, variable_of, result_of, channel_of}
 use Rattle.lio_calculus.specs.Sound.{EachBound}
-use Rattle.lio_calculus.proofs.SoundLemmas.{seen-plain}
+use Rattle.lio_calculus.proofs.SoundLemmas.{value_of-each, seen-plain}
 use Rattle.lio_calculus_names.specs.Script.{IsOperandNamed}
-
--- what a name is bound to has what each bound value has
-value_of-each : (P : Value → Type 0) (environment : Environment) (name : List ℕ) (value : Value) → EachBound P environment → value_of environment name ≡ Some value → P value
-unfolding value_of
-value_of-each P [] name value each e = absurd (cc)
-value_of-each P (first ∷ rest) name value each e =
-    found-each (bytes_eq first.name name) (value_of rest name) first.value e (All-head (λ (b : Binding). P b.value) first rest each) (value_of-each P rest name value (All-tail (λ (b : Binding). P b.value) first rest each))
-  where
-    found-each : (here : Bool) (behind : Option Value) (v : Value) → (if here then Some v else behind) ≡ Some value → P v → (behind ≡ Some value → P value) → P value
-    found-each true behind v found p next = let is : v ≡ value = cc in subst P is p
-    found-each false behind v found p next = next found
 
 -- an operand
 pub bound_named : (names : List (List ℕ)) (environment : Environment) (operand : Operand) (value : Value) → EachBound (IsValueNamed names) environment → IsOperandNamed names operand → bound environment operand ≡ Some value → IsValueNamed names value
 bound_named names environment (Name name) value each said e = value_of-each (IsValueNamed names) environment name value each e
-bound_named names environment (Literal plain) value each said e = let is : Bare plain ≡ value = cc in subst (IsValueNamed names) is said
+bound_named names environment (Literal plain) value each said e = by (is_pure plain) e
+  where
+    by : (pure : Bool) → option_map Bare (if pure then Some plain else None) ≡ Some value → IsValueNamed names value
+    by true f = let is : Bare plain ≡ value = cc in subst (IsValueNamed names) is said
+    by false f = absurd (cc)
 
 -- several operands
 pub all_bound_named : (names : List (List ℕ)) (environment : Environment) (operands : List Operand) (vs : List Value) → EachBound (IsValueNamed names) environment → All (IsOperandNamed names) operands

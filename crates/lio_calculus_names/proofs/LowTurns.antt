@@ -7,16 +7,13 @@ use Rattle.lio_labels.specs.declared.label.Label.{Label}
 use Rattle.lio_labels.specs.Flow.{flows}
 use Rattle.lio_values.specs.declared.value.Content.{Content}
 use Rattle.lio_values.specs.declared.value.Content.TheVariants.{Kept, Faulted, Hidden}
-use Rattle.lio_values.specs.declared.value.Value.{Value}
-use Rattle.lio_values.specs.declared.value.Value.TheVariants.{Bare, Sealed}
 use Rattle.lio_values.specs.declared.act.Act.{Act}
 use Rattle.lio_values.specs.declared.act.Act.TheVariants as act
 use Rattle.lio_values.specs.declared.act.Reply.{Reply}
 use Rattle.lio_values.specs.declared.act.Reply.TheVariants.{Done, Got, Told, Refused}
-use Rattle.lio_values.specs.Erasure.{erase_content, erase_value}
-use Rattle.lio_events.specs.Named.{IsContentNamed, IsValueNamed}
-use Rattle.lio_events.specs.Printable.{IsOptionNamed, IsActNamed, IsRaiseOf}
-use Rattle.lio_events.proofs.PrintableLemmas.{erased_is_printable}
+use Rattle.lio_values.specs.Named.{IsContentNamed, IsValueNamed}
+use Rattle.lio_events.specs.Printable.{IsActNamed, IsRaiseOf}
+use Rattle.lio_events.proofs.PrintableLemmas.{value_named, option_named, act_named, raise_of, reply_named}
 use Rattle.lio_cells.specs.declared.state.State.{State}
 use Rattle.lio_cells.specs.declared.state.State.TheVariants.{Absent, Ref, Var, Chan, Job}
 use Rattle.lio_task_control.specs.Environment.{Environment}
@@ -24,11 +21,13 @@ use Rattle.lio_task_control.specs.Items.{Item, Back}
 use Rattle.lio_task_control.specs.Hiding.{hide_binding, hide_environment, hide_item}
 use Rattle.lio_calculus.specs.Task.{TaskState}
 use Rattle.lio_calculus.specs.Plan.{Program, plan}
-use Rattle.lio_calculus.specs.Step.{Cell, Configuration, blank, cell_at, Move, move_of, after, entry_of}
+use Rattle.lio_calculus.specs.Step.{Cell, Configuration, blank, cell_at, Move, move_of, after}
 use Rattle.lio_calculus.specs.Hiding.{hide_task}
 use Rattle.lio_calculus.specs.Erased.{sees, hide_state, hide_cell, erase_cell, erase, Opened, taking_front, opened_release, opened, low_with, low_turn, low}
 use Rattle.lio_calculus.specs.Sound.{EachBound}
+use Rattle.lio_calculus.specs.Purity.{LowTurnIsPure}
 use Rattle.lio_calculus.proofs.ConfigLemmas.{cell_at-erased}
+use Rattle.lio_calculus.proofs.PurityLemmas.{erased_is_pure, low_turn_keeps_purity}
 use Rattle.lio_calculus_names.specs.Script.{IsScriptNamed}
 use Rattle.lio_calculus_names.specs.Configuration.{IsItemNamed, IsTaskNamed, IsStateNamed, NamesOnly}
 use Rattle.lio_calculus_names.specs.NameLaws.{IsLowTurnNamed, ErasedNamesOnly, LowTurnNamesOnly}
@@ -36,22 +35,6 @@ use Rattle.lio_calculus_names.proofs.Statements.{plan_named}
 use Rattle.lio_calculus_names.proofs.Turns.{IsCellNamed, IsMoveNamed, move_named, after_named, program_stays}
 
 -- what is hidden names nothing
-content_named : (names : List (List ℕ)) (observer label : Label) (content : Content) → IsContentNamed names content → IsContentNamed names (erase_content observer label content)
-unfolding erase_content
-content_named names observer label content named = by (flows label observer)
-  where
-    by : (b : Bool) → IsContentNamed names (if b then content else Hidden)
-    by true = named
-    by false = tt
-
-value_named : (names : List (List ℕ)) (observer : Label) (value : Value) → IsValueNamed names value → IsValueNamed names (erase_value observer value)
-value_named names observer (Bare plain) named = named
-value_named names observer (Sealed label content) named = (named.0, content_named names observer label content named.1)
-
-option_named : (names : List (List ℕ)) (observer : Label) (value : Option Value) → IsOptionNamed names value → IsOptionNamed names (option_map (erase_value observer) value)
-option_named names observer None named = tt
-option_named names observer (Some value) named = value_named names observer value named
-
 environment_named : (names : List (List ℕ)) (observer : Label) (environment : Environment) → EachBound (IsValueNamed names) environment → EachBound (IsValueNamed names) (hide_environment observer environment)
 environment_named names observer environment each = All-map (λ binding. IsValueNamed names binding.value) (hide_binding observer) environment (λ k d within. value_named names observer _ (each k d within))
 
@@ -106,7 +89,7 @@ seen_named names observer c named n = subst (IsCellNamed names) (sym (cell_at-er
 pub erased_names_only : ErasedNamesOnly
 erased_names_only names observer c named =
     let cells : (n : ℕ) → IsCellNamed names (cell_at (erase observer c) n) = seen_named names observer c (cells_named names c named) in
-    record { tasks = λ n x is. (cells n).task x is; nodes = λ n. (cells n).state; program = named.program }
+    record { tasks = λ n x is. (cells n).task x is; nodes = λ n. (cells n).state; program = named.program; pure = erased_is_pure observer c named.pure }
 
 -- an act with the released contents that are left
 record IsOpenedNamed (names : List (List ℕ)) (o : Opened) : Type 0 where
@@ -157,27 +140,34 @@ pub low_turn_names_only : LowTurnNamesOnly
 unfolding low
 low_turn_names_only names observer ticket c k contents turn named all steps = by (cell_at c k).task refl steps
   where
-    made : (task : TaskState) (move : Move) (o : Opened) → IsTaskNamed names task → IsMoveNamed names move → IsOpenedNamed names o → IsLowTurnNamed names (low_with observer ticket c k task move o)
-    made task move o t m opens =
+    made : (task : TaskState) (move : Move) (o : Opened) → IsTaskNamed names task → IsMoveNamed names move → IsOpenedNamed names o → LowTurnIsPure (low_with observer ticket c k task move o) → IsLowTurnNamed names (low_with observer ticket c k task move o)
+    made task move o t m opens kept =
         let seen : Move = record move { act = o.act } in
         let cells : (n : ℕ) → IsCellNamed names (cell_at (after c k task seen) n) =
         after_named names c k task seen named.program (cells_named names c named) t (record { asked = opens.act; raise = opens.raise; reply = m.reply; onward = m.onward }) in
         let low_cells : (n : ℕ) → IsCellNamed names (cell_at (erase observer (after c k task seen)) n) = seen_named names observer (after c k task seen) cells in
         record {
-          entry = erased_is_printable names observer (entry_of ticket k task seen) (record { at = t.label; act = opens.act; raise = opens.raise; reply = m.reply });
+          entry = record {
+            at = t.label;
+            act = act_named names observer o.act opens.act;
+            raise = raise_of observer o.act opens.raise;
+            reply = reply_named names observer move.reply m.reply;
+            pure = (kept.entry.act, kept.entry.reply);
+          };
           next = record {
             tasks = λ n x is. (low_cells n).task x is;
             nodes = λ n. (low_cells n).state;
             program = subst (λ (program : Program). IsScriptNamed names program.procedures) (sym (program_stays c k task seen)) named.program;
+            pure = kept.next;
           };
-          left = opens.left;
+          left = λ place d within. (opens.left place d within, kept.left place d within);
         }
 
     opens : (task : TaskState) (move : Move) → IsTaskNamed names task → IsMoveNamed names move → (o : Option Opened) → opened observer move.act move.reply contents ≡ o → option_map (low_with observer ticket c k task move) o ≡ Some turn → IsLowTurnNamed names turn
     opens task move t m None is e = absurd (cc)
     opens task move t m (Some o) is e =
         let same : low_with observer ticket c k task move o ≡ turn = cc in
-        subst (IsLowTurnNamed names) same (made task move o t m (opened_named names observer move.act move.reply contents o m.asked m.raise all is))
+        subst (IsLowTurnNamed names) same (made task move o t m (opened_named names observer move.act move.reply contents o m.asked m.raise (λ place d within. (all place d within).0) is) (subst LowTurnIsPure (sym same) (low_turn_keeps_purity observer ticket c k contents turn named.pure (λ place d within. (all place d within).1) steps)))
 
     moves : (task : TaskState) → IsTaskNamed names task → (m : Option Move) → move_of (cell_at c) (plan c.program task) ≡ m
         → option_and_then (λ move. option_map (low_with observer ticket c k task move) (opened observer move.act move.reply contents)) m ≡ Some turn → IsLowTurnNamed names turn

@@ -4,7 +4,7 @@ use Rattle.lio_values.specs.declared.value.Content.{Content}
 use Rattle.lio_values.specs.declared.value.Value.{Value}
 use Rattle.lio_values.specs.declared.act.Act.{Act}
 use Rattle.lio_values.specs.declared.act.Act.TheVariants as act
-use Rattle.lio_events.specs.Named.{IsContentNamed, IsValueNamed}
+use Rattle.lio_values.specs.Named.{IsContentNamed, IsValueNamed}
 use Rattle.lio_events.specs.Printable.{IsOptionNamed, IsActNamed, IsReplyNamed}
 use Rattle.lio_cells.specs.declared.state.State.{State}
 use Rattle.lio_cells.specs.declared.state.State.TheVariants.{Absent, Ref, Var, Chan, Job}

@@ -1,30 +1,36 @@
 -- Each principal in what an operator gives, or in its fault, has a name where each in the operands has one.
-use Rattle.std.proofs.Common.{ℕ, ℤ, List, Bool, true, false, if◌then◌else◌, nat_le, length, Result, Ok, Err, Option, Some, None}
+use Rattle.std.proofs.Common.{◌≡◌, refl, sym, subst, ℕ, ℤ, List, [], ◌∷◌, All, Bool, true, false, if◌then◌else◌, nat_le, length, Result, Ok, Err, Option, Some, None}
 use Rattle.std.specs.Ordering.{int_eq}
-use Rattle.std.specs.Prelude.{pos, ◌++◌, drop, take, ◌+ℤ◌, ◌-ℤ◌, ◌*ℤ◌, neg_ℤ, int_div, int_rem, codes}
+use Rattle.std.specs.Prelude.{pos, negsuc, slice_get, ◌++◌, drop, take, ◌+ℤ◌, ◌-ℤ◌, ◌*ℤ◌, neg_ℤ, int_div, int_rem, codes}
 use Rattle.std.specs.Fmt.{signed_decimal}
+use Rattle.std.proofs.lemmas.List.Elements.{All-nil, All-head, All-tail, All-cons, All-append, All-take, All-drop}
 use Rattle.lio_labels.specs.declared.label.Label.{Label}
 use Rattle.lio_labels.specs.Bounds.{join, meet}
 use Rattle.lio_labels.specs.LabelPrint.{AreNamed}
 use Rattle.lio_labels.proofs.NamedLemmas.{join_is_named, meet_is_named}
 use Rattle.lio_values.specs.declared.value.Plain.{Plain}
-use Rattle.lio_values.specs.declared.value.Plain.TheVariants.{Unit as unit, Flag, Whole, Bytes, Lab, RefOf, VarOf, ResultOf, ChanOf}
+use Rattle.lio_values.specs.declared.value.Plain.TheVariants.{Unit as unit, Flag, Whole, Bytes, Lab, RefOf, VarOf, ResultOf, ChanOf, Items}
 use Rattle.lio_values.specs.declared.value.Value.{Value}
 use Rattle.lio_values.specs.declared.value.Value.TheVariants.{Bare, Sealed}
 use Rattle.lio_values.specs.declared.fault.FaultKind.{FaultKind}
 use Rattle.lio_values.specs.declared.fault.FaultKind.TheVariants.{Overflow, DivZero, TooLong, LabelWide}
+use Rattle.lio_values.specs.Forest.{Forest, Nothing, Then}
+use Rattle.lio_values.specs.ForestText.{IsItemNamed, AreItemsNamed}
 use Rattle.lio_values.specs.PlainText.{IsPlainNamed}
+use Rattle.lio_values.specs.Views.{value_of, values_of, forest_of, item_of-value_of}
 use Rattle.lio_syntax_lines.specs.declared.operators.One.{One}
 use Rattle.lio_syntax_lines.specs.declared.operators.One.TheVariants.{Not, Neg, Len, Num, Str, LabelOf}
 use Rattle.lio_syntax_lines.specs.declared.operators.Two.{Two}
-use Rattle.lio_syntax_lines.specs.declared.operators.Two.TheVariants.{Add, Sub, Mul, Div, Rem, Eq, From, Upto, Join, Meet}
+use Rattle.lio_syntax_lines.specs.declared.operators.Two.TheVariants.{Add, Sub, Mul, Div, Rem, Eq, From, Upto, Join, Meet, Push, At}
 use Rattle.lio_syntax_lines.specs.Literals.{whole_of, is_whole}
-use Rattle.lio_events.specs.Named.{IsKindNamed, IsValueNamed}
+use Rattle.lio_values.specs.Named.{IsKindNamed, IsValueNamed}
 use Rattle.lio_operators.specs.Wholes.{fitting, divided, on_wholes}
 use Rattle.lio_operators.specs.Texts.{made, place_at, on_texts, on_text_at}
 use Rattle.lio_operators.specs.Labels.{is_wide, bounded, on_labels}
 use Rattle.lio_operators.specs.Flags.{on_flags, on_units}
+use Rattle.lio_operators.specs.Lists.{list, may_be_made, made_list, found, value_at, on_last, list_and}
 use Rattle.lio_operators.specs.Operators.{bare, not_of, neg_of, len_of, whole_read, num_of, flag_text, str_of, label_of, on_plain, on_sealed, operate1, flag_and, unit_and, whole_and, text_and, label_and, on_plains, operate2}
+use Rattle.lio_calculus.proofs.Lists.{All-slice_get}
 
 -- each principal in what an operator gives, or in its fault, has a name
 abbrev Named : List (List ℕ) → Result Plain FaultKind → Type 0
@@ -180,8 +186,51 @@ unfolding operate1
 one_named names longest op (Bare a) named = bare_named names (on_plain longest op a) (plain_named names longest op a named)
 one_named names longest op (Sealed label content) named = bare_named names (on_sealed op label) (sealed_named names op label named.0)
 
+-- lists
+listed_named : (names : List (List ℕ)) (values : List Value) → All (IsValueNamed names) values → AreItemsNamed names (forest_of values)
+listed_named names [] all = tt
+listed_named names (value ∷ values) all = (All-head (IsValueNamed names) value values all, listed_named names values (All-tail (IsValueNamed names) value values all))
+
+items_named : (names : List (List ℕ)) (items : Forest) → AreItemsNamed names items → All (IsValueNamed names) (values_of items)
+items_named names Nothing named = All-nil (IsValueNamed names)
+items_named names (Then item items) named =
+    All-cons (IsValueNamed names) (value_of item) (values_of items) (subst (IsItemNamed names) (sym (item_of-value_of item)) named.0) (items_named names items named.1)
+
+made_list_named : (names : List (List ℕ)) (longest : ℕ) (values : List Value) → All (IsValueNamed names) values → IsGivenNamed names (made_list longest values)
+made_list_named names longest values all = by (may_be_made longest (forest_of values))
+  where
+    by : (b : Bool) → IsGivenNamed names (if b then list values else Err TooLong)
+    by true = listed_named names values all
+    by false = tt
+
+last_named : (names : List (List ℕ)) (longest : ℕ) (op : Two) (items : Forest) (b : Value) → AreItemsNamed names items → IsValueNamed names b → IsGivenNamed names (on_last longest op items b)
+last_named names longest Push items b left right =
+    made_list_named names longest (values_of items ++ b ∷ []) (All-append (IsValueNamed names) (values_of items) (b ∷ []) (items_named names items left) (All-cons (IsValueNamed names) b [] right (All-nil (IsValueNamed names))))
+last_named names longest op items b left right = tt
+
+found_at_named : (names : List (List ℕ)) (values : List Value) (at : ℤ) → All (IsValueNamed names) values → IsGivenNamed names (found (value_at values at))
+found_at_named names values (negsuc number) all = tt
+found_at_named names values (pos place) all = by (slice_get values place) refl
+  where
+    by : (o : Option Value) → slice_get values place ≡ o → IsGivenNamed names (found o)
+    by (Some value) is = All-slice_get (IsValueNamed names) values place value all is
+    by None is = tt
+
+list_and_named : (names : List (List ℕ)) (longest : ℕ) (op : Two) (items : Forest) (b : Plain) → AreItemsNamed names items → IsPlainNamed names b → IsGivenNamed names (list_and longest op items b)
+list_and_named names longest Push items b left right = last_named names longest Push items (Bare b) left right
+list_and_named names longest Add items (Items others) left right =
+    made_list_named names longest (values_of items ++ values_of others) (All-append (IsValueNamed names) (values_of items) (values_of others) (items_named names items left) (items_named names others right))
+list_and_named names longest At items (Whole at) left right = found_at_named names (values_of items) at (items_named names items left)
+list_and_named names longest From items (Whole at) left right = listed_named names (drop (place_at at) (values_of items)) (All-drop (IsValueNamed names) (place_at at) (values_of items) (items_named names items left))
+list_and_named names longest Upto items (Whole at) left right = listed_named names (take (place_at at) (values_of items)) (All-take (IsValueNamed names) (place_at at) (values_of items) (items_named names items left))
+list_and_named names longest op items (Items others) left right = tt
+list_and_named names longest op items (Whole at) left right = tt
+list_and_named names longest op items b left right = tt
+
 pub two_named : (names : List (List ℕ)) (longest : ℕ) (op : Two) (a b : Value) → IsValueNamed names a → IsValueNamed names b → IsGivenNamed names (operate2 longest op a b)
 unfolding operate2
+two_named names longest op (Bare (Items items)) (Bare b) left right = list_and_named names longest op items b left right
 two_named names longest op (Bare a) (Bare b) left right = bare_named names (on_plains longest op a b) (plains_named names longest op a b left right)
+two_named names longest op (Bare (Items items)) (Sealed label content) left right = last_named names longest op items (Sealed label content) left right
 two_named names longest op (Bare a) (Sealed label content) left right = tt
 two_named names longest op (Sealed label content) b left right = tt

@@ -3,7 +3,7 @@ use Rattle.std.proofs.Common.{◌≡◌, refl, ℕ, List, Option, Some, None}
 use Rattle.std.specs.Prelude.{option_and_then, slice_get}
 use Rattle.lio_labels.specs.LabelPrint.{AreNamed}
 use Rattle.lio_values.specs.PlainText.{IsPlainNamed}
-use Rattle.lio_events.specs.Named.{IsFaultNamed, IsContentNamed, IsValueNamed}
+use Rattle.lio_values.specs.Named.{IsFaultNamed, IsContentNamed, IsValueNamed}
 use Rattle.lio_events.specs.Printable.{IsActNamed, IsRaiseOf, IsReplyNamed}
 use Rattle.lio_syntax.specs.Statements.{Procedure}
 use Rattle.lio_calculus.specs.Going.{Onward, Bind, Seal, Enter, Repeat, Try, Call, Return, Leave, Raise, RaiseTo, Unlabel, Lower, Release, Expose, HoldReference, HoldVariable, Fork, Throw}

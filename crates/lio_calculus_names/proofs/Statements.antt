@@ -13,7 +13,7 @@ use Rattle.lio_values.specs.declared.act.Act.TheVariants as act
 use Rattle.lio_values.specs.declared.act.Op.{Op}
 use Rattle.lio_values.specs.declared.act.Op.TheVariants as op
 use Rattle.lio_values.specs.PlainText.{IsPowerNamed}
-use Rattle.lio_events.specs.Named.{IsKindNamed, IsValueNamed}
+use Rattle.lio_values.specs.Named.{IsKindNamed, IsValueNamed}
 use Rattle.lio_events.specs.Printable.{IsActNamed, IsRaising, IsRaiseOf}
 use Rattle.lio_syntax_lines.specs.declared.line.Operand.{Operand}
 use Rattle.lio_syntax_lines.specs.declared.line.Simple.{Simple}
@@ -140,10 +140,10 @@ module _ (names : List (List ℕ)) (task : TaskState) (t : IsTaskNamed names tas
       (tt, tt, tt, (bind_all-each (IsValueNamed names) [] procedure.parameters _ (All-nil _) (all_bound_named names task.environment arguments _ t.environment said e), body))
   outcome_named program script said out.IsTooDeep = refused_named act.Step Depth tt tt tt
   outcome_named program script said (out.Returns {a = a} e) = (tt, tt, tt, value_at a _ (first names a [] said) e)
-  outcome_named program script said (out.Finishes {a = a} e) = (value_at a _ (first names a [] said) e, tt, tt, tt)
+  outcome_named program script said (out.Finishes {a = a} e pure) = (value_at a _ (first names a [] said) e, tt, tt, tt)
   outcome_named program script said out.Stops = (tt, tt, tt, tt)
-  outcome_named program script said (out.Throws {a = a} {plain = plain} e) = refused_named act.Step (User plain) tt tt (value_at a _ (first names a [] said) e)
-  outcome_named program script said (out.Seals {l = l} {a = a} e f) = let n = label_at l _ (first names l (a ∷ []) said) e in (n, tt, tt, (n, value_at a _ (second names l a [] said) f))
+  outcome_named program script said (out.Throws {a = a} {plain = plain} e pure) = refused_named act.Step (User plain) tt tt (value_at a _ (first names a [] said) e)
+  outcome_named program script said (out.Seals {l = l} {a = a} e f pure) = let n = label_at l _ (first names l (a ∷ []) said) e in (n, tt, tt, (n, value_at a _ (second names l a [] said) f))
   outcome_named program script said (out.Unlabels {a = a} {sealed = s} {current = current} e f) =
       let n = sealed_at a s (first names a [] said) e in (n.0, tt, tt, (verdict_named (On op.Unlabel s.label) (Go current) n.0 f, n.1))
   outcome_named program script said (out.Taints {l = l} {label = label} {current = current} e f) =

@@ -14,7 +14,7 @@ use Rattle.lio_values.specs.declared.act.Act.TheVariants as act
 use Rattle.lio_values.specs.declared.act.Reply.{Reply}
 use Rattle.lio_values.specs.declared.act.Reply.TheVariants.{Got, Told}
 use Rattle.lio_values.specs.PlainText.{IsPlainNamed}
-use Rattle.lio_events.specs.Named.{IsKindNamed, IsFaultNamed, IsContentNamed, IsValueNamed}
+use Rattle.lio_values.specs.Named.{IsKindNamed, IsFaultNamed, IsContentNamed, IsValueNamed}
 use Rattle.lio_events.specs.Printable.{IsActNamed, IsReplyNamed}
 use Rattle.lio_syntax.specs.Statements.{Statements, Nothing, Then, While}
 use Rattle.lio_task_control.specs.Environment.{Environment, bind}

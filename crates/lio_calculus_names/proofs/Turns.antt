@@ -8,7 +8,7 @@ use Rattle.lio_labels.specs.LabelPrint.{AreNamed}
 use Rattle.lio_values.specs.declared.act.Act.{Act}
 use Rattle.lio_values.specs.declared.act.Act.TheVariants as act
 use Rattle.lio_values.specs.declared.act.Birth.{Birth}
-use Rattle.lio_events.specs.Named.{IsValueNamed}
+use Rattle.lio_values.specs.Named.{IsValueNamed}
 use Rattle.lio_events.specs.Printable.{IsBirthNamed, IsActNamed, IsRaiseOf, IsReplyNamed, IsPrintable}
 use Rattle.lio_cells.specs.declared.state.State.TheVariants.{Absent}
 use Rattle.lio_calculus.specs.Task.{TaskState}
@@ -16,7 +16,9 @@ use Rattle.lio_calculus.specs.Plan.{Program, Plan, Over, Own, Visit, Target, pla
 use Rattle.lio_calculus.specs.Step.{Cell, Configuration, blank, cell_at, with_cell, number_of, is_met, met, Move, move_of, body_of, parameters_of, child_of, born, task_after, met_after, actor_after, target_after, after, Turn, step}
 use Rattle.lio_calculus.specs.Run.{Ran, ran_after, run}
 use Rattle.lio_calculus.proofs.PlanEach.{bind_all-each}
-use Rattle.lio_calculus.proofs.TurnParts.{parts, own-moves, visit-moves, over-moves}
+use Rattle.lio_calculus.proofs.PurityLemmas.{turn_keeps_purity}
+use Rattle.lio_calculus.proofs.TurnParts.{made_of, parts, own-moves, visit-moves, over-moves}
+use Rattle.lio_calculus.specs.Purity.{TurnIsPure}
 use Rattle.lio_calculus_names.specs.Script.{IsScriptNamed}
 use Rattle.lio_calculus_names.specs.Configuration.{IsTaskNamed, IsStateNamed, NamesOnly}
 use Rattle.lio_calculus_names.specs.NameLaws.{IsTurnNamed, TurnNamesOnly, IsRunNamed, RunNamesOnly}
@@ -129,12 +131,15 @@ turn_names_only names ticket c k turn named steps =
     let t : IsTaskNamed names p.task = named.tasks k p.task p.is in
     let m : IsMoveNamed names p.move = move_named names c (plan c.program p.task) p.move named.nodes (plan_named names c.program p.task named.program t) p.moves in
     let cells : (n : ℕ) → IsCellNamed names (cell_at (after c k p.task p.move) n) = after_named names c k p.task p.move named.program (λ n. record { state = named.nodes n; task = named.tasks n }) t m in
+    let pure : TurnIsPure turn = turn_keeps_purity ticket c k turn named.pure steps in
+    let made_pure : TurnIsPure (made_of ticket c k p.task p.move) = subst TurnIsPure (sym p.made) pure in
     subst (IsTurnNamed names) p.made (record {
-      entry = record { at = t.label; act = m.asked; raise = m.raise; reply = m.reply };
+      entry = record { at = t.label; act = m.asked; raise = m.raise; reply = m.reply; pure = (made_pure.entry.act, made_pure.entry.reply) };
       next = record {
         tasks = λ n x is. (cells n).task x is;
         nodes = λ n. (cells n).state;
         program = subst (λ (program : Program). IsScriptNamed names program.procedures) (sym (program_stays c k p.task p.move)) named.program;
+        pure = made_pure.next;
       };
     })
 

@@ -1,8 +1,9 @@
--- Which principals a configuration names: those in the labels and values of its tasks and nodes, and in the literals of its program. Each of them has a name.
+-- Which principals a configuration names: those in the labels and values of its tasks and nodes, and in the literals of its program. Each of them has a name,
+-- and its contents are pure, so that what its turns show can be printed.
 use Rattle.std.specs.Prelude.{ℕ, List, All, Option, Some, None}
 use Rattle.lio_labels.specs.LabelPrint.{AreNamed}
 use Rattle.lio_values.specs.declared.value.Content.{Content}
-use Rattle.lio_events.specs.Named.{IsFaultNamed, IsContentNamed, IsValueNamed}
+use Rattle.lio_values.specs.Named.{IsFaultNamed, IsContentNamed, IsValueNamed}
 use Rattle.lio_events.specs.Printable.{IsOptionNamed}
 use Rattle.lio_cells.specs.declared.state.State.{State}
 use Rattle.lio_cells.specs.declared.state.State.TheVariants.{Absent, Ref, Var, Chan, Job}
@@ -10,6 +11,7 @@ use Rattle.lio_task_control.specs.Items.{Item, Do, Access, Mark, Back, Fail}
 use Rattle.lio_calculus.specs.Task.{TaskState}
 use Rattle.lio_calculus.specs.Step.{Configuration, cell_at}
 use Rattle.lio_calculus.specs.Sound.{EachBound, IsTaskOf}
+use Rattle.lio_calculus.specs.Purity.{ContentsArePure}
 use Rattle.lio_calculus_names.specs.Script.{IsSimpleNamed, IsStatementNamed, IsBlockNamed, IsScriptNamed}
 
 -- each principal in an item has a name: in literals, in a caller's environment, in a fault
@@ -40,8 +42,9 @@ IsStateNamed names (Var label value) = AreNamed names label × IsOptionNamed nam
 IsStateNamed names (Chan label received) = AreNamed names label
 IsStateNamed names (Job label result) = AreNamed names label × IsResultNamed names result
 
--- A configuration names only principals that have names.
+-- A configuration names only principals that have names, and its contents are pure.
 pub record NamesOnly (names : List (List ℕ)) (c : Configuration) : Type 0 where
   pub tasks : (k : ℕ) (task : TaskState) → IsTaskOf c k task → IsTaskNamed names task
   pub nodes : (n : ℕ) → IsStateNamed names (cell_at c n).state
   pub program : IsScriptNamed names c.program.procedures
+  pub pure : ContentsArePure c

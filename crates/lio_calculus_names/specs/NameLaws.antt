@@ -2,8 +2,11 @@
 use Rattle.std.specs.Prelude.{◌≡◌, ℕ, List, All, Some}
 use Rattle.lio_labels.specs.declared.label.Label.{Label}
 use Rattle.lio_values.specs.declared.value.Content.{Content}
-use Rattle.lio_events.specs.Named.{IsContentNamed}
+use Rattle.lio_values.specs.Named.{IsContentNamed}
+use Rattle.lio_values.specs.Purity.{IsContentPure}
+use Rattle.lio_values.specs.declared.entry.Entry.{Entry}
 use Rattle.lio_events.specs.Printable.{IsPrintable}
+use Rattle.lio_events.specs.Views.{releases}
 use Rattle.lio_calculus.specs.Step.{Configuration, Turn, step}
 use Rattle.lio_calculus.specs.Erased.{LowTurn, erase, low}
 use Rattle.lio_calculus.specs.Run.{Ran, run}
@@ -33,13 +36,21 @@ RunNamesOnly = (names : List (List ℕ)) (ticket : ℕ) (c : Configuration) (ks 
 abbrev pub ErasedNamesOnly : Type 0
 ErasedNamesOnly = (names : List (List ℕ)) (observer : Label) (c : Configuration) → NamesOnly names c → NamesOnly names (erase observer c)
 
--- what a turn of the erased calculus shows can be printed, and the configuration after it and the released contents that are left name only principals that have names
+-- a content that can be printed: each principal in it has a name, and what it keeps is pure
+abbrev pub IsContentPrintable : List (List ℕ) → Content → Type 0
+IsContentPrintable names content = IsContentNamed names content × IsContentPure content
+
+-- what a journal that can be printed releases to an observer
+abbrev pub ReleasesArePrintable : Type 0
+ReleasesArePrintable = (names : List (List ℕ)) (observer : Label) (entries : List Entry) → All (IsPrintable names) entries → All (IsContentPrintable names) (releases observer entries)
+
+-- what a turn of the erased calculus shows can be printed, and so can the released contents that are left; the configuration after it names only principals that have names
 pub record IsLowTurnNamed (names : List (List ℕ)) (turn : LowTurn) : Type 0 where
   pub entry : IsPrintable names turn.entry
   pub next : NamesOnly names turn.next
-  pub left : All (IsContentNamed names) turn.left
+  pub left : All (IsContentPrintable names) turn.left
 
--- a turn of the erased calculus from a configuration, and with released contents, that name only principals that have names
+-- a turn of the erased calculus from a configuration that names only principals that have names, and with released contents that can be printed
 abbrev pub LowTurnNamesOnly : Type 0
 LowTurnNamesOnly = (names : List (List ℕ)) (observer : Label) (ticket : ℕ) (c : Configuration) (k : ℕ) (contents : List Content) (turn : LowTurn)
-    → NamesOnly names c → All (IsContentNamed names) contents → low observer ticket c k contents ≡ Some turn → IsLowTurnNamed names turn
+    → NamesOnly names c → All (IsContentPrintable names) contents → low observer ticket c k contents ≡ Some turn → IsLowTurnNamed names turn

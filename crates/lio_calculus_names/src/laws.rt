@@ -1,7 +1,8 @@
 //! The laws of the principals and of the privileges of runs. Each function does nothing: its
 //! contract is the law.
 ghost use Rattle.lio_calculus_names.specs.NameLaws.{ErasedNamesOnly, LowTurnNamesOnly};
-ghost use Rattle.lio_calculus_names.specs.NameLaws.{RunNamesOnly, TurnNamesOnly};
+ghost use Rattle.lio_calculus_names.specs.NameLaws.{ReleasesArePrintable, RunNamesOnly};
+ghost use Rattle.lio_calculus_names.specs.NameLaws.{TurnNamesOnly};
 ghost use Rattle.lio_calculus_names.specs.PowerLaws.{RunReleasesByPowers};
 
 /// A turn names no principal that nothing named before it.
@@ -22,6 +23,11 @@ pub fn erased_names_only()
 /// A turn of the erased calculus names no principal that nothing named before it.
 pub fn low_turn_names_only()
     ensures { LowTurnNamesOnly }
+{}
+
+/// What a journal that can be printed releases to an observer can be printed.
+pub fn releases_are_printable()
+    ensures { ReleasesArePrintable }
 {}
 
 /// A run from a sound configuration releases and exposes by the privileges in it alone, and each

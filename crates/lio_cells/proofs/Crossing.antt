@@ -2,12 +2,9 @@
 use denote.Param.Send.{IsSend, sendable, view_send}
 use denote.Param.SendFields.{declared_send, variants_send, as_row_send}
 use Rattle.std.proofs.Crossing.{crosses, Arc-send, Arc-sync}
-use Rattle.lio_values.proofs.entry.Entry.TheSendSync as entry
+use Rattle.lio_labels.proofs.label.Label.TheSendSync as label
 use Rattle.lio_values.proofs.text.Text.TheSendSync as text
-use Rattle.lio_values.proofs.value.Content.TheSendSync as content
-use Rattle.lio_values.proofs.value.Value.TheSendSync as value
-use Rattle.lio_values.specs.contracts.value.Content as K
-use Rattle.lio_values.specs.contracts.value.Value as V
+use Rattle.lio_cells.proofs.ValueCrossing.{content-send, value-send, entry-send}
 use Rattle.lio_cells.proofs.bytes.Pieces.TheLaws.TheKnot as pieces
 use Rattle.lio_cells.proofs.waiter.Waiters.TheSendSync as waiters
 use Rattle.lio_cells.specs.contracts.bytes.Pieces as P
@@ -28,13 +25,28 @@ bytes-send : IsSend B.the_row
 bytes-send = view_send _ _ _ _ _ bytes-inside
 
 state-send : IsSend S.the_row
-state-send = search (sendable, crosses, bytes-send, value.the_send, content.the_send) depth 100 fits 20000
+state-send = variants_send S.enum (
+  tt,
+  (
+    (label.the_send, (value-send, tt)),
+    (
+      (label.the_send, (search (sendable, crosses, as_row_send, value-send) depth 100 fits 20000, tt)),
+      (
+        (label.the_send, (bytes-send, tt)),
+        (
+          (label.the_send, (search (sendable, crosses, as_row_send, content-send) depth 100 fits 20000, tt)),
+          tt,
+        ),
+      ),
+    ),
+  ),
+)
 
 room-send : IsSend R.the_row
-room-send = variants_send R.enum (tt, (tt, ((as_row_send V.the_field value.the_field_send, tt), ((as_row_send B.the_field bytes-send, tt), ((state-send, tt), ((as_row_send K.the_field content.the_field_send, tt), tt))))))
+room-send = variants_send R.enum (tt, (tt, ((value-send, tt), ((as_row_send B.the_field bytes-send, tt), ((state-send, tt), ((content-send, tt), tt))))))
 
 log-inside : IsSend LI.the_row
-log-inside = declared_send LI.the_type (search (sendable, crosses, as_row_send, state-send) depth 100 fits 20000, (search (sendable, crosses, as_row_send, entry.the_send) depth 100 fits 20000, (search (sendable, as_row_send), tt)))
+log-inside = declared_send LI.the_type (search (sendable, crosses, as_row_send, state-send) depth 100 fits 20000, (search (sendable, crosses, as_row_send, entry-send) depth 100 fits 20000, (search (sendable, as_row_send), tt)))
 
 log-send : IsSend L.the_row
 log-send = view_send _ _ _ _ _ log-inside

@@ -62,8 +62,12 @@ pub struct Log {
 
 impl Model for Log {
     ghost use Rattle.lio_cells.specs.Log.{LogState, HasLast, pending_of, served_of};
+    ghost use Rattle.lio_values.specs.ForestCode.{forest_code};
+    ghost use Rattle.std.specs.Coded.{codes};
 
     ghost Value = { LogState };
+
+    ghost coded = { Prim.hlevel (codes, forest_code) };
 
     ghost view = { λ l. record {
       first = l.first;

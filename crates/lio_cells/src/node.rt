@@ -32,8 +32,12 @@ pub struct Node {
 impl Model for Node {
     ghost use Rattle.lio_cells.specs.Node.{IsKept, NodeState};
     ghost use Rattle.lio_cells.specs.Log.{KeepsFirst, first_of};
+    ghost use Rattle.lio_values.specs.ForestCode.{forest_code};
+    ghost use Rattle.std.specs.Coded.{codes};
 
     ghost Value = { NodeState };
+
+    ghost coded = { Prim.hlevel (codes, forest_code) };
 
     ghost view = { λ n. record {
       state = n.state;

@@ -2,12 +2,12 @@
 use denote.Param.Send.{IsSend, sendable}
 use Rattle.std.proofs.Crossing.{crosses}
 use Rattle.lio_cells.proofs.Crossing.{node-send}
-use Rattle.lio_task.proofs.task.Task.TheSendSync as task
+use Rattle.lio_config.proofs.TaskCrossing.{task-send}
 use Rattle.lio_config.specs.contracts.config.Config as C
 use Rattle.lio_config.specs.contracts.config.Holder as G
 
 pub holder-send : IsSend G.the_row
-holder-send = search (sendable, crosses, node-send, task.the_send) depth 100 fits 20000
+holder-send = search (sendable, crosses, node-send, task-send) depth 100 fits 20000
 
 pub config-send : IsSend C.the_row
 config-send = search (sendable, crosses, holder-send) depth 100 fits 20000

@@ -7,4 +7,5 @@ pub mod LogLemmas
 pub mod PreviewLemmas
 pub mod SoundLemmas
 pub mod PartLemmas
+pub mod TaskCrossing
 pub mod Crossing

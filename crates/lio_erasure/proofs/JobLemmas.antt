@@ -15,7 +15,9 @@ use Rattle.lio_calculus.specs.Step.{Cell, Configuration, blank, born, cell_at, i
 use Rattle.lio_calculus.specs.Erased.{erase, erase_cell, hide_state, sees}
 use Rattle.lio_calculus.specs.Afforded.{kind_met, makes}
 use Rattle.lio_calculus.proofs.ConfigLemmas.{cell_at-erased, erase-twice}
+use Rattle.lio_calculus.specs.Purity.{ContentsArePure}
 use Rattle.lio_calculus.proofs.InvisibleLemmas.{erase_cell-seen, erase_cell-unseen}
+use Rattle.lio_calculus.proofs.PurityLemmas.{erased_is_pure, sound_is_pure}
 use Rattle.lio_erasure.specs.Low.{IsErased, IsSeenOfSound, TasksAreJobs}
 use Rattle.lio_erasure.proofs.ActLemmas.{job-after, met-unborn}
 
@@ -42,13 +44,13 @@ cell-job observer cell job = by (sees observer cell) refl
 jobs-erased : (observer : Label) (c : Configuration) → TasksAreJobs c → TasksAreJobs (erase observer c)
 jobs-erased observer c jobs = λ k. subst IsJobWithTask (sym (cell_at-erased observer c k)) (cell-job observer (cell_at c k) (jobs k))
 
--- what an observer sees of a configuration in which each task has a job
-pub is_erased : (observer : Label) (c : Configuration) → TasksAreJobs c → IsErased observer (erase observer c)
-is_erased observer c jobs = record { jobs = jobs-erased observer c jobs; erased = erase-twice observer c }
+-- what an observer sees of a configuration in which each task has a job, and whose contents are pure
+pub is_erased : (observer : Label) (c : Configuration) → TasksAreJobs c → ContentsArePure c → IsErased observer (erase observer c)
+is_erased observer c jobs pure = record { jobs = jobs-erased observer c jobs; erased = erase-twice observer c; pure = erased_is_pure observer c pure }
 
 pub sound-erased : (observer : Label) (c : Configuration) → IsSeenOfSound observer c → IsErased observer c
 sound-erased observer c seen =
-    subst (IsErased observer) (sym seen.seen) (is_erased observer seen.whole (λ k some. sym (seen.sound.jobs k) ∙ some))
+    subst (IsErased observer) (sym seen.seen) (is_erased observer seen.whole (λ k some. sym (seen.sound.jobs k) ∙ some) (sound_is_pure seen.whole seen.sound))
 
 -- with another cell
 cells-set : (P : Cell → Type 0) (cells : List Cell) (k : ℕ) (cell : Cell) → ((n : ℕ) → P (get_or cells n blank)) → P cell → (n : ℕ) → P (get_or (slice_set cells k cell) n blank)

@@ -40,7 +40,7 @@ told-leads asked content onward leads = tt
 
 -- the cases of a plan
 items-lead : {program : Program} {task : TaskState} {items : List Item} {p : Plan} → ItemsCase program task items p → LeadsPlan p
-items-lead (Does (out.Seals e f)) = refl
+items-lead (Does (out.Seals e f pure)) = refl
 items-lead (Does (out.Releases asks e f)) = refl
 items-lead (Does (out.Exposes asks e f)) = refl
 items-lead (Visits (Reads e)) = tt

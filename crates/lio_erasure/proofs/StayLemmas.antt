@@ -12,7 +12,11 @@ use Rattle.lio_values.specs.declared.value.Value.TheVariants.{Bare, Sealed}
 use Rattle.lio_values.specs.declared.act.Act.{Act}
 use Rattle.lio_values.specs.declared.act.Act.TheVariants as act
 use Rattle.lio_values.specs.declared.act.Reply.{Reply}
+use Rattle.lio_values.specs.declared.act.Reply.TheVariants.{Done, Got, Told, Refused}
 use Rattle.lio_values.specs.Erasure.{erase_act, erase_content, erase_reply, erase_value}
+use Rattle.lio_values.specs.Purity.{KeepsPure, IsContentPure, IsFaultPure}
+use Rattle.lio_events.specs.Printable.{ReplyKeepsPure}
+use Rattle.lio_events.proofs.PrintableLemmas.{erased-content-pure}
 use Rattle.lio_syntax.specs.Statements.{While}
 use Rattle.lio_cells.specs.declared.state.State.{State}
 use Rattle.lio_cells.specs.State.{answer}
@@ -25,10 +29,14 @@ use Rattle.lio_calculus.specs.Erased.{hide_state}
 use Rattle.lio_calculus.specs.Guarded.{IsReleaseOf}
 use Rattle.lio_calculus.specs.Hiding.{hide_asked, hide_onward, hide_plan, hide_task}
 use Rattle.lio_calculus.specs.Plan.{Program, Plan, Own, Visit, Target, plan}
-use Rattle.lio_calculus.proofs.GoingLemmas.{rest_of-hidden, returned-hidden, at-hidden, binding-hidden, throwing-hidden, given-hidden, replied-hidden}
+use Rattle.lio_calculus.proofs.GoingLemmas.{TellsPure, rest_of-hidden, returned-hidden, at-hidden, binding-hidden, throwing-pure, given-pure, replied-pure}
 use Rattle.lio_calculus.proofs.InvisibleLemmas.{gone_on-label}
+use Rattle.lio_calculus.specs.Step.{Move}
+use Rattle.lio_calculus.proofs.PlanEach.{EachInOnward}
 use Rattle.lio_calculus.proofs.PlanHidden.{plan-hidden}
+use Rattle.lio_calculus.proofs.PurityLemmas.{MoveIsPure, onward-opened}
 use Rattle.lio_calculus.proofs.StateLemmas.{answer-hidden}
+use Rattle.lio_calculus.proofs.TurnParts.{own_move}
 use Rattle.lio_calculus.proofs.TwiceLemmas.{hide_task-twice}
 use Rattle.lio_task.specs.Next.{resumed, resumed_by}
 use Rattle.lio_erasure.specs.Acts.{hides, shown_act, with_content}
@@ -53,6 +61,14 @@ abbrev Sees : Label → Onward → Type 0
 Sees observer (Expose name label) = IsTrue (flows label observer)
 Sees observer onward = Unit {0}
 
+-- and of what is given and thrown: it is pure, so the observer sees it as it is
+abbrev pub GivesPure : Onward → Act → Reply → Type 0
+GivesPure (Unlabel name label source content) asked reply = IsContentPure content
+GivesPure (Expose name label) asked reply = IsContentPure (released asked)
+GivesPure (BindReply name) asked reply = TellsPure reply
+GivesPure (Throw fault) asked reply = IsFaultPure fault
+GivesPure onward asked reply = Unit {0}
+
 learned : (observer source : Label) (content : Content) → IsTrue (flows source observer) → erase_content observer source content ≡ content
 unfolding erase_content
 learned observer source content may = rw may refl
@@ -69,33 +85,33 @@ holding-hidden observer task name value cells bare =
     ap (λ (v : Value). taking (binding (hide_task observer task) name v) cells) (sym bare) ∙ ap (λ (t : TaskState). taking t cells) (binding-hidden observer task name value)
 
 -- as the observer sees it the task goes on as it does
-gone-seen : (observer : Label) (task : TaskState) (onward : Onward) (asked seen : Act) (reply : Reply) → Opens observer onward asked seen → Shows observer onward
+gone-seen : (observer : Label) (task : TaskState) (onward : Onward) (asked seen : Act) (reply : Reply) → Opens observer onward asked seen → Shows observer onward → GivesPure onward asked reply
     → gone (hide_task observer task) (hide_onward observer onward) seen (erase_reply observer reply) ≡ hide_task observer (gone task onward asked reply)
 unfolding hide_onward
-gone-seen observer task (Bind name value) asked seen reply opens shows = binding-hidden observer task name value
-gone-seen observer task (Seal name label plain) asked seen reply opens shows = sealing-hidden observer task name label (Kept plain) (Kept plain) (sym (learned observer label (Kept plain) shows))
-gone-seen observer task (Enter block) asked seen reply opens shows =
+gone-seen observer task (Bind name value) asked seen reply opens shows pure = binding-hidden observer task name value
+gone-seen observer task (Seal name label plain) asked seen reply opens shows pure = sealing-hidden observer task name label (Kept plain) (Kept plain) (sym (learned observer label (Kept plain) shows))
+gone-seen observer task (Enter block) asked seen reply opens shows pure =
     ap (λ (items : List Item). record task { environment = hide_environment observer task.environment; items = items }) (enter-hidden observer block task.items)
-gone-seen observer task (Repeat condition block) asked seen reply opens shows =
+gone-seen observer task (Repeat condition block) asked seen reply opens shows pure =
     ap (λ (items : List Item). record task { environment = hide_environment observer task.environment; items = items }) (enter-hidden observer block (Do (While condition block) ∷ task.items))
-gone-seen observer task (Try block code payload handler) asked seen reply opens shows =
+gone-seen observer task (Try block code payload handler) asked seen reply opens shows pure =
     ap (λ (items : List Item). record task { environment = hide_environment observer task.environment; items = items }) (enter-hidden observer block (Mark code payload handler ∷ task.items))
-gone-seen observer task (Call name environment body) asked seen reply opens shows =
+gone-seen observer task (Call name environment body) asked seen reply opens shows pure =
     ap (λ (items : List Item). record task { environment = hide_environment observer environment; items = items }) (enter-hidden observer body (Back task.environment name ∷ task.items))
-gone-seen observer task (Return value) asked seen reply opens shows = rw (returned-hidden observer value task.environment task.items) (at-hidden observer task _)
-gone-seen observer task (Leave caller name) asked seen reply opens shows = binding-hidden observer (record task { environment = caller }) name (Bare unit)
-gone-seen observer task (Unlabel name label source content) asked seen reply opens shows =
-    ap (given (record (hide_task observer task) { label = label }) name) opens ∙ given-hidden observer (record task { label = label }) name content
-gone-seen observer task (Release name label) asked seen reply opens shows = sealing-hidden observer task name label (released asked) (released seen) opens
-gone-seen observer task (Expose name label) asked seen reply opens shows =
-    ap (given (record (hide_task observer task) { label = label }) name) opens ∙ given-hidden observer (record task { label = label }) name (released asked)
-gone-seen observer task (HoldReference name label) asked seen reply opens shows = holding-hidden observer task name (Bare (RefOf (newest task label))) 0 refl
-gone-seen observer task (HoldVariable name label) asked seen reply opens shows = holding-hidden observer task name (Bare (VarOf (newest task label))) 0 refl
-gone-seen observer task (Fork name label cells turns) asked seen reply opens shows =
+gone-seen observer task (Return value) asked seen reply opens shows pure = rw (returned-hidden observer value task.environment task.items) (at-hidden observer task _)
+gone-seen observer task (Leave caller name) asked seen reply opens shows pure = binding-hidden observer (record task { environment = caller }) name (Bare unit)
+gone-seen observer task (Unlabel name label source content) asked seen reply opens shows pure =
+    ap (given (record (hide_task observer task) { label = label }) name) opens ∙ given-pure observer (record task { label = label }) name content pure
+gone-seen observer task (Release name label) asked seen reply opens shows pure = sealing-hidden observer task name label (released asked) (released seen) opens
+gone-seen observer task (Expose name label) asked seen reply opens shows pure =
+    ap (given (record (hide_task observer task) { label = label }) name) opens ∙ given-pure observer (record task { label = label }) name (released asked) pure
+gone-seen observer task (HoldReference name label) asked seen reply opens shows pure = holding-hidden observer task name (Bare (RefOf (newest task label))) 0 refl
+gone-seen observer task (HoldVariable name label) asked seen reply opens shows pure = holding-hidden observer task name (Bare (VarOf (newest task label))) 0 refl
+gone-seen observer task (Fork name label cells turns) asked seen reply opens shows pure =
     ap (λ (t : TaskState). record t { turns = task.turns - turns }) (holding-hidden observer task name (Bare (ResultOf (newest task label))) cells refl)
-gone-seen observer task (BindReply name) asked seen reply opens shows = replied-hidden observer task name reply
-gone-seen observer task (Throw fault) asked seen reply opens shows = throwing-hidden observer task fault
-gone-seen observer task onward asked seen reply opens shows = refl
+gone-seen observer task (BindReply name) asked seen reply opens shows pure = replied-pure observer task name reply pure
+gone-seen observer task (Throw fault) asked seen reply opens shows pure = throwing-pure observer task fault pure
+gone-seen observer task onward asked seen reply opens shows pure = refl
 
 -- the task before it goes on: the item that acted is dropped, and one turn is spent
 spent : TaskState → TaskState
@@ -108,26 +124,34 @@ spent-hidden observer task hidden =
 
 -- a task that is as the observer sees it stays so
 gone_on-seen : (observer : Label) (task : TaskState) (onward : Onward) (asked seen : Act) (reply : Reply) → hide_task observer task ≡ task → hide_onward observer onward ≡ onward → Opens observer onward asked seen → Shows observer onward
+    → GivesPure onward asked reply
     → gone_on task onward seen (erase_reply observer reply) ≡ hide_task observer (gone_on task onward asked reply)
 unfolding gone_on spent
-gone_on-seen observer task onward asked seen reply hidden same opens shows =
+gone_on-seen observer task onward asked seen reply hidden same opens shows pure =
     sym (ap (λ (t : TaskState). gone t onward seen (erase_reply observer reply)) (spent-hidden observer task hidden))
     ∙ sym (ap (λ (w : Onward). gone (hide_task observer (spent task)) w seen (erase_reply observer reply)) same)
-    ∙ gone-seen observer (spent task) onward asked seen reply opens shows
+    ∙ gone-seen observer (spent task) onward asked seen reply opens shows pure
 
 -- and whatever it seals, the observer sees it go on alike
 gone_on-alike : (observer : Label) (task : TaskState) (onward : Onward) (asked seen : Act) (reply : Reply) → hide_task observer task ≡ task → hide_onward observer onward ≡ onward → Opens observer onward asked seen
+    → GivesPure onward asked reply
     → hide_task observer (gone_on task onward seen (erase_reply observer reply)) ≡ hide_task observer (gone_on task onward asked reply)
 unfolding gone_on
-gone_on-alike observer task (Seal name label plain) asked seen reply hidden same opens = refl
-gone_on-alike observer task onward asked seen reply hidden same opens =
-    ap (hide_task observer) (gone_on-seen observer task onward asked seen reply hidden same opens tt) ∙ hide_task-twice observer (gone_on task onward asked reply)
+gone_on-alike observer task (Seal name label plain) asked seen reply hidden same opens pure = refl
+gone_on-alike observer task onward asked seen reply hidden same opens pure =
+    ap (hide_task observer) (gone_on-seen observer task onward asked seen reply hidden same opens tt pure) ∙ hide_task-twice observer (gone_on task onward asked reply)
 
 -- what is released or exposed, as the act shows it
 released-seen : (observer label : Label) (asked : Act) → IsReleaseOf asked label → released (erase_act observer asked) ≡ erase_content observer label (released asked)
 released-seen observer label (act.Release source target power content) to = ap (λ (l : Label). erase_content observer l content) to
 released-seen observer label (act.Expose source target power content) to = ap (λ (l : Label). erase_content observer l content) to
 released-seen observer label asked to = absurd to
+
+-- and it is as pure
+released-pure : (observer : Label) (asked : Act) → IsContentPure (released asked) → IsContentPure (released (erase_act observer asked))
+released-pure observer (act.Release source target power content) pure = erased-content-pure observer target content pure
+released-pure observer (act.Expose source target power content) pure = erased-content-pure observer target content pure
+released-pure observer asked pure = tt
 
 opens-seen : (observer : Label) (onward : Onward) (asked : Act) → hide_onward observer onward ≡ onward → Leads asked onward → Sees observer onward → Opens observer onward asked (erase_act observer asked)
 unfolding hide_onward
@@ -156,27 +180,52 @@ pub record GoesAsSeen (observer : Label) (program : Program) (task : TaskState) 
   pub stays : hides observer (erase_act observer asked) ≡ false
       → hide_task observer (resumed program task (erase_act observer asked) (erase_reply observer reply)) ≡ resumed program task (erase_act observer asked) (erase_reply observer reply)
 
+-- a pure move gives what is pure
+tells-pure : (reply : Reply) → ReplyKeepsPure reply → TellsPure reply
+tells-pure (Told content) pure = pure
+tells-pure (Got value) pure = tt
+tells-pure Done pure = tt
+tells-pure (Refused fault) pure = tt
+
+pub gives-pure : (move : Move) → MoveIsPure move → GivesPure move.onward move.act move.reply
+gives-pure move m = by move.onward m.onward
+  where
+    by : (onward : Onward) → EachInOnward KeepsPure move.act onward → GivesPure onward move.act move.reply
+    by (Unlabel name label source content) pure = pure
+    by (Expose name label) pure = m.shown
+    by (BindReply name) pure = tells-pure move.reply m.reply
+    by (Throw fault) pure = pure
+    by onward pure = tt
+
+-- and so does one whose content was told
+pub told-pure : (planned : Act) (reply : Reply) (onward : Onward) (content : Content) → IsContentPure content → MoveIsPure (own_move planned reply onward) → MoveIsPure (own_move (with_content planned content) reply onward)
+told-pure (act.Release source target power hidden) reply onward content pure m =
+    record { asked = tt; onward = onward-opened (act.Release source target power hidden) (act.Release source target power content) onward m.onward pure; shown = pure; reply = m.reply }
+told-pure (act.Expose source target power hidden) reply onward content pure m =
+    record { asked = tt; onward = onward-opened (act.Expose source target power hidden) (act.Expose source target power content) onward m.onward pure; shown = pure; reply = m.reply }
+told-pure planned reply onward content pure m = m
+
 -- a task that the observer sees once it went on
-goes-open : (observer : Label) (program : Program) (task : TaskState) (onward : Onward) (asked : Act) (reply : Reply) → hide_task observer task ≡ task → hide_onward observer onward ≡ onward → Leads asked onward → Sees observer onward
+goes-open : (observer : Label) (program : Program) (task : TaskState) (onward : Onward) (asked : Act) (reply : Reply) → hide_task observer task ≡ task → hide_onward observer onward ≡ onward → Leads asked onward → Sees observer onward → GivesPure onward asked reply
     → ((a : Act) (r : Reply) → resumed program task a r ≡ gone_on task onward a r) → GoesAsSeen observer program task asked reply
-goes-open observer program task onward asked reply hidden same leads sees goes =
+goes-open observer program task onward asked reply hidden same leads sees pure goes =
     let seen : Act = erase_act observer asked in
     let told : Reply = erase_reply observer reply in
     let opens : Opens observer onward asked seen = opens-seen observer onward asked same leads sees in
     record {
       alike = ap (λ (t : TaskState). if flows t.label observer then Some t else None)
-          (ap (hide_task observer) (goes seen told) ∙ gone_on-alike observer task onward asked seen reply hidden same opens ∙ sym (ap (hide_task observer) (goes asked reply)));
+          (ap (hide_task observer) (goes seen told) ∙ gone_on-alike observer task onward asked seen reply hidden same opens pure ∙ sym (ap (hide_task observer) (goes asked reply)));
       stays = λ e.
           let is : resumed program task seen told ≡ hide_task observer (gone_on task onward asked reply) =
-          goes seen told ∙ gone_on-seen observer task onward asked seen reply hidden same opens (shows-sealed observer onward asked leads (sym (hides-erased observer asked) ∙ e)) in
+          goes seen told ∙ gone_on-seen observer task onward asked seen reply hidden same opens (shows-sealed observer onward asked leads (sym (hides-erased observer asked) ∙ e)) pure in
           ap (hide_task observer) is ∙ hide_task-twice observer (gone_on task onward asked reply) ∙ sym is;
     }
 
 -- a task that exposed a content above the observer's label
 goes-blind : (observer : Label) (program : Program) (task : TaskState) (name : List ℕ) (label : Label) (asked : Act) (reply : Reply) → hide_task observer task ≡ task → flows label observer ≡ false
-    → ((a : Act) (r : Reply) → resumed program task a r ≡ gone_on task (Expose name label) a r) → GoesAsSeen observer program task asked reply
+    → IsContentPure (released asked) → ((a : Act) (r : Reply) → resumed program task a r ≡ gone_on task (Expose name label) a r) → GoesAsSeen observer program task asked reply
 unfolding gone_on spent
-goes-blind observer program task name label asked reply hidden above goes = record {
+goes-blind observer program task name label asked reply hidden above pure goes = record {
   alike = unseen seen told ∙ sym (unseen asked reply);
   stays = λ e. ap (hide_task observer) (goes seen told) ∙ held ∙ sym (goes seen told);
 }
@@ -195,17 +244,17 @@ goes-blind observer program task name label asked reply hidden above goes = reco
 
     held : hide_task observer (gone_on task (Expose name label) seen told) ≡ gone_on task (Expose name label) seen told
     held =
-        sym (given-hidden observer (record (spent task) { label = label }) name (released seen))
+        sym (given-pure observer (record (spent task) { label = label }) name (released seen) (released-pure observer asked pure))
         ∙ ap (λ (t : TaskState). given (record t { label = label }) name (released seen)) (spent-hidden observer task hidden)
 
-goes-seen : (observer : Label) (program : Program) (task : TaskState) (onward : Onward) (asked : Act) (reply : Reply) → hide_task observer task ≡ task → hide_onward observer onward ≡ onward → Leads asked onward
+goes-seen : (observer : Label) (program : Program) (task : TaskState) (onward : Onward) (asked : Act) (reply : Reply) → hide_task observer task ≡ task → hide_onward observer onward ≡ onward → Leads asked onward → GivesPure onward asked reply
     → ((a : Act) (r : Reply) → resumed program task a r ≡ gone_on task onward a r) → GoesAsSeen observer program task asked reply
-goes-seen observer program task (Expose name label) asked reply hidden same leads goes = by (flows label observer) refl
+goes-seen observer program task (Expose name label) asked reply hidden same leads pure goes = by (flows label observer) refl
   where
     by : (b : Bool) → flows label observer ≡ b → GoesAsSeen observer program task asked reply
-    by true e = goes-open observer program task (Expose name label) asked reply hidden same leads e goes
-    by false e = goes-blind observer program task name label asked reply hidden e goes
-goes-seen observer program task onward asked reply hidden same leads goes = goes-open observer program task onward asked reply hidden same leads tt goes
+    by true e = goes-open observer program task (Expose name label) asked reply hidden same leads e pure goes
+    by false e = goes-blind observer program task name label asked reply hidden e pure goes
+goes-seen observer program task onward asked reply hidden same leads pure goes = goes-open observer program task onward asked reply hidden same leads tt pure goes
 
 -- the plan of a task that is as the observer sees it
 plan-seen : (program : Program) (observer : Label) (task : TaskState) (p : Plan) → hide_task observer task ≡ task → plan program task ≡ p → p ≡ hide_plan observer p
@@ -246,14 +295,14 @@ pub record ActsAsSeen (observer : Label) (program : Program) (task : TaskState) 
   pub goes : GoesAsSeen observer program task asked reply
 
 -- what holds of the act that was planned, and of it with another content
-by_told : (P : Act → Type 0) (planned asked : Act) → IsTold planned asked → P planned → ((content : Content) → P (with_content planned content)) → P asked
+pub by_told : (P : Act → Type 0) (planned asked : Act) → IsTold planned asked → P planned → ((content : Content) → IsContentPure content → P (with_content planned content)) → P asked
 by_told P planned asked (inl p) plain other = subst P (sym p) plain
-by_told P planned asked (inr p) plain other = subst P (sym p.1) (other p.0)
+by_told P planned asked (inr p) plain other = subst P (sym p.2) (other p.0 p.1)
 
 -- an act of the task's own
 pub own-seen : (observer : Label) (program : Program) (task : TaskState) (planned asked : Act) (reply : Reply) (onward : Onward) → hide_task observer task ≡ task → plan program task ≡ Own planned reply onward → IsTold planned asked
-    → ActsAsSeen observer program task asked reply
-own-seen observer program task planned asked reply onward hidden plans told =
+    → GivesPure onward asked reply → ActsAsSeen observer program task asked reply
+own-seen observer program task planned asked reply onward hidden plans told pure =
     let p : Own planned reply onward ≡ Own (hide_asked observer planned) (erase_reply observer reply) (hide_onward observer onward) = plan-seen program observer task (Own planned reply onward) hidden plans in
     let act_is : hide_asked observer planned ≡ planned = cc in
     let reply_is : erase_reply observer reply ≡ reply = cc in
@@ -261,24 +310,24 @@ own-seen observer program task planned asked reply onward hidden plans told =
     let leads : Leads planned onward = subst LeadsPlan plans (plan-leads program task) in
     record {
       seen = record {
-        act_is = by_told (λ a. erase_act observer a ≡ shown_act observer a) planned asked told (act-shown observer planned act_is) (λ content. told-shown observer planned content act_is);
+        act_is = by_told (λ a. erase_act observer a ≡ shown_act observer a) planned asked told (act-shown observer planned act_is) (λ content is. told-shown observer planned content act_is);
         reply_is = reply_is;
       };
-      goes = goes-seen observer program task onward asked reply hidden same (by_told (λ a. Leads a onward) planned asked told leads (λ content. told-leads planned content onward leads))
+      goes = goes-seen observer program task onward asked reply hidden same (by_told (λ a. Leads a onward) planned asked told leads (λ content is. told-leads planned content onward leads)) pure
           (λ a r. ap (resumed_by task a r) plans);
     }
 
 -- an act that meets a node
 pub visit-seen : (observer : Label) (program : Program) (task : TaskState) (asked : Act) (reply : Reply) (target : Target) (onward : Onward) → hide_task observer task ≡ task → plan program task ≡ Visit asked target onward → erase_reply observer reply ≡ reply
-    → ActsAsSeen observer program task asked reply
-visit-seen observer program task asked reply target onward hidden plans reply_is =
+    → GivesPure onward asked reply → ActsAsSeen observer program task asked reply
+visit-seen observer program task asked reply target onward hidden plans reply_is pure =
     let p : Visit asked target onward ≡ Visit (hide_asked observer asked) target (hide_onward observer onward) = plan-seen program observer task (Visit asked target onward) hidden plans in
     let act_is : hide_asked observer asked ≡ asked = cc in
     let same : hide_onward observer onward ≡ onward = cc in
     let leads : Leads asked onward = subst LeadsPlan plans (plan-leads program task) in
     record {
       seen = record { act_is = act-shown observer asked act_is; reply_is = reply_is };
-      goes = goes-seen observer program task onward asked reply hidden same leads (λ a r. ap (resumed_by task a r) plans);
+      goes = goes-seen observer program task onward asked reply hidden same leads pure (λ a r. ap (resumed_by task a r) plans);
     }
 
 -- the reply of a node that is as the observer sees it

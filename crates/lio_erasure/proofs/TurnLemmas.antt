@@ -12,6 +12,8 @@ use Rattle.lio_values.specs.declared.act.Reply.{Reply}
 use Rattle.lio_values.specs.declared.act.Reply.TheVariants.{Done, Got, Told, Refused}
 use Rattle.lio_values.specs.declared.entry.Entry.{Entry}
 use Rattle.lio_values.specs.Erasure.{erase_act, erase_entry, erase_reply}
+use Rattle.lio_values.specs.Purity.{KeepsPure}
+use Rattle.lio_events.specs.Printable.{ReplyKeepsPure}
 use Rattle.lio_syntax.specs.Statements.{Procedure}
 use Rattle.lio_cells.specs.declared.state.State.{State}
 use Rattle.lio_cells.specs.declared.state.State.TheVariants.{Absent}
@@ -23,12 +25,15 @@ use Rattle.lio_calculus.specs.Hiding.{hide_task}
 use Rattle.lio_calculus.specs.Plan.{Plan, Over, Own, Visit, Target, Node, New, plan}
 use Rattle.lio_calculus.specs.Step.{Cell, Configuration, Move, after, blank, can, cell_at, has_label, is_met, met, met_after, move_of, number_of, target_after, visit, waits, with_cell}
 use Rattle.lio_calculus.specs.Erased.{LowTurn, erase, erase_cell, hide_cell, low, low_turn, low_with, opened, opened_release, taking_front}
-use Rattle.lio_calculus.specs.Sound.{IsTaskOf}
+use Rattle.lio_calculus.specs.Sound.{EachInTask, IsTaskOf}
+use Rattle.lio_calculus.specs.Purity.{ContentsArePure}
 use Rattle.lio_calculus.specs.Afforded.{AffordsPlan, kind_met, makes}
 use Rattle.lio_calculus.specs.Handles.{IsMetBy, handle_ahead}
 use Rattle.lio_calculus.proofs.AffordedLemmas.{plan_affords}
 use Rattle.lio_calculus.proofs.EnabledLemmas.{can-task}
 use Rattle.lio_calculus.proofs.HandleLemmas.{visit_meets_handle}
+use Rattle.lio_calculus.proofs.PlanEach.{EachInPlan}
+use Rattle.lio_calculus.proofs.PurityLemmas.{MoveIsPure, ShowsPure, after_is_pure, answer-pure, plan-pure, plan-shown}
 use Rattle.lio_calculus.proofs.TurnParts.{own-moves, own_move, visit-moves, visit_move}
 use Rattle.lio_calculus.proofs.VisitLemmas.{answer-done}
 use Rattle.lio_task_turns.specs.StateOf.{program_of}
@@ -48,7 +53,7 @@ use Rattle.lio_erasure.proofs.AfterLemmas.{KeepsJobs, actor-stays, after-jobs, m
 use Rattle.lio_erasure.proofs.CellLemmas.{cell-erased, seen-hidden, task-hidden, there-seen}
 use Rattle.lio_erasure.proofs.HolderLemmas.{cell-low, task-low}
 use Rattle.lio_erasure.proofs.JobLemmas.{is_erased, new-jobs, target-jobs}
-use Rattle.lio_erasure.proofs.StayLemmas.{ActsAsSeen, answer-seen, own-seen, visit-seen}
+use Rattle.lio_erasure.proofs.StayLemmas.{ActsAsSeen, answer-seen, by_told, gives-pure, own-seen, told-pure, visit-seen}
 
 -- the parts after a turn: other holders
 abbrev pub went_to : LowParts → List (Option Holder) → LowParts
@@ -76,19 +81,41 @@ task-seen parts k task erased is =
     let same : Some (hide_task observer state) ≡ Some state = ap (option_map (hide_task observer)) (sym here) ∙ cell ∙ here in
     cc
 
+-- what the task of the plan does is pure
+own-pure : (parts : LowParts) (k : ℕ) (asked : Act) (reply : Reply) → IsErased parts.observer (low_configuration_of parts.script parts.longest parts.holders) → (p : PlansOwn parts k asked reply) → MoveIsPure (own_move asked reply p.onward)
+own-pure parts k asked reply erased p =
+    let c : Configuration = low_configuration_of parts.script parts.longest parts.holders in
+    let state : TaskState = state_in parts.script p.task in
+    let mine : EachInTask KeepsPure state = erased.pure.tasks k state (task-low parts.script parts.longest parts.holders k (Some p.task) p.is) in
+    let each : EachInPlan KeepsPure (Own p.planned reply p.onward) = subst (EachInPlan KeepsPure) p.plans (plan-pure c.program state mine) in
+    let shown : ShowsPure (Own p.planned reply p.onward) = subst ShowsPure p.plans (plan-shown c.program state mine) in
+    let planned : MoveIsPure (own_move p.planned reply p.onward) = record { asked = each.0; onward = each.1; shown = shown.0; reply = shown.1 } in
+    by_told (λ a. MoveIsPure (own_move a reply p.onward)) p.planned asked p.told planned (λ content pure. told-pure p.planned reply p.onward content pure planned)
+
+visit-pure : (parts : LowParts) (k n : ℕ) (asked : Act) (reply : Reply) → IsErased parts.observer (low_configuration_of parts.script parts.longest parts.holders) → (p : PlansVisit parts k asked n) → ReplyKeepsPure reply
+    → MoveIsPure (record { act = asked; target = Some p.target; reply = reply; onward = p.onward })
+visit-pure parts k n asked reply erased p pure =
+    let c : Configuration = low_configuration_of parts.script parts.longest parts.holders in
+    let state : TaskState = state_in parts.script p.task in
+    let mine : EachInTask KeepsPure state = erased.pure.tasks k state (task-low parts.script parts.longest parts.holders k (Some p.task) p.is) in
+    let each : EachInPlan KeepsPure (Visit asked p.target p.onward) = subst (EachInPlan KeepsPure) p.plans (plan-pure c.program state mine) in
+    record { asked = each.0; onward = each.1; shown = subst ShowsPure p.plans (plan-shown c.program state mine); reply = pure }
+
 pub own-acts : (parts : LowParts) (k : ℕ) (asked : Act) (reply : Reply) → IsErased parts.observer (low_configuration_of parts.script parts.longest parts.holders) → PlansOwn parts k asked reply → ActsIn parts k asked reply
 own-acts parts k asked reply erased p = record {
   task = p.task;
   is = p.is;
-  acts = own-seen parts.observer (program_of parts.script parts.longest) (state_in parts.script p.task) p.planned asked reply p.onward (task-seen parts k p.task erased p.is) p.plans p.told;
+  acts = own-seen parts.observer (program_of parts.script parts.longest) (state_in parts.script p.task) p.planned asked reply p.onward (task-seen parts k p.task erased p.is) p.plans p.told
+      (gives-pure (own_move asked reply p.onward) (own-pure parts k asked reply erased p));
 }
 
 pub visit-acts : (parts : LowParts) (k n : ℕ) (asked : Act) (reply : Reply) → IsErased parts.observer (low_configuration_of parts.script parts.longest parts.holders) → PlansVisit parts k asked n → erase_reply parts.observer reply ≡ reply
-    → ActsIn parts k asked reply
-visit-acts parts k n asked reply erased p replies = record {
+    → ReplyKeepsPure reply → ActsIn parts k asked reply
+visit-acts parts k n asked reply erased p replies pure = record {
   task = p.task;
   is = p.is;
-  acts = visit-seen parts.observer (program_of parts.script parts.longest) (state_in parts.script p.task) asked reply p.target p.onward (task-seen parts k p.task erased p.is) p.plans replies;
+  acts = visit-seen parts.observer (program_of parts.script parts.longest) (state_in parts.script p.task) asked reply p.target p.onward (task-seen parts k p.task erased p.is) p.plans replies
+      (gives-pure (record { act = asked; target = Some p.target; reply = reply; onward = p.onward }) (visit-pure parts k n asked reply erased p pure));
 }
 
 -- so it can go on
@@ -117,8 +144,8 @@ makes-move : (parts : LowParts) (went : List (Option Holder)) (k : ℕ) (asked :
     → let c : Configuration = low_configuration_of parts.script parts.longest parts.holders in let state : TaskState = state_in parts.script task in let made : Move = record move { act = asked } in
     IsTaskOf c k state → move_of (cell_at c) (plan c.program state) ≡ Some move → move.reply ≡ reply → option_map number_of move.target ≡ number
     → shown ≡ erase_entry parts.observer (record { ticket = 0; actor = k; target = number; at = task.label; act = asked; reply = reply })
-    → low_configuration_of parts.script parts.longest went ≡ erase parts.observer (after c k state made) → TasksAreJobs (after c k state made) → Makes parts went k asked shown
-makes-move parts went k asked reply number task move shown is moves replies numbers shows comes jobs =
+    → low_configuration_of parts.script parts.longest went ≡ erase parts.observer (after c k state made) → TasksAreJobs (after c k state made) → ContentsArePure (after c k state made) → Makes parts went k asked shown
+makes-move parts went k asked reply number task move shown is moves replies numbers shows comes jobs pure =
     let c : Configuration = low_configuration_of parts.script parts.longest parts.holders in
     let state : TaskState = state_in parts.script task in
     let made : Move = record move { act = asked } in
@@ -134,7 +161,7 @@ makes-move parts went k asked reply number task move shown is moves replies numb
         next = comes;
         observer = refl;
       };
-      erased = subst (IsErased parts.observer) (sym comes) (is_erased parts.observer (after c k state made) jobs);
+      erased = subst (IsErased parts.observer) (sym comes) (is_erased parts.observer (after c k state made) jobs pure);
     }
 
 entry-act : (parts : LowParts) (task : Task) (k : ℕ) (number : Option ℕ) (asked : Act) (reply : Reply) (shown : Entry) → low_task_in parts.holders k ≡ Some task → IsShown parts k number asked reply shown → shown.act ≡ erase_act parts.observer asked
@@ -161,16 +188,17 @@ own-made parts went k asked reply shown erased p shows follows =
     ∙ put-changed c k there (λ (x : Cell). job_with x.state gone) (task-inside c k state is)
     ∙ sym (own-after observer c k state made erased.erased is refl) in
     makes-move parts went k asked reply None p.task move shown is (ap (move_of (cell_at c)) p.plans) refl refl (shows p.task p.is) went_is (after-jobs c k state made erased.jobs is)
+    (after_is_pure c k state made erased.pure (erased.pure.tasks k state is) (own-pure parts k asked reply erased p))
 
 -- a visit, whatever became of its target
 visit-made : (parts : LowParts) (between : Configuration) (went : List (Option Holder)) (k n : ℕ) (asked : Act) (reply : Reply) (shown : Entry) (p : PlansVisit parts k asked n)
     → let c : Configuration = low_configuration_of parts.script parts.longest parts.holders in let state : TaskState = state_in parts.script p.task in
-    IsErased parts.observer c → KeepsJobs asked → IsShown parts k (Some n) asked reply shown → erase_reply parts.observer reply ≡ reply
+    IsErased parts.observer c → KeepsJobs asked → IsShown parts k (Some n) asked reply shown → erase_reply parts.observer reply ≡ reply → ReplyKeepsPure reply
     → visit asked p.target p.onward (met p.target (cell_at c n).state) ≡ Some (record { act = asked; target = Some p.target; reply = reply; onward = p.onward })
     → between ≡ erase parts.observer (target_after c state.label asked (Some p.target)) → TasksAreJobs (target_after c state.label asked (Some p.target))
     → Follows parts.observer c between (low_configuration_of parts.script parts.longest went) shown.actor shown.act shown.reply → Makes parts went k asked shown
 unfolding visit-acts
-visit-made parts between went k n asked reply shown p erased keeps shows replies moves between_is jobs follows =
+visit-made parts between went k n asked reply shown p erased keeps shows replies pure moves between_is jobs follows =
     let observer : Label = parts.observer in
     let c : Configuration = low_configuration_of parts.script parts.longest parts.holders in
     let state : TaskState = state_in parts.script p.task in
@@ -179,10 +207,11 @@ visit-made parts between went k n asked reply shown p erased keeps shows replies
     let moves_is : move_of (cell_at c) (plan c.program state) ≡ Some move =
     ap (move_of (cell_at c)) p.plans ∙ ap (λ (m : ℕ). visit asked p.target p.onward (met p.target (cell_at c m).state)) p.number ∙ moves in
     let went_is : low_configuration_of parts.script parts.longest went ≡ erase observer (after c k state move) =
-    went-by parts between went k (Some n) asked reply shown (visit-acts parts k n asked reply erased p replies) (Visit asked p.target p.onward) shows p.plans follows
+    went-by parts between went k (Some n) asked reply shown (visit-acts parts k n asked reply erased p replies pure) (Visit asked p.target p.onward) shows p.plans follows
     ∙ sym (visit-after observer c between k state move p.target erased.erased is erased.jobs keeps refl between_is) in
     let there : IsTaskOf (target_after c state.label asked (Some p.target)) k state = ap (λ (x : Cell). x.task) (actor-stays c k state state.label asked p.target is erased.jobs keeps) ∙ is in
     makes-move parts went k asked reply (Some n) p.task move shown is moves_is refl (ap Some p.number) (shows p.task p.is) went_is (after-jobs c k state move jobs there)
+    (after_is_pure c k state move erased.pure (erased.pure.tasks k state is) (visit-pure parts k n asked reply erased p pure))
 
 -- the moves of visits
 visit-ready : (asked : Act) (target : Target) (onward : Onward) (state : State) → ready state asked ≡ true → visit asked target onward state ≡ Some (record { act = asked; target = Some target; reply = answer state asked; onward = onward })
@@ -239,9 +268,15 @@ met-reply parts k n asked reply erased v replies =
     ∙ answer-seen observer c.program (state_in parts.script v.visits.task) asked v.visits.target v.visits.onward cell.state (task-seen parts k v.visits.task erased v.visits.is) v.visits.plans (ap (λ (x : Cell). x.state) hidden)
     ∙ sym replies
 
+-- and pure
+met-pure : (parts : LowParts) (n : ℕ) (asked : Act) (reply : Reply) → IsErased parts.observer (low_configuration_of parts.script parts.longest parts.holders)
+    → reply ≡ answer (cell_at (low_configuration_of parts.script parts.longest parts.holders) n).state asked → ReplyKeepsPure reply
+met-pure parts n asked reply erased replies =
+    subst ReplyKeepsPure (sym replies) (answer-pure (cell_at (low_configuration_of parts.script parts.longest parts.holders) n).state asked (erased.pure.nodes n))
+
 pub met-acts : (parts : LowParts) (k n : ℕ) (asked : Act) (reply : Reply) → IsErased parts.observer (low_configuration_of parts.script parts.longest parts.holders) → VisitsNode parts k asked n true
     → reply ≡ answer (cell_at (low_configuration_of parts.script parts.longest parts.holders) n).state asked → ActsIn parts k asked reply
-met-acts parts k n asked reply erased v replies = visit-acts parts k n asked reply erased v.visits (met-reply parts k n asked reply erased v replies)
+met-acts parts k n asked reply erased v replies = visit-acts parts k n asked reply erased v.visits (met-reply parts k n asked reply erased v replies) (met-pure parts n asked reply erased replies)
 
 -- a visit of a node that is ready
 pub met-made : (parts : LowParts) (went : List (Option Holder)) (k n : ℕ) (asked : Act) (reply : Reply) (shown : Entry) (v : VisitsNode parts k asked n true)
@@ -264,7 +299,7 @@ met-made parts went k n asked reply shown v erased shows replies follows =
     ap (served c n) (entry-act parts v.visits.task k (Some n) asked reply shown v.visits.is shows)
     ∙ met-between observer c v.kind label asked target n erased.erased v.kind_is v.visits.number named_is (ready-there v.kind cell asked v.kind_is is_ready) in
     visit-made parts (served c n shown.act) went k n asked reply shown v.visits erased (λ state job. met-job v.kind state asked job v.kind_is) shows
-    (met-reply parts k n asked reply erased v replies) moves between_is
+    (met-reply parts k n asked reply erased v replies) (met-pure parts n asked reply erased replies) moves between_is
     (target-jobs c label asked v.kind n target erased.jobs v.kind_is v.visits.number) follows
 
 -- a write or a send to a cell that is left out
@@ -281,7 +316,7 @@ missed-made parts went k n asked shown v quick erased shows follows =
     let state : State = (cell_at c n).state in
     let missed : is_met target state ≡ false = ap (λ (t : Target). is_met t state) v.target ∙ unmet asked v.kind v.handle state quick v.kind_is v.readiness in
     let missed_is : is_met target (cell_at c (number_of target)).state ≡ false = ap (λ (m : ℕ). is_met target (cell_at c m).state) v.visits.number ∙ missed in
-    visit-made parts c went k n asked Done shown v.visits erased (λ s job. met-job v.kind s asked job v.kind_is) shows refl
+    visit-made parts c went k n asked Done shown v.visits erased (λ s job. met-job v.kind s asked job v.kind_is) shows refl tt
     (visit-unwaiting asked target v.visits.onward (met target state) quick) (missed-between observer c label asked target erased.erased missed_is)
     (target-jobs c label asked v.kind n target erased.jobs v.kind_is v.visits.number) follows
   where
@@ -333,7 +368,7 @@ new-made parts went k n asked shown v cell erased shows is follows =
     let label : Label = (state_in parts.script v.visits.task).label in
     let target : Target = v.visits.target in
     let to_new : target_after c label asked (Some target) ≡ target_after c label asked (Some (New n)) = ap (λ (t : Target). target_after c label asked (Some t)) v.target in
-    visit-made parts (placed c n cell) went k n asked Done shown v.visits erased (λ state job. made-job state asked job v.makes_node) shows refl
+    visit-made parts (placed c n cell) went k n asked Done shown v.visits erased (λ state job. made-job state asked job v.makes_node) shows refl tt
     (visit-unwaiting asked target v.visits.onward (met target (cell_at c n).state) (made-unwaiting asked v.makes_node)) (new-placed parts k n asked shown v cell erased shows is)
     (subst TasksAreJobs (sym to_new) (new-jobs c label asked n erased.jobs v.makes_node)) follows
 

@@ -11,6 +11,7 @@ use Rattle.lio_calculus.specs.Step.{Cell, Configuration, blank, cell_at}
 use Rattle.lio_calculus.specs.Hiding.{hide_task}
 use Rattle.lio_calculus.specs.Erased.{erase, sees}
 use Rattle.lio_calculus.specs.Sound.{IsSound}
+use Rattle.lio_calculus.specs.Purity.{ContentsArePure}
 use Rattle.lio_task_turns.specs.StateOf.{program_of}
 use Rattle.lio_task.specs.declared.task.Task.{Task}
 use Rattle.lio_config.specs.declared.config.Holder.{Holder}
@@ -58,10 +59,11 @@ job_with state (Some task) = record { state = state; task = Some task }
 abbrev pub TasksAreJobs : Configuration → Type 0
 TasksAreJobs c = (k : ℕ) → IsTrue (is_some (cell_at c k).task) → IsTrue (is_job (cell_at c k).state)
 
--- A configuration is as an observer sees it.
+-- A configuration is as an observer sees it, and its contents are pure, so that what a task is given of them is as the observer sees it, too.
 pub record IsErased (observer : Label) (c : Configuration) : Type 0 where
   pub jobs : TasksAreJobs c
   pub erased : erase observer c ≡ c
+  pub pure : ContentsArePure c
 
 -- A configuration is what an observer sees of a sound one.
 pub record IsSeenOfSound (observer : Label) (c : Configuration) : Type 0 where

@@ -8,6 +8,7 @@ use Rattle.lio_values.specs.declared.act.Act.{Act}
 use Rattle.lio_values.specs.declared.act.Reply.{Reply}
 use Rattle.lio_values.specs.declared.entry.Entry.{Entry}
 use Rattle.lio_values.specs.Erasure.{erase_act, erase_entry, erase_reply}
+use Rattle.lio_values.specs.Purity.{IsContentPure}
 use Rattle.lio_syntax.specs.Statements.{Procedure}
 use Rattle.lio_cells.specs.Node.{NodeState, takes_part}
 use Rattle.lio_cells.specs.Room.{room_for}
@@ -126,9 +127,9 @@ abbrev pub IsShown : LowParts → ℕ → Option ℕ → Act → Reply → Entry
 IsShown parts k target asked reply shown =
     (task : Task) → low_task_in parts.holders k ≡ Some task → shown ≡ erase_entry parts.observer (record { ticket = 0; actor = k; target = target; at = task.label; act = asked; reply = reply })
 
--- an act is the one that was planned, but maybe for the content that it releases or exposes
+-- an act is the one that was planned, but maybe for the content that it releases or exposes, which is pure
 abbrev pub IsTold : Act → Act → Type 0
-IsTold planned asked = (asked ≡ planned) ⊎ ((content : Content) × (asked ≡ with_content planned content))
+IsTold planned asked = (asked ≡ planned) ⊎ ((content : Content) × IsContentPure content × (asked ≡ with_content planned content))
 
 -- Task k plans an act of its own, with this reply, which is this act but maybe for the content that it releases or exposes.
 pub record PlansOwn (parts : LowParts) (k : ℕ) (asked : Act) (reply : Reply) : Type 0 where

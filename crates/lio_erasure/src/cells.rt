@@ -38,8 +38,12 @@ pub struct LowConfig {
 impl Model for LowConfig {
     ghost use Rattle.std.specs.Prelude.{List, Option};
     ghost use Rattle.lio_config.specs.declared.config.Holder.{Holder};
+    ghost use Rattle.lio_config.specs.contracts.config.Holder as holder;
+    ghost use Rattle.std.specs.Coded.{coded_list, coded_option};
 
     ghost Value = { List (Option Holder) };
+
+    ghost coded = { coded_list (coded_option holder.the_row.coded) };
 
     ghost view = { λ low. low.cells.items };
 }

@@ -2,8 +2,9 @@
 //!
 //! Where `#[tactic(none)]` stands each goal has its answer, so no tactic is tried.
 ghost use Rattle.std.specs.Prelude.{◌≡◌, IfOk, slice_get};
-ghost use Rattle.std.specs.Prelude.{List, true, false, IsSome, IsTrue, IfErr, OnErr};
+ghost use Rattle.std.specs.Prelude.{All, List, true, false, IsSome, IsTrue, IfErr, OnErr};
 ghost use Rattle.lio_values.specs.declared.value.Content.{Content};
+ghost use Rattle.lio_values.specs.Purity.{IsContentPure};
 ghost use Rattle.lio_calculus.specs.Step.{blank, can, met_after, waits};
 ghost use Rattle.lio_calculus.specs.Afforded.{makes};
 ghost use Rattle.lio_task_turns.specs.StateOf.{program_of};
@@ -267,12 +268,14 @@ impl Low {
         reply: Reply,
         releases: &mut Contents,
     ) -> Result<Entry, LowFault>
-        requires { PlansAct self.old k act reply }
+        requires plans { PlansAct self.old k act reply }
+        requires pure { All IsContentPure releases.old }
         ensures ok { IfOk result (TakesTurn (low_of self.old)
             (low_of self.new) k releases.old releases.new) }
         ensures fault { IfErr result (Stays (low_of self.old) k releases.old) }
         ensures err { OnErr result ((low_of self.new ≡ low_of self.old)
             × (releases.new ≡ releases.old)) }
+        ensures kept { All IsContentPure releases.new }
     {
         if !lacks_content(&act, &reply, &self.observer) {
             return Ok(self.own(alloc, k, act, reply)?);
@@ -322,19 +325,21 @@ impl Low {
 
     /// Takes the turn of task `k` in the erased calculus; the entry's ticket is 0. A hidden content
     /// that the turn releases or exposes to a label below the observer's is the first of
-    /// `releases`, which is taken out of them. After a refusal the configuration and the releases
-    /// are as before.
+    /// `releases`, which is taken out of them. They are to be pure: none keeps a list with a sealed
+    /// value in it. After a refusal the configuration and the releases are as before.
     pub fn turn(
         &mut self,
         alloc: Global,
         k: u32,
         releases: &mut Contents,
     ) -> Result<Entry, LowFault>
+        requires { All IsContentPure releases.old }
         ensures ok { IfOk result (TakesTurn (low_of self.old)
             (low_of self.new) k releases.old releases.new) }
         ensures fault { IfErr result (Stays (low_of self.old) k releases.old) }
         ensures err { OnErr result ((low_of self.new ≡ low_of self.old)
             × (releases.new ≡ releases.old)) }
+        ensures kept { All IsContentPure releases.new }
     {
         let Some(task) = self.config.task(k) else {
             return Err(LowFault::Still(k));

@@ -12,7 +12,7 @@ use Rattle.lio_values.specs.declared.entry.Entry.{Entry}
 use Rattle.lio_values.specs.Erasure.{erase_entry}
 use Rattle.lio_values.proofs.ErasureLemmas.{entry_erased_below}
 use Rattle.lio_values.specs.declared.value.Content.{Content}
-use Rattle.lio_events.specs.Named.{IsContentNamed}
+use Rattle.lio_values.specs.Named.{IsContentNamed}
 use Rattle.lio_events.specs.Printable.{IsActNamed, IsPrintable}
 use Rattle.lio_events.proofs.PrintableLemmas.{erased_is_printable}
 use Rattle.lio_events.specs.Views.{released_to}
@@ -45,7 +45,7 @@ view_of_view lower upper ticket other (entry ∷ entries) below =
 printable-one : (names : List (List ℕ)) (observer : Label) (ticket : ℕ) (entry : Entry) (entries : List Entry) → IsPrintable names entry → ((next : ℕ) → All (IsPrintable names) (view observer next entries))
     → (seen : Bool) → flows entry.at observer ≡ seen → All (IsPrintable names) (view observer ticket (entry ∷ entries))
 printable-one names observer ticket entry entries first rest true seen =
-    let numbered : IsPrintable names (record entry { ticket = ticket }) = record { at = first.at; act = first.act; raise = first.raise; reply = first.reply } in
+    let numbered : IsPrintable names (record entry { ticket = ticket }) = record { at = first.at; act = first.act; raise = first.raise; reply = first.reply; pure = first.pure } in
     subst (All (IsPrintable names)) (sym (view-seen observer ticket entry entries seen))
     (All-cons (IsPrintable names) (erase_entry observer (record entry { ticket = ticket })) (view observer (ticket + 1) entries)
     (erased_is_printable names observer (record entry { ticket = ticket }) numbered) (rest (ticket + 1)))

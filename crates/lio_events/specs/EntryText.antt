@@ -15,7 +15,7 @@ use Rattle.lio_values.specs.declared.act.Reply.TheVariants.{Done, Got, Told, Ref
 use Rattle.lio_values.specs.declared.entry.Entry.{Entry}
 use Rattle.lio_values.specs.Quoted.{quoted}
 use Rattle.lio_values.specs.PlainText.{label_in_brackets, power_text}
-use Rattle.lio_events.specs.ValueText.{labels_text, fault_text, content_text, value_text}
+use Rattle.lio_values.specs.ValueText.{labels_text, fault_text, content_text, value_text}
 
 -- a value, if there is one
 abbrev pub option_text : List (List ℕ) → Option Value → List ℕ

@@ -1,6 +1,4 @@
 pub mod Rising
-pub mod ValueText
-pub mod Named
 pub mod EntryText
 pub mod JournalText
 pub mod Printable

@@ -11,7 +11,8 @@ use Rattle.lio_values.specs.declared.act.Reply.{Reply}
 use Rattle.lio_values.specs.declared.act.Reply.TheVariants.{Done, Got, Told, Refused}
 use Rattle.lio_values.specs.declared.entry.Entry.{Entry}
 use Rattle.lio_values.specs.PlainText.{IsPowerNamed}
-use Rattle.lio_events.specs.Named.{IsFaultNamed, IsContentNamed, IsValueNamed}
+use Rattle.lio_values.specs.Purity.{KeepsPure, IsContentPure, IsFaultPure}
+use Rattle.lio_values.specs.Named.{IsFaultNamed, IsContentNamed, IsValueNamed}
 
 -- each principal in a value, if there is one, has a name
 abbrev pub IsOptionNamed : List (List ℕ) → Option Value → Type 0
@@ -64,9 +65,42 @@ abbrev pub IsRaiseOf : Act → Type 0
 IsRaiseOf (Raise op label) = IsRaising op
 IsRaiseOf act = Unit {0}
 
--- an entry can be printed: each principal in it has a name, and a raise names an operation that raises
+-- each content in a value, if there is one, keeps a pure value
+abbrev pub OptionKeepsPure : Option Value → Type 0
+OptionKeepsPure None = Unit {0}
+OptionKeepsPure (Some value) = KeepsPure value
+
+-- each content in an act keeps a pure value, and so does each fault in it that carries one
+abbrev pub ActKeepsPure : Act → Type 0
+ActKeepsPure (Release source target power content) = IsContentPure content
+ActKeepsPure (Expose source target power content) = IsContentPure content
+ActKeepsPure (NewRef label value) = KeepsPure value
+ActKeepsPure (NewVar label value) = OptionKeepsPure value
+ActKeepsPure (Fork birth) = All KeepsPure birth.args
+ActKeepsPure (Spawn birth) = All KeepsPure birth.args
+ActKeepsPure (Write value) = KeepsPure value
+ActKeepsPure (Put value) = KeepsPure value
+ActKeepsPure (Ended content) = IsContentPure content
+ActKeepsPure Step = Unit {0}
+ActKeepsPure (Seal label) = Unit {0}
+ActKeepsPure (Raise op label) = Unit {0}
+ActKeepsPure (Lower label) = Unit {0}
+ActKeepsPure Read = Unit {0}
+ActKeepsPure Take = Unit {0}
+ActKeepsPure Wait = Unit {0}
+ActKeepsPure (Send text) = Unit {0}
+
+-- so does each content in a reply
+abbrev pub ReplyKeepsPure : Reply → Type 0
+ReplyKeepsPure Done = Unit {0}
+ReplyKeepsPure (Got value) = KeepsPure value
+ReplyKeepsPure (Told content) = IsContentPure content
+ReplyKeepsPure (Refused fault) = IsFaultPure fault
+
+-- an entry can be printed: each principal in it has a name, a raise names an operation that raises, and contents and faults keep pure values
 pub record IsPrintable (names : List (List ℕ)) (entry : Entry) : Type 0 where
   pub at : AreNamed names entry.at
   pub act : IsActNamed names entry.act
   pub raise : IsRaiseOf entry.act
   pub reply : IsReplyNamed names entry.reply
+  pub pure : ActKeepsPure entry.act × ReplyKeepsPure entry.reply

@@ -18,8 +18,12 @@ pub struct Contents {
 impl Model for Contents {
     ghost use Rattle.std.specs.Prelude.{◌≤◌, List, drop as drop_first, length};
     ghost use Rattle.lio_values.specs.declared.value.Content.{Content};
+    ghost use Rattle.lio_values.specs.contracts.value.Content as content;
+    ghost use Rattle.std.specs.Coded.{coded_list};
 
     ghost Value = { List Content };
+
+    ghost coded = { coded_list content.the_row.coded };
 
     ghost view = { λ contents. drop_first contents.taken contents.items.items };
 

@@ -19,8 +19,12 @@ impl Model for Journal {
     ghost use Rattle.std.specs.Prelude.{List};
     ghost use Rattle.lio_values.specs.declared.entry.Entry.{Entry};
     ghost use Rattle.lio_events.specs.Rising.{AreRising};
+    ghost use Rattle.lio_values.specs.contracts.entry.Entry as entry;
+    ghost use Rattle.std.specs.Coded.{coded_list};
 
     ghost Value = { List Entry };
+
+    ghost coded = { coded_list entry.the_row.coded };
 
     ghost view = { λ journal. journal.entries.items };
 

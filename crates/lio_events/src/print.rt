@@ -5,8 +5,8 @@ ghost use Rattle.std.specs.Prelude.{◌≡◌, ◌++◌, Bool, List, ℕ, Option
 ghost use Rattle.std.specs.Prelude.{IfOk, if◌then◌else◌};
 ghost use Rattle.lio_labels.specs.LabelPrint.{AreNamed};
 ghost use Rattle.lio_values.specs.PlainText.{label_in_brackets};
-ghost use Rattle.lio_events.specs.ValueText.{content_text, value_text};
-ghost use Rattle.lio_events.specs.Named.{IsContentNamed, IsValueNamed};
+ghost use Rattle.lio_values.specs.ValueText.{content_text, value_text};
+ghost use Rattle.lio_values.specs.Named.{IsContentNamed, IsValueNamed};
 ghost use Rattle.lio_events.specs.EntryText.{option_text, args_text, birth_text, op_text};
 ghost use Rattle.lio_events.specs.EntryText.{act_text, release_text};
 ghost use Rattle.lio_events.specs.EntryText.{reply_text, target_text, line_text};
@@ -15,12 +15,11 @@ ghost use Rattle.lio_events.specs.Printable.{IsOptionNamed, IsBirthNamed, IsActN
 ghost use Rattle.lio_events.specs.Printable.{IsRaiseOf, IsReplyNamed, IsPrintable};
 
 use crate::journal::Journal;
-use crate::values::{append_content, append_fault, append_labels, append_value};
 use lio_clauses::{Names, NoMemory};
 use lio_labels::{Label, Priv};
 use lio_values::{
-    Act, Birth, Content, Entry, Op, Reply, Value, print_label, print_number, print_power,
-    print_quoted,
+    Act, Birth, Content, Entry, Op, Reply, Value, append_content, append_fault, append_labels,
+    append_value, print_label, print_number, print_power, print_quoted,
 };
 use std::alloc::Global;
 

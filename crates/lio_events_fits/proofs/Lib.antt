@@ -1,1 +1,2 @@
 mod AllLemmas
+mod ItemLemmas

@@ -4,16 +4,20 @@
 ghost use Rattle.std.specs.Prelude.{◌<◌, ◌^◌, All, IsTrue};
 ghost use Rattle.std.specs.List.{list_all};
 ghost use Rattle.lio_labels.specs.IsLabel.{IsLabel};
+ghost use Rattle.lio_values.specs.Forest.{deepest};
 ghost use Rattle.lio_syntax_lines.specs.Literals.{is_byte, is_whole};
 ghost use Rattle.lio_events_reading.specs.Fits.{ActFits, BirthFits, ContentFits, EntryFits};
-ghost use Rattle.lio_events_reading.specs.Fits.{FaultFits, HandleFits, KindFits, OptionFits};
+ghost use Rattle.lio_events_reading.specs.Fits.{FaultFits, HandleFits, ItemsFit, KindFits};
+ghost use Rattle.lio_events_reading.specs.Fits.{OptionFits};
 ghost use Rattle.lio_events_reading.specs.Fits.{PlainFits, PowerFits, ReplyFits, TargetFits};
 ghost use Rattle.lio_events_reading.specs.Fits.{ValueFits};
 
 use lio_events::Journal;
 use lio_labels::laws::label_is_canonical;
 use lio_labels::{Label, Priv};
-use lio_values::{Act, Birth, Content, Entry, Fault, FaultKind, Handle, Plain, Reply, Text, Value};
+use lio_values::{
+    Act, Birth, Content, Entry, Fault, FaultKind, Handle, Items, Plain, Reply, Text, Value,
+};
 
 /// The number of a node has 32 bits.
 fn number_fits(number: u32)
@@ -64,6 +68,7 @@ fn whole_fits(number: i64)
     ensures { IsTrue (is_whole number) }
 {}
 
+#[cycle(fits)]
 fn plain_fits(plain: &Plain)
     ensures { PlainFits plain.now }
 {
@@ -78,6 +83,18 @@ fn plain_fits(plain: &Plain)
         Plain::VarOf(handle) => handle_fits(handle),
         Plain::ResultOf(handle) => handle_fits(handle),
         Plain::ChanOf(handle) => handle_fits(handle),
+        Plain::Items(items) => items_fit(items),
+    }
+}
+
+/// A list has a depth of at most 8, and each of its items fits.
+#[cycle(fits)]
+fn items_fit(items: &Items)
+    ensures deep { deepest items.now < 8 }
+    ensures fit { ItemsFit items.now }
+{
+    for value in items.as_slice() {
+        value_fits(value);
     }
 }
 
@@ -91,6 +108,7 @@ fn labels_fit(one: &Label, other: &Label)
 }
 
 /// What is asked and what is left have 64 bits.
+#[cycle(fits)]
 fn kind_fits(kind: &FaultKind)
     ensures { KindFits kind.now }
 {
@@ -121,6 +139,7 @@ fn kind_fits(kind: &FaultKind)
     }
 }
 
+#[cycle(fits)]
 fn fault_fits(fault: &Fault)
     ensures { FaultFits fault.now }
 {
@@ -128,6 +147,7 @@ fn fault_fits(fault: &Fault)
     label_is_canonical(&fault.at);
 }
 
+#[cycle(fits)]
 fn content_fits(content: &Content)
     ensures { ContentFits content.now }
 {
@@ -138,6 +158,7 @@ fn content_fits(content: &Content)
     }
 }
 
+#[cycle(fits)]
 fn value_fits(value: &Value)
     ensures { ValueFits value.now }
 {

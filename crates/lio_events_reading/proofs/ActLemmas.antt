@@ -6,7 +6,7 @@ use Rattle.lio_values.specs.declared.value.Content.{Content}
 use Rattle.lio_values.specs.declared.act.Act.{Act}
 use Rattle.lio_values.specs.declared.act.Act.TheVariants as act
 use Rattle.lio_values.specs.PlainText.{label_in_brackets, power_text}
-use Rattle.lio_events.specs.ValueText.{labels_text, content_text, value_text}
+use Rattle.lio_values.specs.ValueText.{labels_text, content_text, value_text}
 use Rattle.lio_events.specs.EntryText.{act_text, op_text, option_text}
 use Rattle.lio_events_reading.specs.declared.words.ActWord.{ActWord}
 use Rattle.lio_events_reading.specs.declared.words.ActWord.TheVariants as do_
@@ -70,7 +70,7 @@ shown names old source target one power two content left finds finds' finds'' s 
     let a = finds (s, t) (blank_power names p ++ (blank_content_text names c ++ end)) ((o.0.0, o.2.0), (o.0.1, o.2.1)) refl
     (is ∙ append_assoc (labels_text names s t ++ blank_power names p) (blank_content_text names c) end ∙ append_assoc (labels_text names s t) (blank_power names p) (blank_content_text names c ++ end)) in
     let b = finds' p (blank_content_text names c ++ end) (o.0.2, o.2.2) refl a.1 in
-    let g = finds'' c end (o.0.3, o.2.3) refl b.1 in
+    let g = finds'' c end (o.0.3, o.2.3, o.3) refl b.1 in
     (a.0, b.0, g.0, g.1)
 
 -- a release, and an exposure, behind its word

@@ -11,7 +11,7 @@ use Rattle.lio_values.specs.declared.value.Plain.TheVariants.{Unit as unit, Flag
 use Rattle.lio_values.specs.declared.value.Value.{Value}
 use Rattle.lio_values.specs.declared.value.Value.TheVariants.{Bare, Sealed}
 use Rattle.lio_values.specs.declared.act.Birth.{Birth}
-use Rattle.lio_events.specs.ValueText.{labels_text, value_text}
+use Rattle.lio_values.specs.ValueText.{labels_text, value_text}
 use Rattle.lio_events.specs.EntryText.{args_text}
 use Rattle.lio_events_reading.specs.Births.{birth_behind, begins_argument, is_no_colon}
 use Rattle.lio_syntax_lines.specs.Literals.{is_digit, is_whole}
@@ -96,7 +96,7 @@ pub finds_birth : (names : List (List ℕ)) (old : List ℕ) (proc_at : ℕ) (on
     → FindsBefore colon (birth_behind names) (IsBirthOver names) old (record { proc_at = proc_at; args = args; result = result; clearance = clearance; turns = turns; first = first; cells = cells }) left
 finds_birth names old proc_at one result clearance two turns three first four cells five args left p l t f c a birth rest o is =
     let end : List ℕ = colon ++ rest in
-    let over : AreValuesOver names birth.args = λ k def within. (o.0.2 k def within, o.1.args k def within) in
+    let over : AreValuesOver names birth.args = λ k def within. (o.0.2 k def within, o.1.args k def within, o.2 k def within) in
     let here : old ≡ blank_decimal birth.proc_at ++ (labels_text names birth.result birth.clearance ++ (blank_decimal birth.turns ++ (blank_decimal birth.first ++ (blank_decimal birth.cells ++ (args_text names birth.args ++ end))))) =
     is ∙ regroup (codes " ") (decimal birth.proc_at) (labels_text names birth.result birth.clearance) (decimal birth.turns) (decimal birth.first) (decimal birth.cells) (args_text names birth.args) end in
     let gp = p birth.proc_at _ o.1.proc_at refl here in

@@ -4,7 +4,7 @@ use Rattle.lio_labels.specs.declared.label.Label.{Label}
 use Rattle.lio_labels.specs.declared.privilege.Priv.{Priv}
 use Rattle.lio_values.specs.declared.fault.FaultKind.{FaultKind}
 use Rattle.lio_values.specs.declared.fault.FaultKind.TheVariants as fault
-use Rattle.lio_events.specs.ValueText.{kind_text}
+use Rattle.lio_values.specs.ValueText.{kind_text}
 use Rattle.lio_events_reading.specs.declared.words.KindWord.{KindWord}
 use Rattle.lio_events_reading.specs.declared.words.KindWord.TheVariants as kind
 use Rattle.lio_events_reading.specs.Words.{kind_word, kind_of}

@@ -3,6 +3,7 @@ pub mod ReadingLemmas
 pub mod LabelLemmas
 pub mod NumberLemmas
 pub mod PlainLemmas
+pub mod ListLemmas
 pub mod KindLemmas
 pub mod ValueLemmas
 pub mod ReplyLemmas

@@ -38,7 +38,7 @@ finds_line names ticket old actor one two target three four at five six act repl
     let ga = fa entry.actor _ o.fits.actor refl here in
     let gt = ft entry.target _ o.fits.target refl (da ∙ ap (λ bytes. drop 1 bytes) ga.1) in
     let gl = fl entry.at _ (o.printable.at, o.fits.at) refl (dt ∙ ap (λ bytes. drop 1 bytes) gt.1) in
-    let gr = fr (entry.act, entry.reply) (end ++ rest) ((o.printable.act, o.printable.raise, o.fits.act), (o.printable.reply, o.fits.reply)) refl (dl ∙ ap (λ bytes. drop 1 bytes) gl.1 ∙ append_assoc taken end rest) in
+    let gr = fr (entry.act, entry.reply) (end ++ rest) ((o.printable.act, o.printable.raise, o.fits.act, o.printable.pure.0), (o.printable.reply, o.fits.reply, o.printable.pure.1)) refl (dl ∙ ap (λ bytes. drop 1 bytes) gl.1 ∙ append_assoc taken end rest) in
     let make : ℕ → ℕ → Option ℕ → Label → Act × Reply → Entry = λ k a t l r. record { ticket = k; actor = a; target = t; at = l; act = r.0; reply = r.1 } in
     ap (λ k. make k actor target at (act, reply)) (sym same) ∙ ap (λ a. make entry.ticket a target at (act, reply)) ga.0 ∙ ap (λ t. make entry.ticket entry.actor t at (act, reply)) gt.0
     ∙ ap (λ l. make entry.ticket entry.actor entry.target l (act, reply)) gl.0 ∙ ap (λ r. make entry.ticket entry.actor entry.target entry.at r) gr.0

@@ -88,3 +88,8 @@ got_beside {T = T} {U = U} {E = E} P (Ok v) kept k u h p =
     subst P (sym (ap (λ (w : T × U). w.1) q)) p
 got_beside {T = T} {U = U} {E = E} P (Err e) kept k u h p =
     let same : ◌≡◌ {A = Result (T × U) E} (Ok (k, u)) (Err e) = h in absurd (cc)
+
+pub both_beside : {T U E : Type 0} (P : T → Type 0) (Q : U → Type 0) (got : Result U E) (kept : T) (result : Result (T × U) E)
+    → MatchResult got (λ v. ◌≡◌ {A = Result (T × U) E} result (Ok (kept, v))) (λ e. ◌≡◌ {A = Result (T × U) E} result (Err e)) → P kept → IfOk got Q → IfOk result (λ both. P both.0 × Q both.1)
+both_beside {T = T} {U = U} {E = E} P Q (Ok v) kept result h p q = subst (λ (r : Result (T × U) E). IfOk r (λ both. P both.0 × Q both.1)) (sym h) (p, q)
+both_beside {T = T} {U = U} {E = E} P Q (Err e) kept result h p q = subst (λ (r : Result (T × U) E). IfOk r (λ both. P both.0 × Q both.1)) (sym h) tt

@@ -13,7 +13,7 @@ use Rattle.lio_values.specs.declared.act.Reply.{Reply}
 use Rattle.lio_values.specs.declared.act.Reply.TheVariants as reply
 use Rattle.lio_values.specs.Quoted.{quoted}
 use Rattle.lio_values.specs.PlainText.{plain_text}
-use Rattle.lio_events.specs.ValueText.{labels_text, numbers_text}
+use Rattle.lio_values.specs.ValueText.{labels_text, numbers_text}
 use Rattle.lio_events.specs.EntryText.{op_text}
 use Rattle.lio_events_reading.specs.declared.words.KindWord.{KindWord}
 use Rattle.lio_events_reading.specs.declared.words.KindWord.TheVariants as kind

@@ -1,7 +1,7 @@
 -- Births in lines.
 use Rattle.std.specs.Prelude.{ℕ, ◌==◌, ◌&&◌, not, Bool, true, false, List, [], ◌∷◌, ◌++◌, codes, decimal}
 use Rattle.lio_values.specs.declared.act.Birth.{Birth}
-use Rattle.lio_events.specs.ValueText.{labels_text}
+use Rattle.lio_values.specs.ValueText.{labels_text}
 use Rattle.lio_events.specs.EntryText.{args_text}
 
 -- a birth behind its word

@@ -8,14 +8,12 @@ use Rattle.lio_labels.specs.declared.privilege.Priv.{Priv}
 use Rattle.lio_labels.specs.IsLabel.{IsLabel}
 use Rattle.lio_values.specs.declared.value.Handle.{Handle}
 use Rattle.lio_values.specs.declared.value.Plain.{Plain}
-use Rattle.lio_values.specs.declared.value.Plain.TheVariants.{Unit as unit, Flag, Whole, Bytes, Lab, Power, RefOf, VarOf, ResultOf, ChanOf}
 use Rattle.lio_values.specs.declared.value.Content.{Content}
-use Rattle.lio_values.specs.declared.value.Content.TheVariants.{Kept, Faulted, Hidden}
 use Rattle.lio_values.specs.declared.value.Value.{Value}
-use Rattle.lio_values.specs.declared.value.Value.TheVariants.{Bare, Sealed}
 use Rattle.lio_values.specs.declared.fault.Fault.{Fault}
 use Rattle.lio_values.specs.declared.fault.FaultKind.{FaultKind}
-use Rattle.lio_values.specs.declared.fault.FaultKind.TheVariants.{FlowCurrent, FlowClearance, FlowRaise, FlowPrivilege, BadType, Overflow, DivZero, TooLong, NoTurns, NoCells, ChildTurns, Depth, LabelWide, User}
+use Rattle.lio_values.specs.Forest.{Tree, Problem, Inner, Item, Forest, deepest, Unit as unit, Flag, Whole, Bytes, Lab, Power, RefOf, VarOf, ResultOf, ChanOf, Items, FlowCurrent, FlowClearance, FlowRaise, FlowPrivilege, BadType, Overflow, DivZero, TooLong, NoTurns, NoCells, ChildTurns, Depth, LabelWide, User, Kept, Faulted, Hidden, Bare, Sealed, Nothing, Then}
+use Rattle.lio_values.specs.Views.{tree_of, problem_of, inner_of, item_of}
 use Rattle.lio_values.specs.declared.act.Act.{Act}
 use Rattle.lio_values.specs.declared.act.Act.TheVariants.{Step, Seal, Raise, Lower, Release, Expose, NewRef, NewVar, Fork, Spawn, Read, Write, Take, Put, Wait, Send, Ended}
 use Rattle.lio_values.specs.declared.act.Birth.{Birth}
@@ -32,47 +30,65 @@ PowerFits privilege = IsCanonical privilege.power × (¬ IsWide privilege.power)
 abbrev pub HandleFits : Handle → Type 0
 HandleFits handle = (handle.number < 2 ^ 32) × IsLabel handle.label
 
--- a whole has 64 bits with sign
-abbrev pub PlainFits : Plain → Type 0
-PlainFits unit = Unit {0}
-PlainFits (Flag flag) = Unit {0}
-PlainFits (Whole number) = IsTrue (is_whole number)
-PlainFits (Bytes text) = IsTrue (list_all is_byte text)
-PlainFits (Lab label) = IsLabel label
-PlainFits (Power privilege) = PowerFits privilege
-PlainFits (RefOf handle) = HandleFits handle
-PlainFits (VarOf handle) = HandleFits handle
-PlainFits (ResultOf handle) = HandleFits handle
-PlainFits (ChanOf handle) = HandleFits handle
+abbrev mutual
+  -- a whole has 64 bits with sign, and a list is of depth at most 8
+  pub TreeFits : Tree → Type 0
+  TreeFits unit = Unit {0}
+  TreeFits (Flag flag) = Unit {0}
+  TreeFits (Whole number) = IsTrue (is_whole number)
+  TreeFits (Bytes text) = IsTrue (list_all is_byte text)
+  TreeFits (Lab label) = IsLabel label
+  TreeFits (Power privilege) = PowerFits privilege
+  TreeFits (RefOf handle) = HandleFits handle
+  TreeFits (VarOf handle) = HandleFits handle
+  TreeFits (ResultOf handle) = HandleFits handle
+  TreeFits (ChanOf handle) = HandleFits handle
+  TreeFits (Items items) = (deepest items < 8) × ItemsFit items
 
--- what is asked and what is left have 64 bits
+  -- what is asked and what is left have 64 bits
+  pub ProblemFits : Problem → Type 0
+  ProblemFits (FlowCurrent current target) = IsLabel current × IsLabel target
+  ProblemFits (FlowClearance target clearance) = IsLabel target × IsLabel clearance
+  ProblemFits (FlowRaise raised clearance) = IsLabel raised × IsLabel clearance
+  ProblemFits (FlowPrivilege power source target) = PowerFits power × IsLabel source × IsLabel target
+  ProblemFits (LabelWide left right) = IsLabel left × IsLabel right
+  ProblemFits (User tree) = TreeFits tree
+  ProblemFits (NoCells asked left) = (asked < 2 ^ 64) × (left < 2 ^ 64)
+  ProblemFits (ChildTurns asked left) = (asked < 2 ^ 64) × (left < 2 ^ 64)
+  ProblemFits BadType = Unit {0}
+  ProblemFits Overflow = Unit {0}
+  ProblemFits DivZero = Unit {0}
+  ProblemFits TooLong = Unit {0}
+  ProblemFits NoTurns = Unit {0}
+  ProblemFits Depth = Unit {0}
+
+  pub InnerFits : Inner → Type 0
+  InnerFits (Kept tree) = TreeFits tree
+  InnerFits (Faulted problem at) = ProblemFits problem × IsLabel at
+  InnerFits Hidden = Unit {0}
+
+  pub ItemFits : Item → Type 0
+  ItemFits (Bare tree) = TreeFits tree
+  ItemFits (Sealed label inner) = IsLabel label × InnerFits inner
+
+  pub ItemsFit : Forest → Type 0
+  ItemsFit Nothing = Unit {0}
+  ItemsFit (Then item items) = ItemFits item × ItemsFit items
+
+abbrev pub PlainFits : Plain → Type 0
+PlainFits plain = TreeFits (tree_of plain)
+
 abbrev pub KindFits : FaultKind → Type 0
-KindFits (FlowCurrent current target) = IsLabel current × IsLabel target
-KindFits (FlowClearance target clearance) = IsLabel target × IsLabel clearance
-KindFits (FlowRaise raised clearance) = IsLabel raised × IsLabel clearance
-KindFits (FlowPrivilege power source target) = PowerFits power × IsLabel source × IsLabel target
-KindFits (LabelWide left right) = IsLabel left × IsLabel right
-KindFits (User plain) = PlainFits plain
-KindFits (NoCells asked left) = (asked < 2 ^ 64) × (left < 2 ^ 64)
-KindFits (ChildTurns asked left) = (asked < 2 ^ 64) × (left < 2 ^ 64)
-KindFits BadType = Unit {0}
-KindFits Overflow = Unit {0}
-KindFits DivZero = Unit {0}
-KindFits TooLong = Unit {0}
-KindFits NoTurns = Unit {0}
-KindFits Depth = Unit {0}
+KindFits kind = ProblemFits (problem_of kind)
 
 abbrev pub FaultFits : Fault → Type 0
 FaultFits fault = KindFits fault.kind × IsLabel fault.at
 
 abbrev pub ContentFits : Content → Type 0
-ContentFits (Kept plain) = PlainFits plain
-ContentFits (Faulted fault) = FaultFits fault
-ContentFits Hidden = Unit {0}
+ContentFits content = InnerFits (inner_of content)
 
 abbrev pub ValueFits : Value → Type 0
-ValueFits (Bare plain) = PlainFits plain
-ValueFits (Sealed label content) = IsLabel label × ContentFits content
+ValueFits value = ItemFits (item_of value)
 
 abbrev pub OptionFits : Option Value → Type 0
 OptionFits None = Unit {0}

@@ -4,7 +4,7 @@ use Rattle.lio_clauses.specs.FormulaPrint.{formula_text}
 use Rattle.lio_labels.specs.declared.label.Label.{Label}
 use Rattle.lio_labels.specs.declared.privilege.Priv.{Priv}
 use Rattle.lio_values.specs.PlainText.{label_in_brackets, power_text}
-use Rattle.lio_events.specs.ValueText.{labels_text}
+use Rattle.lio_values.specs.ValueText.{labels_text}
 use Rattle.lio_events_reading.specs.Cut.{bracketed}
 use Rattle.lio_events_reading.specs.Over.{IsLabelOver}
 

@@ -4,6 +4,7 @@ pub mod Cut
 pub mod Fits
 pub mod Labels
 pub mod Lines
+pub mod Lists
 pub mod Numbers
 pub mod Over
 pub mod Plains

@@ -1,6 +1,6 @@
 -- Numbers in lines.
 use Rattle.std.specs.Prelude.{ℕ, ◌<◌, ◌^◌, List, ◌++◌, codes, decimal}
-use Rattle.lio_events.specs.ValueText.{numbers_text}
+use Rattle.lio_values.specs.ValueText.{numbers_text}
 
 -- a number behind a blank
 abbrev pub blank_decimal : ℕ → List ℕ

@@ -5,9 +5,15 @@ use Rattle.lio_values.specs.declared.value.Value.{Value}
 use Rattle.lio_values.specs.declared.value.Content.TheVariants.{Kept, Faulted, Hidden}
 use Rattle.lio_values.specs.declared.value.Value.TheVariants.{Bare, Sealed}
 use Rattle.lio_values.specs.declared.fault.Fault.{Fault}
-use Rattle.lio_events.specs.ValueText.{fault_text, content_text, value_text}
+use Rattle.lio_values.specs.ValueText.{fault_text, content_text, value_text}
 use Rattle.lio_events.specs.EntryText.{option_text}
+use Rattle.lio_values.specs.Forest.{Forest}
 use Rattle.lio_events_reading.specs.Over.{IsContentOver, IsValueOver}
+use Rattle.lio_events_reading.specs.Plains.{list}
+
+-- a list as a value
+abbrev pub list_value : Forest → Value
+list_value items = Bare (list items)
 
 abbrev pub blank_value_text : List (List ℕ) → Value → List ℕ
 blank_value_text names value = codes " " ++ value_text names value

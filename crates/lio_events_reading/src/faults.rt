@@ -1,6 +1,6 @@
 //! Faults.
 ghost use Rattle.std.specs.Prelude.{◌≡◌, ◌≤◌, length, IfOk};
-ghost use Rattle.lio_events.specs.ValueText.{fault_text, kind_text};
+ghost use Rattle.lio_values.specs.ValueText.{fault_text, kind_text};
 ghost use Rattle.lio_events_reading.specs.Behind as spec;
 ghost use Rattle.lio_events_reading.specs.Behind.{word_of_kind};
 ghost use Rattle.lio_events_reading.specs.Over.{IsFaultOver, IsKindOver};

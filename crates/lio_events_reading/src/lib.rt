@@ -14,6 +14,7 @@ mod fault;
 mod faults;
 mod labels;
 pub mod laws;
+mod lists;
 mod numbers;
 mod plain;
 mod replies;

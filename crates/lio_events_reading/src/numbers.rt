@@ -66,6 +66,7 @@ pub(crate) fn blank_number(text: &mut Cursor) -> u32
 /// Takes the number of a node, or `-` for none.
 pub(crate) fn target(text: &mut Cursor) -> Option<u32>
     ensures finds { Finds target_text TargetFits text.old result text.new }
+    ensures fits { TargetFits result }
 {
     let first = byte_at(text.rest(), 0);
     let word = text.word();

@@ -5,28 +5,34 @@ ghost use Rattle.lio_values.specs.PlainText.{plain_text};
 ghost use Rattle.lio_values.specs.Quoted.{quoted};
 ghost use Rattle.lio_syntax_lines.specs.Literals.{literal_of};
 ghost use Rattle.lio_events_reading.specs.Cut.{AreBytes};
-ghost use Rattle.lio_events_reading.specs.Over.{IsHandleOver, IsPlainOver};
+ghost use Rattle.lio_events_reading.specs.Over.{IsHandleOver, IsPlainOver, IsPureOver, IsPureWithin};
 ghost use Rattle.lio_events_reading.specs.Plains as spec;
-ghost use Rattle.lio_events_reading.specs.Plains.{word_of_plain, IsWordedOver, handle_behind};
+ghost use Rattle.lio_events_reading.specs.Plains.{word_of_plain, IsSingle, IsSingleOver, IsWordedOver};
+ghost use Rattle.lio_events_reading.specs.Plains.{handle_behind};
 ghost use Rattle.lio_events_reading.specs.Reading.{Finds};
 
 use crate::cursor::Cursor;
 use crate::labels::{label, power_behind};
+use crate::lists::{DEPTH, begins_item, sign_len};
 use crate::numbers::number;
 use crate::start::{Start, start_of};
 use crate::words::PlainWord;
 use lio_clauses::{Names, NoMemory};
 use lio_syntax_lines::read_literal;
-use lio_values::{Handle, Plain, Text};
+use lio_values::{Handle, Items, Plain, Text, Value};
 use std::alloc::Global;
 
 /// The flag, unit, whole, text or label that a word is, or unit where it is none.
 fn literal(alloc: Global, names: &Names, word: &[u8]) -> Result<Plain, NoMemory>
-    ensures finds { IfOk result (λ found. (plain : Plain)
+    ensures finds { IfOk result (λ found. (plain : Plain) → IsSingle plain
         → literal_of names.now word.now ≡ Some plain → found ≡ plain) }
-    ensures over { IfOk result (IsPlainOver names.now) }
+    ensures over { IfOk result (IsSingleOver names.now) }
 {
     match read_literal(alloc, names, word)? {
+        Some(Plain::Items(items)) => {
+            drop(items);
+            Ok(Plain::Unit)
+        }
         Some(plain) => Ok(plain),
         None => Ok(Plain::Unit),
     }
@@ -49,7 +55,7 @@ fn handle(text: &mut Cursor, alloc: Global, names: &Names) -> Result<Handle, NoM
 fn worded(text: &mut Cursor, alloc: Global, names: &Names) -> Result<Plain, NoMemory>
     ensures finds { IfOk result (λ found. Finds (plain_text names.now)
         (IsWordedOver names.now) text.old found text.new) }
-    ensures over { IfOk result (IsPlainOver names.now) }
+    ensures over { IfOk result (IsSingleOver names.now) }
     ensures shorter { length text.new ≤ length text.old }
 {
     let word = text.word();
@@ -69,7 +75,7 @@ fn plain_behind(
     ensures finds { IfOk result (λ found. Finds (spec.plain_behind names.now)
         (λ plain. IsPlainOver names.now plain × (word_of_plain plain ≡ Some word))
         text.old found text.new) }
-    ensures over { IfOk result (IsPlainOver names.now) }
+    ensures over { IfOk result (IsSingleOver names.now) }
     ensures shorter { length text.new ≤ length text.old }
 {
     match word {
@@ -81,11 +87,11 @@ fn plain_behind(
     }
 }
 
-/// Takes a plain value.
-pub(crate) fn plain(text: &mut Cursor, alloc: Global, names: &Names) -> Result<Plain, NoMemory>
+/// Takes a plain value that is no list.
+pub(crate) fn single(text: &mut Cursor, alloc: Global, names: &Names) -> Result<Plain, NoMemory>
     ensures finds { IfOk result (λ found. Finds (plain_text names.now)
-        (IsPlainOver names.now) text.old found text.new) }
-    ensures over { IfOk result (IsPlainOver names.now) }
+        (IsSingleOver names.now) text.old found text.new) }
+    ensures over { IfOk result (IsSingleOver names.now) }
     ensures shorter { length text.new ≤ length text.old }
 {
     match start_of(text.rest()) {
@@ -93,6 +99,61 @@ pub(crate) fn plain(text: &mut Cursor, alloc: Global, names: &Names) -> Result<P
         Start::Label => Ok(Plain::Lab(label(text, alloc, names)?)),
         _ => worded(text, alloc, names),
     }
+}
+
+/// Takes a list of pure values, of at most this depth.
+#[cycle(plain)]
+fn pure_items(
+    text: &mut Cursor,
+    alloc: Global,
+    names: &Names,
+    depth: u64,
+) -> Result<Items, NoMemory>
+    requires some { 1 ≤ depth }
+    requires few { depth ≤ 8 }
+    ensures finds { IfOk result (λ found. Finds (λ items. plain_text names.now (spec.list items))
+        (λ items. IsPureWithin names.now depth (spec.list items)) text.old found text.new) }
+    ensures over { IfOk result (λ items. IsPureWithin names.now depth (spec.list items)) }
+    ensures shorter { length text.new ≤ length text.old }
+{
+    let mut items = Items::new(alloc);
+    'items: while begins_item(text.rest()) {
+        text.skip(sign_len(&items));
+        let item = plain_within(text, alloc, names, depth - 1)?;
+        items.push(Value::Bare(item))?;
+    }
+    text.skip(3 - sign_len(&items));
+    Ok(items)
+}
+
+/// Takes a pure value of at most this depth.
+#[cycle(plain)]
+fn plain_within(
+    text: &mut Cursor,
+    alloc: Global,
+    names: &Names,
+    depth: u64,
+) -> Result<Plain, NoMemory>
+    requires { depth ≤ 8 }
+    ensures finds { IfOk result (λ found. Finds (plain_text names.now)
+        (IsPureWithin names.now depth) text.old found text.new) }
+    ensures over { IfOk result (IsPureWithin names.now depth) }
+    ensures shorter { length text.new ≤ length text.old }
+{
+    match start_of(text.rest()) {
+        Start::List if depth > 0 => Ok(Plain::Items(pure_items(text, alloc, names, depth)?)),
+        _ => single(text, alloc, names),
+    }
+}
+
+/// Takes a pure value.
+pub(crate) fn plain(text: &mut Cursor, alloc: Global, names: &Names) -> Result<Plain, NoMemory>
+    ensures finds { IfOk result (λ found. Finds (plain_text names.now)
+        (IsPureOver names.now) text.old found text.new) }
+    ensures over { IfOk result (IsPureOver names.now) }
+    ensures shorter { length text.new ≤ length text.old }
+{
+    plain_within(text, alloc, names, DEPTH)
 }
 
 /// Takes a text in quotes.

@@ -9,6 +9,8 @@ pub(crate) enum Start {
     Text,
     /// A label.
     Label,
+    /// A list.
+    List,
     /// What stands for a content that is hidden.
     Hidden,
     /// A content under a label.
@@ -39,6 +41,8 @@ fn start_at(first: u8, third: u8) -> Start
         Start::Text
     } else if first == b'<' {
         Start::Label
+    } else if first == b'[' {
+        Start::List
     } else if first == b'h' {
         Start::Hidden
     } else if first == b's' {

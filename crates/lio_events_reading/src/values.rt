@@ -1,19 +1,22 @@
 //! Contents and values.
 ghost use Rattle.std.specs.Prelude.{◌≤◌, length, IfOk};
 ghost use Rattle.lio_events.specs.EntryText.{option_text};
-ghost use Rattle.lio_events.specs.ValueText.{content_text, value_text};
+ghost use Rattle.lio_values.specs.ValueText.{content_text, value_text};
 ghost use Rattle.lio_events_reading.specs.Over.{IsContentOver, IsOptionOver, IsValueOver};
+ghost use Rattle.lio_events_reading.specs.Over.{IsValueWithin};
 ghost use Rattle.lio_events_reading.specs.Reading.{Finds};
 ghost use Rattle.lio_events_reading.specs.Values.{blank_content_text, blank_option_text};
-ghost use Rattle.lio_events_reading.specs.Values.{blank_value_text, IsFaultedOver, IsSealedOver};
+ghost use Rattle.lio_events_reading.specs.Values.{blank_value_text, list_value};
+ghost use Rattle.lio_events_reading.specs.Values.{IsFaultedOver, IsSealedOver};
 
 use crate::cursor::Cursor;
 use crate::faults::fault;
 use crate::labels::label;
-use crate::plain::plain;
+use crate::lists::{DEPTH, begins_item, sign_len};
+use crate::plain::{plain, single};
 use crate::start::{Start, start_of};
 use lio_clauses::{Names, NoMemory, beside};
-use lio_values::{Content, Held, Value};
+use lio_values::{Content, Held, Items, Plain, Value};
 use std::alloc::Global;
 
 /// Takes a fault in parentheses, behind its word.
@@ -50,7 +53,7 @@ pub(crate) fn content(text: &mut Cursor, alloc: Global, names: &Names) -> Result
 fn sealed(text: &mut Cursor, alloc: Global, names: &Names) -> Result<Value, NoMemory>
     ensures finds { IfOk result (λ found. Finds (value_text names.now)
         (IsSealedOver names.now) text.old found text.new) }
-    ensures over { IfOk result (IsValueOver names.now) }
+    ensures over { IfOk result (IsSealedOver names.now) }
     ensures shorter { length text.new ≤ length text.old }
 {
     text.skip(6);
@@ -61,6 +64,48 @@ fn sealed(text: &mut Cursor, alloc: Global, names: &Names) -> Result<Value, NoMe
     Ok(Value::Sealed(label, content))
 }
 
+/// Takes a list of at most this depth.
+#[cycle(value)]
+fn items(text: &mut Cursor, alloc: Global, names: &Names, depth: u64) -> Result<Items, NoMemory>
+    requires some { 1 ≤ depth }
+    requires few { depth ≤ 8 }
+    ensures finds { IfOk result (λ found. Finds (λ items. value_text names.now (list_value items))
+        (λ items. IsValueWithin names.now depth (list_value items)) text.old found text.new) }
+    ensures over { IfOk result (λ items. IsValueWithin names.now depth (list_value items)) }
+    ensures shorter { length text.new ≤ length text.old }
+{
+    let mut items = Items::new(alloc);
+    'items: while begins_item(text.rest()) {
+        text.skip(sign_len(&items));
+        items.push(value_within(text, alloc, names, depth - 1)?)?;
+    }
+    text.skip(3 - sign_len(&items));
+    Ok(items)
+}
+
+/// Takes a value of at most this depth.
+#[cycle(value)]
+fn value_within(
+    text: &mut Cursor,
+    alloc: Global,
+    names: &Names,
+    depth: u64,
+) -> Result<Value, NoMemory>
+    requires { depth ≤ 8 }
+    ensures finds { IfOk result (λ found. Finds (value_text names.now)
+        (IsValueWithin names.now depth) text.old found text.new) }
+    ensures over { IfOk result (IsValueWithin names.now depth) }
+    ensures shorter { length text.new ≤ length text.old }
+{
+    match start_of(text.rest()) {
+        Start::Sealed => sealed(text, alloc, names),
+        Start::List if depth > 0 => {
+            Ok(Value::Bare(Plain::Items(items(text, alloc, names, depth)?)))
+        }
+        _ => Ok(Value::Bare(single(text, alloc, names)?)),
+    }
+}
+
 /// Takes a value.
 pub(crate) fn value(text: &mut Cursor, alloc: Global, names: &Names) -> Result<Value, NoMemory>
     ensures finds { IfOk result (λ found. Finds (value_text names.now)
@@ -68,10 +113,7 @@ pub(crate) fn value(text: &mut Cursor, alloc: Global, names: &Names) -> Result<V
     ensures over { IfOk result (IsValueOver names.now) }
     ensures shorter { length text.new ≤ length text.old }
 {
-    match start_of(text.rest()) {
-        Start::Sealed => sealed(text, alloc, names),
-        _ => Ok(Value::Bare(plain(text, alloc, names)?)),
-    }
+    value_within(text, alloc, names, DEPTH)
 }
 
 /// Takes a value on the heap, behind a blank.

@@ -505,6 +505,85 @@ file history.txt
 |7 1 0 <bob %% True> send "42" : ok
 |8 1 - <bob %% True> ended unit : ok
 entries 9
+case votes/votes.lio
+policy
+|{"version":2,"longest":4096,
+| "principals":["alice","bob","carol","clerk"],
+| "channels":[{"name":"count","label":"clerk %% True","file":"count.txt"}],
+| "inputs":[{"name":"a","label":"alice %% True","file":"a.txt"},
+|           {"name":"b","label":"bob %% True","file":"b.txt"},
+|           {"name":"c","label":"carol %% True","file":"c.txt"}],
+| "tasks":[{"name":"main","proc":"main","label":"clerk %% True",
+|           "clearance":"clerk %% True","turns":40,"cells":0,
+|           "args":[{"channel":"count"},
+|                   {"items":[{"input":"a"},{"input":"b"},{"input":"c"}]},
+|                   {"items":[{"power":"alice"},{"power":"bob"},{"power":"carol"}]}]}]}
+script
+|# Counts the votes of a list for the clerk. Each stays sealed in the list until the task learns it by the privilege of its owner.
+|proc main c votes powers
+|let n = len votes
+|let sum = 0
+|let i = 0
+|let go = i < n
+|while go
+|  let v = votes at i
+|  let p = powers at i
+|  unlabel t v using p
+|  let t = num t
+|  let sum = sum + t
+|  let i = i + 1
+|  let go = i < n
+|end
+|let t = str sum
+|send c t
+|end
+input a.txt
+|1~
+input b.txt
+|0~
+input c.txt
+|1~
+words
+|p.json
+|s.lio
+|--history=history.txt
+status Done
+file count.txt
+|2~
+file history.txt
+|0 1 - <clerk %% True> step : ok
+|1 1 - <clerk %% True> step : ok
+|2 1 - <clerk %% True> step : ok
+|3 1 - <clerk %% True> step : ok
+|4 1 - <clerk %% True> step : ok
+|5 1 - <clerk %% True> step : ok
+|6 1 - <clerk %% True> step : ok
+|7 1 - <clerk %% True> expose <alice %% True> <clerk %% True> power<alice> "1" : ok
+|8 1 - <clerk %% True> step : ok
+|9 1 - <clerk %% True> step : ok
+|10 1 - <clerk %% True> step : ok
+|11 1 - <clerk %% True> step : ok
+|12 1 - <clerk %% True> step : ok
+|13 1 - <clerk %% True> step : ok
+|14 1 - <clerk %% True> step : ok
+|15 1 - <clerk %% True> expose <bob %% True> <clerk %% True> power<bob> "0" : ok
+|16 1 - <clerk %% True> step : ok
+|17 1 - <clerk %% True> step : ok
+|18 1 - <clerk %% True> step : ok
+|19 1 - <clerk %% True> step : ok
+|20 1 - <clerk %% True> step : ok
+|21 1 - <clerk %% True> step : ok
+|22 1 - <clerk %% True> step : ok
+|23 1 - <clerk %% True> expose <carol %% True> <clerk %% True> power<carol> "1" : ok
+|24 1 - <clerk %% True> step : ok
+|25 1 - <clerk %% True> step : ok
+|26 1 - <clerk %% True> step : ok
+|27 1 - <clerk %% True> step : ok
+|28 1 - <clerk %% True> step : ok
+|29 1 - <clerk %% True> step : ok
+|30 1 0 <clerk %% True> send "2" : ok
+|31 1 - <clerk %% True> ended unit : ok
+entries 32
 case two_owners/two_owners.lio
 policy
 |{"version":1,"longest":4096,

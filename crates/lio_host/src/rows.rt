@@ -153,6 +153,27 @@ status Done
 file out.txt
 |42~
 entries 12
+case a list among the arguments
+policy
+|{"version":2,"longest":262144,"principals":[],~
+|"channels":[{"name":"out","label":"True %% True","file":"out.txt"}],~
+|"inputs":[{"name":"a","label":"True %% True","file":"a.txt"}],~
+|"tasks":[{"name":"main","proc":"main","label":"True %% True","clearance":"True %% True","turns":20,"cells":0,"args":[{"channel":"out"},{"items":[{"input":"a"},{"whole":7}]}]}]}~
+script
+|proc main c l
+|let n = len l
+|let s = str n
+|send c s
+|let x = l at 0
+|unlabel t x
+|send c t
+|end
+input a.txt
+|x~
+status Done
+file out.txt
+|2x~
+entries 7
 "#;
 
 /// Policies that are refused.
@@ -175,15 +196,15 @@ status BadPolicy(2, 0)
 says
 |lio_host: BadPolicy(2, 0): p.json: the document: "tasks" is missing~
 absent out.txt
-case a second version
+case a third version
 policy
-|{"version":2,"longest":4096,"principals":[],~
+|{"version":3,"longest":4096,"principals":[],~
 |"channels":[{"name":"out","label":"True %% True","file":"out.txt"}],~
 |"inputs":[],~
 |"tasks":[{"name":"main","proc":"main","label":"True %% True","clearance":"True %% True","turns":20,"cells":0,"args":[{"channel":"out"}]}]}~
 status BadPolicy(3, 0)
 says
-|lio_host: BadPolicy(3, 0): p.json: the document: "version" is 2; this host reads policies of version 1~
+|lio_host: BadPolicy(3, 0): p.json: the document: "version" is 3; this host reads policies of versions 1 and 2~
 absent out.txt
 case a principal that is there before
 policy
@@ -234,6 +255,36 @@ policy
 status BadPolicy(8, 0)
 says
 |lio_host: BadPolicy(8, 0): p.json: the document: "longest" times the turns of all tasks is 1073745920, more than 1073741824~
+absent out.txt
+case a list in version 1
+policy
+|{"version":1,"longest":4096,"principals":[],~
+|"channels":[{"name":"out","label":"True %% True","file":"out.txt"}],~
+|"inputs":[],~
+|"tasks":[{"name":"main","proc":"main","label":"True %% True","clearance":"True %% True","turns":20,"cells":0,"args":[{"channel":"out"},{"items":[]}]}]}~
+status BadPolicy(2, 2)
+says
+|lio_host: BadPolicy(2, 2): p.json: task 1, "main": argument 2: "items" is no key here; there are input, channel, label, power, text, whole, flag and unit~
+absent out.txt
+case a longest text of version 2 in version 1
+policy
+|{"version":1,"longest":262144,"principals":[],~
+|"channels":[{"name":"out","label":"True %% True","file":"out.txt"}],~
+|"inputs":[],~
+|"tasks":[{"name":"main","proc":"main","label":"True %% True","clearance":"True %% True","turns":20,"cells":0,"args":[{"channel":"out"}]}]}~
+status BadPolicy(8, 0)
+says
+|lio_host: BadPolicy(8, 0): p.json: the document: "longest" is 262144; it is 1 to 65536~
+absent out.txt
+case a list that is too deep
+policy
+|{"version":2,"longest":4096,"principals":[],~
+|"channels":[{"name":"out","label":"True %% True","file":"out.txt"}],~
+|"inputs":[],~
+|"tasks":[{"name":"main","proc":"main","label":"True %% True","clearance":"True %% True","turns":20,"cells":0,"args":[{"channel":"out"},{"items":[{"items":[{"items":[{"items":[{"items":[{"items":[{"items":[{"items":[{"items":[]}]}]}]}]}]}]}]}]}]}]}~
+status BadPolicy(8, 2)
+says
+|lio_host: BadPolicy(8, 2): p.json: task 1, "main": it has a list that is more than 8 deep, larger than "longest", which is 4096, or has more than 4 inputs~
 absent out.txt
 case a file without a name
 policy

@@ -6,7 +6,7 @@ use crate::wrong::{Wrong, wrong_operand};
 use lio_clauses::NoMemory;
 use lio_labels::{Label, Priv};
 use lio_start::Job;
-use lio_syntax_lines::{One, Operand, Simple};
+use lio_syntax_lines::{One, Operand, Simple, Two};
 use lio_task::Task;
 use lio_task_control::{Environment, Front};
 use lio_values::{FaultKind, Plain};
@@ -171,6 +171,22 @@ fn print_no_whole(
     Ok(())
 }
 
+/// Writes which list has no item at which place, where `at` was asked for one.
+fn print_no_item(
+    printer: &mut Printer<'_>,
+    environment: &Environment,
+    front: &Front<'_, '_>,
+) -> Result<(), NoMemory> {
+    if let Front::Simple(Simple::LetTwo(_, list, Two::At, place)) = front
+        && let Seen::Plain(plain) = value_seen(environment, place)
+    {
+        print_operand(printer, list)?;
+        printer.words(" has no item at ")?;
+        print_plain(printer, plain)?;
+    }
+    Ok(())
+}
+
 /// Writes which operand of what comes first isn't bound, or isn't of the needed kind.
 fn print_bad_type(
     printer: &mut Printer<'_>,
@@ -179,7 +195,24 @@ fn print_bad_type(
 ) -> Result<(), NoMemory> {
     match wrong_operand(environment, front) {
         Some(wrong) => print_wrong(printer, wrong),
-        None => print_no_whole(printer, environment, front),
+        None => {
+            print_no_whole(printer, environment, front)?;
+            print_no_item(printer, environment, front)
+        }
+    }
+}
+
+/// Whether what comes first makes a list of another.
+fn makes_list(environment: &Environment, front: &Front<'_, '_>) -> bool {
+    match front {
+        Front::Simple(Simple::LetTwo(_, _, Two::Push, _)) => true,
+        Front::Simple(Simple::LetTwo(_, operand, Two::Add, _)) => {
+            matches!(
+                value_seen(environment, operand),
+                Seen::Plain(Plain::Items(_))
+            )
+        }
+        _ => false,
     }
 }
 
@@ -187,8 +220,16 @@ fn print_bad_type(
 fn print_too_long(
     printer: &mut Printer<'_>,
     longest: u32,
+    environment: &Environment,
     front: &Front<'_, '_>,
 ) -> Result<(), NoMemory> {
+    if makes_list(environment, front) {
+        printer.words(
+            "the list would be deeper than 8, have more than four sealed values, or be larger than ",
+        )?;
+        printer.show(longest)?;
+        return printer.words(", the policy's \"longest\"");
+    }
     match front {
         Front::Simple(Simple::Unlabel(..) | Simple::UnlabelUsing(..)) => {
             printer.words("the input has more than ")?;
@@ -248,7 +289,7 @@ pub(crate) fn print_reason(
         FaultKind::BadType => print_bad_type(printer, environment, &front),
         FaultKind::Overflow => printer.words("the result is no whole of 64 bits with sign"),
         FaultKind::DivZero => printer.words("the divisor is 0"),
-        FaultKind::TooLong => print_too_long(printer, job.policy().longest, &front),
+        FaultKind::TooLong => { print_too_long(printer, job.policy().longest, environment, &front) }
         FaultKind::NoTurns => Ok(()),
         FaultKind::NoCells(asked, left) => print_asked(printer, "cells", *asked, *left),
         FaultKind::ChildTurns(asked, left) => print_asked(printer, "turns", *asked, *left),

@@ -28,6 +28,7 @@ pub(crate) enum Kind {
     Variable,
     TaskResult,
     Channel,
+    List,
     Sealed,
 }
 
@@ -36,8 +37,8 @@ pub(crate) enum Kind {
 pub(crate) enum Want {
     /// Any value.
     Bound,
-    /// A value that isn't sealed.
-    Bare,
+    /// A value in which nothing is sealed.
+    Pure,
     /// A value of a kind.
     Of(Kind),
     /// A whole that turns and cells can be counted by.
@@ -46,8 +47,12 @@ pub(crate) enum Want {
     Labelled,
     /// What `str` writes.
     Writable,
-    /// What has an order, and can be added.
+    /// What has an order.
     WholeOrText,
+    /// What can be added.
+    Addable,
+    /// What has a length.
+    TextOrList,
     /// What can be equal to another.
     Comparable,
 }
@@ -77,6 +82,7 @@ pub(crate) fn kind_of(plain: &Plain) -> Kind {
         Plain::VarOf(_) => Kind::Variable,
         Plain::ResultOf(_) => Kind::TaskResult,
         Plain::ChanOf(_) => Kind::Channel,
+        Plain::Items(_) => Kind::List,
     }
 }
 
@@ -105,6 +111,7 @@ impl Kind {
             Kind::Variable => "a variable",
             Kind::TaskResult => "a child's result",
             Kind::Channel => "a channel",
+            Kind::List => "a list",
             Kind::Sealed => "a sealed value",
         }
     }
@@ -115,12 +122,14 @@ impl Want {
     pub fn words(self) -> &'static str {
         match self {
             Want::Bound => "a value",
-            Want::Bare => "a bare value",
+            Want::Pure => "a bare value with nothing sealed in it",
             Want::Of(kind) => kind.words(),
             Want::Count => "a whole from 0 to 4294967295",
             Want::Labelled => "a sealed value or a handle",
             Want::Writable => "a whole, a flag or unit",
             Want::WholeOrText => "a whole or a text",
+            Want::Addable => "a whole, a text or a list",
+            Want::TextOrList => "a text or a list",
             Want::Comparable => "unit, a flag, a whole, a text or a label",
         }
     }
@@ -129,6 +138,7 @@ impl Want {
     pub fn is_met(self, seen: Seen<'_>) -> bool {
         match (self, seen) {
             (Want::Count, Seen::Plain(Plain::Whole(whole))) => u32::try_from(*whole).is_ok(),
+            (Want::Pure, Seen::Plain(plain)) => plain.is_pure(),
             _ => match seen.kind() {
                 Some(kind) => self.is_met_by(kind),
                 None => false,
@@ -136,19 +146,20 @@ impl Want {
         }
     }
 
-    /// Whether it is met by values of a kind; no kind is that of counts.
+    /// Whether it is met by values of a kind; no kind is that of counts, and none tells what is pure.
     fn is_met_by(self, kind: Kind) -> bool {
         match self {
             Want::Bound => true,
-            Want::Bare => kind != Kind::Sealed,
             Want::Of(wanted) => kind == wanted,
-            Want::Count => false,
+            Want::Count | Want::Pure => false,
             Want::Labelled => matches!(
                 kind,
                 Kind::Sealed | Kind::Reference | Kind::Variable | Kind::TaskResult | Kind::Channel
             ),
             Want::Writable => matches!(kind, Kind::Unit | Kind::Flag | Kind::Whole),
             Want::WholeOrText => matches!(kind, Kind::Whole | Kind::Text),
+            Want::Addable => matches!(kind, Kind::Whole | Kind::Text | Kind::List),
+            Want::TextOrList => matches!(kind, Kind::Text | Kind::List),
             Want::Comparable => matches!(
                 kind,
                 Kind::Unit | Kind::Flag | Kind::Whole | Kind::Text | Kind::Label

@@ -73,7 +73,8 @@ fn want_of(operator: One) -> Want {
     match operator {
         One::Not => Want::Of(Kind::Flag),
         One::Neg => Want::Of(Kind::Whole),
-        One::Len | One::Num => Want::Of(Kind::Text),
+        One::Len => Want::TextOrList,
+        One::Num => Want::Of(Kind::Text),
         One::Str => Want::Writable,
         One::LabelOf => Want::Labelled,
     }
@@ -86,18 +87,24 @@ fn check_operator<'a>(
     operator: Two,
     second: &'a Operand,
 ) -> Option<Wrong<'a>> {
+    let whole = Want::Of(Kind::Whole);
+    let flag = Want::Of(Kind::Flag);
+    let label = Want::Of(Kind::Label);
+    let text = Want::Of(Kind::Text);
+    let list = Want::Of(Kind::List);
     let (wanted, want) = match operator {
         Two::Eq | Two::Ne => return check_alike(names, first, second, Want::Comparable),
-        Two::Add | Two::Lt | Two::Le => {
-            return check_alike(names, first, second, Want::WholeOrText);
-        }
-        Two::Sub | Two::Mul | Two::Div | Two::Rem => (Kind::Whole, Kind::Whole),
-        Two::And | Two::Or => (Kind::Flag, Kind::Flag),
-        Two::Join | Two::Meet | Two::Flows => (Kind::Label, Kind::Label),
-        Two::From | Two::Upto => (Kind::Text, Kind::Whole),
-        Two::Find => (Kind::Text, Kind::Text),
+        Two::Add => return check_alike(names, first, second, Want::Addable),
+        Two::Lt | Two::Le => return check_alike(names, first, second, Want::WholeOrText),
+        Two::Sub | Two::Mul | Two::Div | Two::Rem => (whole, whole),
+        Two::And | Two::Or => (flag, flag),
+        Two::Join | Two::Meet | Two::Flows => (label, label),
+        Two::From | Two::Upto => (Want::TextOrList, whole),
+        Two::Find => (text, text),
+        Two::Push => (list, Want::Bound),
+        Two::At => (list, whole),
     };
-    check_two(names, (first, Want::Of(wanted)), (second, Want::Of(want)))
+    check_two(names, (first, wanted), (second, want))
 }
 
 /// The wrong operand of a statement that starts a child.
@@ -121,8 +128,8 @@ fn check_simple<'a>(names: &'a Environment, simple: &'a Simple) -> Option<Wrong<
         Simple::LetOne(_, operator, a) => check(names, a, want_of(*operator)),
         Simple::LetTwo(_, a, operator, b) => check_operator(names, a, *operator, b),
         Simple::Call(_, _, arguments) => check_all(names, arguments),
-        Simple::Return(a) | Simple::Throw(a) => check(names, a, Want::Bare),
-        Simple::Label(_, l, a) => check_two(names, (l, label), (a, Want::Bare)),
+        Simple::Return(a) | Simple::Throw(a) => check(names, a, Want::Pure),
+        Simple::Label(_, l, a) => check_two(names, (l, label), (a, Want::Pure)),
         Simple::Unlabel(_, a) => check(names, a, Want::Of(Kind::Sealed)),
         Simple::UnlabelUsing(_, a, p) => {
             let power = Want::Of(Kind::Privilege);

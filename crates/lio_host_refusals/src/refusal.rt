@@ -57,7 +57,7 @@ fn rule_text(rule: u32) -> &'static str {
         2 => {
             "each object has exactly the keys that docs/FORMATS.md lists for it, each with a value of its kind"
         }
-        3 => "`version` is 1",
+        3 => "`version` is 1 or 2",
         4 => {
             "a name has 1 to 32 bytes of `a` to `z`, `0` to `9` and `_`, begins with a letter, and stands once in its list; there are at most 64 principals"
         }
@@ -67,7 +67,7 @@ fn rule_text(rule: u32) -> &'static str {
         6 => "a task's label flows to its clearance",
         7 => "an argument names an input or a channel of this policy",
         8 => {
-            "`longest` is 1 to 65536, and times the turns of all tasks at most 1073741824; there are at most 256 channels, inputs and tasks each, 1048576 turns and 65536 cells in all; a task has at most 8 arguments, and no text longer than `longest`"
+            "`longest` is 1 to 65536, and times the turns of all tasks at most 1073741824; there are at most 256 channels, inputs and tasks each, 1048576 turns and 65536 cells in all; a task has at most 8 arguments, and no text longer than `longest`; in version 2 `longest` and these numbers of entries, turns and cells may be four times as large, and a list is at most 8 deep, at most `longest` in size, and has at most four inputs"
         }
         _ => {
             "a file's name has 1 to 255 bytes, no zero byte, doesn't begin with `-`, and stands once among the files of channels and inputs"

@@ -3,7 +3,7 @@ use Rattle.std.proofs.Common.{◌≡◌, sym, subst, ℕ, List, All, Result, Ok,
 use Rattle.std.specs.Prelude.{IfOk, OnErr}
 use Rattle.lio_values.specs.declared.value.Content.{Content}
 use Rattle.lio_values.specs.declared.entry.Entry.{Entry}
-use Rattle.lio_events.specs.Named.{IsContentNamed}
+use Rattle.lio_calculus_names.specs.NameLaws.{IsContentPrintable}
 use Rattle.lio_events.specs.Printable.{IsPrintable}
 use Rattle.lio_calculus.specs.Erased.{LowTurn}
 use Rattle.lio_calculus_names.specs.Configuration.{NamesOnly}
@@ -17,7 +17,7 @@ pub record IsTakenNamed (names : List (List ℕ)) (state : ErasedState) (result 
   pub entry : IfOk result (IsPrintable names)
   pub named : NamesOnly names state.configuration
 
-pub taken-is_named : (names : List (List ℕ)) (k : ℕ) (old new : ErasedState) (before after : List Content) (result : Result Entry LowFault) → NamesOnly names old.configuration → All (IsContentNamed names) before
+pub taken-is_named : (names : List (List ℕ)) (k : ℕ) (old new : ErasedState) (before after : List Content) (result : Result Entry LowFault) → NamesOnly names old.configuration → All (IsContentPrintable names) before
     → IfOk result (TakesTurn old new k before after) → OnErr result ((new ≡ old) × (after ≡ before)) → IsTakenNamed names new result
 taken-is_named names k old new before after (Ok entry) named all ok err =
     let turn : LowTurn = record { entry = entry; next = new.configuration; left = after } in

@@ -1,7 +1,7 @@
 //! The line with which a view that stops could go on, for messages.
 
 ghost use Rattle.std.specs.Prelude.{All, IfOk, IfSome};
-ghost use Rattle.lio_events.specs.Named.{IsContentNamed};
+ghost use Rattle.lio_calculus_names.specs.NameLaws.{IsContentPrintable};
 ghost use Rattle.lio_events.specs.Printable.{IsPrintable};
 ghost use Rattle.lio_calculus_names.specs.Configuration.{NamesOnly};
 ghost use Rattle.lio_erasure.specs.LowParts.{low_of};
@@ -44,7 +44,7 @@ fn released_by(
     names: &Names,
 ) -> Result<Contents, NoMemory>
     requires { IsPrintable names.now entry }
-    ensures { IfOk result (All (IsContentNamed names.now)) }
+    ensures { IfOk result (All (IsContentPrintable names.now)) }
 {
     let mut line = Journal::new(alloc);
     line.push(entry)?;
@@ -60,7 +60,8 @@ fn read_line(
     observer: &Label,
     names: &Names,
 ) -> Result<Option<Line>, NoMemory>
-    ensures { IfOk result (λ line. IfSome line (λ l. All (IsContentNamed names.now) l.released)) }
+    ensures { IfOk result (λ line. IfSome line
+        (λ l. All (IsContentPrintable names.now) l.released)) }
 {
     match read_seen(alloc, bytes, names, 0) {
         Ok((entry, len)) => {
@@ -87,7 +88,7 @@ fn turn(
     k: u32,
 ) -> Result<Entry, LowFault>
     requires named { NamesOnly names.now (low_of low.old).configuration }
-    requires contents { All (IsContentNamed names.now) released.old }
+    requires contents { All (IsContentPrintable names.now) released.old }
     ensures entry { IfOk result (IsPrintable names.now) }
     ensures named { NamesOnly names.now (low_of low.new).configuration }
 {
@@ -104,7 +105,7 @@ fn take_turn(
     k: u32,
 ) -> Result<Option<Entry>, NoMemory>
     requires named { NamesOnly names.now (low_of low.old).configuration }
-    requires contents { All (IsContentNamed names.now) released }
+    requires contents { All (IsContentPrintable names.now) released }
     ensures entry { IfOk result (λ entry. IfSome entry (IsPrintable names.now)) }
     ensures named { NamesOnly names.now (low_of low.new).configuration }
 {
@@ -151,7 +152,7 @@ fn line_of(
     k: u32,
 ) -> Result<Option<Vec<u8>>, NoMemory>
     requires named { NamesOnly names.now (low_of low.old).configuration }
-    requires contents { All (IsContentNamed names.now) released }
+    requires contents { All (IsContentPrintable names.now) released }
 {
     match take_turn(alloc, low, released, names, k)? {
         Some(entry) => {
@@ -198,7 +199,7 @@ fn take_line(
     names: &Names,
 ) -> Result<Option<usize>, NoMemory>
     requires named { NamesOnly names.now (low_of low.old).configuration }
-    requires contents { All (IsContentNamed names.now) line.released }
+    requires contents { All (IsContentPrintable names.now) line.released }
     ensures { NamesOnly names.now (low_of low.new).configuration }
 {
     let Line {

@@ -1,3 +1,4 @@
 pub mod TextLemmas
 pub mod WholeLemmas
+pub mod ListLemmas
 pub mod OperatorLemmas

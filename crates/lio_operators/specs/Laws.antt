@@ -1,15 +1,19 @@
--- The laws of operators: they don't see what is hidden, and what they give is a bare flag, whole, text or label, and no text that is too long.
-use Rattle.std.specs.Prelude.{◌≡◌, ◌≤◌, ℕ, length, Result, Ok, Err}
+-- The laws of operators: they don't see what is hidden, what they give is a bare flag, whole, text or label or made of parts of the operands, and no text that
+-- they make is too long.
+use Rattle.std.specs.Prelude.{◌≡◌, ◌≤◌, ◌⊎◌, ℕ, List, [], All, length, Result, Ok, Err}
+use Rattle.std.specs.List.{Contains}
 use Rattle.lio_labels.specs.declared.label.Label.{Label}
 use Rattle.lio_values.specs.declared.value.Plain.{Plain}
-use Rattle.lio_values.specs.declared.value.Plain.TheVariants.{Flag, Whole, Bytes, Lab}
+use Rattle.lio_values.specs.declared.value.Plain.TheVariants.{Flag, Whole, Bytes, Lab, Items}
 use Rattle.lio_values.specs.declared.value.Value.{Value}
 use Rattle.lio_values.specs.declared.value.Value.TheVariants.{Bare, Sealed}
 use Rattle.lio_values.specs.declared.fault.FaultKind.{FaultKind}
 use Rattle.lio_values.specs.declared.fault.FaultKind.TheVariants.{User}
 use Rattle.lio_values.specs.Erasure.{erase_value}
+use Rattle.lio_values.specs.Views.{values_of}
 use Rattle.lio_syntax_lines.specs.declared.operators.One.{One}
 use Rattle.lio_syntax_lines.specs.declared.operators.Two.{Two}
+use Rattle.lio_syntax_lines.specs.declared.operators.Two.TheVariants.{At}
 use Rattle.lio_operators.specs.Operators.{operate1, operate2}
 
 -- what an operator gives, as an observer sees it
@@ -43,12 +47,32 @@ IsPublic (Ok (Bare plain)) = IsSimple plain
 IsPublic (Ok (Sealed label content)) = ⊥
 IsPublic (Err kind) = IsUnthrown kind
 
--- what an operator gives is a bare flag, whole, text or label, or a fault without a value
+-- what an operator on one value gives is a bare flag, whole, text or label, or a fault without a value
 abbrev pub OneGivesSimple : Type 0
 OneGivesSimple = (longest : ℕ) (op : One) (a : Value) → IsPublic (operate1 longest op a)
 
-abbrev pub TwoGiveSimple : Type 0
-TwoGiveSimple = (longest : ℕ) (op : Two) (a b : Value) → IsPublic (operate2 longest op a b)
+-- the items of a list
+abbrev pub items_in : Value → List Value
+items_in (Bare (Items items)) = values_of items
+items_in value = []
+
+-- a value is an item of an operand, or the right operand
+abbrev pub IsPartOf : Value → Value → Value → Type 0
+IsPartOf a b value = Contains (items_in a) value ⊎ (Contains (items_in b) value ⊎ (value ≡ b))
+
+-- a list of such values
+abbrev pub IsListOf : Value → Value → Value → Type 0
+IsListOf a b (Bare (Items items)) = All (IsPartOf a b) (values_of items)
+IsListOf a b value = ⊥
+
+-- a bare flag, whole, text or label, an item of the left operand, or a list of parts of the operands; or a fault without a value
+abbrev pub IsMadeOf : Value → Value → Result Value FaultKind → Type 0
+IsMadeOf a b (Ok value) = IsPublic (Ok value) ⊎ (Contains (items_in a) value ⊎ IsListOf a b value)
+IsMadeOf a b (Err kind) = IsUnthrown kind
+
+-- what an operator on two values gives is made of them
+abbrev pub TwoGiveParts : Type 0
+TwoGiveParts = (longest : ℕ) (op : Two) (a b : Value) → IsMadeOf a b (operate2 longest op a b)
 
 -- a value whose text, if it is one, has at most so many bytes
 abbrev pub IsShort : ℕ → Value → Type 0
@@ -63,6 +87,6 @@ GivesShort longest (Err kind) = Unit {0}
 abbrev pub OneGivesShort : Type 0
 OneGivesShort = (longest : ℕ) (op : One) (a : Value) → GivesShort longest (operate1 longest op a)
 
--- nor has a text that an operator on two values gives more
+-- nor has a text that an operator on two values gives more, but that an item of a list, which `at` gives, is as it was
 abbrev pub TwoGiveShort : Type 0
-TwoGiveShort = (longest : ℕ) (op : Two) (a b : Value) → GivesShort longest (operate2 longest op a b)
+TwoGiveShort = (longest : ℕ) (op : Two) (a b : Value) → (op ≡ At → ⊥) → GivesShort longest (operate2 longest op a b)

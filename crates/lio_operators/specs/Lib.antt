@@ -2,6 +2,7 @@ pub mod Wholes
 pub mod Texts
 pub mod Labels
 pub mod Flags
+pub mod Lists
 pub mod Operators
 pub mod Outcomes
 pub mod Answers

@@ -3,7 +3,7 @@ use Rattle.std.specs.Prelude.{ℕ, Bool, not, true, false, List, length, codes, 
 use Rattle.std.specs.Fmt.{signed_decimal}
 use Rattle.lio_labels.specs.declared.label.Label.{Label}
 use Rattle.lio_values.specs.declared.value.Plain.{Plain}
-use Rattle.lio_values.specs.declared.value.Plain.TheVariants.{Unit as unit, Flag, Whole, Bytes, Lab, RefOf, VarOf, ResultOf, ChanOf}
+use Rattle.lio_values.specs.declared.value.Plain.TheVariants.{Unit as unit, Flag, Whole, Bytes, Lab, RefOf, VarOf, ResultOf, ChanOf, Items}
 use Rattle.lio_values.specs.declared.value.Value.{Value}
 use Rattle.lio_values.specs.declared.value.Value.TheVariants.{Bare, Sealed}
 use Rattle.lio_values.specs.declared.fault.FaultKind.{FaultKind}
@@ -16,6 +16,8 @@ use Rattle.lio_operators.specs.Wholes.{fitting, on_wholes}
 use Rattle.lio_operators.specs.Texts.{made, on_texts, on_text_at}
 use Rattle.lio_operators.specs.Labels.{on_labels}
 use Rattle.lio_operators.specs.Flags.{on_flags, on_units}
+use Rattle.lio_operators.specs.Lists.{on_last, list_and}
+use Rattle.lio_values.specs.Views.{values_of}
 
 -- a plain value as a bare one
 abbrev pub bare : Result Plain FaultKind → Result Value FaultKind
@@ -32,9 +34,10 @@ abbrev pub neg_of : Plain → Result Plain FaultKind
 neg_of (Whole number) = fitting (neg_ℤ number)
 neg_of plain = Err BadType
 
--- the number of bytes of a text
+-- the number of bytes of a text, or of items of a list
 abbrev pub len_of : Plain → Result Plain FaultKind
 len_of (Bytes text) = Ok (Whole (pos (length text)))
+len_of (Items items) = Ok (Whole (pos (length (values_of items))))
 len_of plain = Err BadType
 
 -- a whole that was read, if there is one
@@ -117,8 +120,18 @@ on_plains longest two (Bytes a) b = text_and longest two a b
 on_plains longest two (Lab a) b = label_and two a b
 on_plains longest two a b = Err BadType
 
+-- operators on two bare values
+abbrev pub on_bare : ℕ → Two → Plain → Plain → Result Value FaultKind
+on_bare longest op (Items items) b = list_and longest op items b
+on_bare longest op a b = bare (on_plains longest op a b)
+
+-- operators on a bare value and a sealed one: `push` alone takes one
+abbrev pub on_bare_and_sealed : ℕ → Two → Plain → Value → Result Value FaultKind
+on_bare_and_sealed longest op (Items items) b = on_last longest op items b
+on_bare_and_sealed longest op a b = Err BadType
+
 -- what an operator on two values gives
 unfoldable pub operate2 : ℕ → Two → Value → Value → Result Value FaultKind
-operate2 longest op (Bare a) (Bare b) = bare (on_plains longest op a b)
-operate2 longest op (Bare a) (Sealed label content) = Err BadType
+operate2 longest op (Bare a) (Bare b) = on_bare longest op a b
+operate2 longest op (Bare a) (Sealed label content) = on_bare_and_sealed longest op a (Sealed label content)
 operate2 longest op (Sealed label content) b = Err BadType

@@ -1,7 +1,7 @@
--- What an operator gives without memory: a small value, or a fault that keeps nothing. Where it makes a text or a label it gives neither.
+-- What an operator gives without memory: a small value, or a fault that keeps nothing. Where it makes a text, a label or a list, or gives an item of one, it gives neither.
 use Rattle.std.specs.Prelude.{◌≡◌, Bool, true, false, Result, Ok, Err}
 use Rattle.lio_values.specs.declared.value.Plain.{Plain}
-use Rattle.lio_values.specs.declared.value.Plain.TheVariants.{Unit as unit, Flag, Whole, Bytes, Lab, RefOf, VarOf, ResultOf, ChanOf}
+use Rattle.lio_values.specs.declared.value.Plain.TheVariants.{Unit as unit, Flag, Whole, Bytes, Lab, RefOf, VarOf, ResultOf, ChanOf, Items}
 use Rattle.lio_values.specs.declared.value.Value.{Value}
 use Rattle.lio_values.specs.declared.value.Value.TheVariants.{Bare, Sealed}
 use Rattle.lio_values.specs.declared.fault.FaultKind.{FaultKind}
@@ -11,7 +11,7 @@ use Rattle.lio_values.specs.Small.{plain_of, kind_of}
 use Rattle.lio_syntax_lines.specs.declared.operators.One.{One}
 use Rattle.lio_syntax_lines.specs.declared.operators.One.TheVariants.{Str, LabelOf}
 use Rattle.lio_syntax_lines.specs.declared.operators.Two.{Two}
-use Rattle.lio_syntax_lines.specs.declared.operators.Two.TheVariants.{Add, Join, Meet, From, Upto}
+use Rattle.lio_syntax_lines.specs.declared.operators.Two.TheVariants.{Add, Join, Meet, From, Upto, Push, At}
 use Rattle.lio_operators.specs.declared.outcome.Outcome.{Outcome}
 use Rattle.lio_operators.specs.declared.outcome.Outcome.TheVariants as outcome
 
@@ -20,7 +20,7 @@ abbrev pub given_by : Result Small Trap → Result Plain FaultKind
 given_by (Ok small) = Ok (plain_of small)
 given_by (Err trap) = Err (kind_of trap)
 
--- whether an outcome leaves a text or a label to be made
+-- whether an outcome leaves to be made what takes memory
 abbrev pub is_large : Outcome → Bool
 is_large (outcome.Value small) = false
 is_large (outcome.Fault trap) = false
@@ -60,10 +60,20 @@ abbrev pub label_makes_large : Two → Plain → Bool
 label_makes_large two (Lab b) = bounds two
 label_makes_large two b = false
 
--- whether an operator on two plain values makes a text or a label, if it doesn't fail
+-- whether one on a list and another value gives a value that takes memory, if it doesn't fail
+abbrev pub list_makes_large : Two → Plain → Bool
+list_makes_large Push b = true
+list_makes_large Add (Items others) = true
+list_makes_large At (Whole at) = true
+list_makes_large From (Whole at) = true
+list_makes_large Upto (Whole at) = true
+list_makes_large two b = false
+
+-- whether an operator on two plain values makes a text, a label or a list, or gives an item, if it doesn't fail
 abbrev pub makes_large2 : Two → Plain → Plain → Bool
 makes_large2 two (Bytes a) b = text_makes_large two b
 makes_large2 two (Lab a) b = label_makes_large two b
+makes_large2 two (Items a) b = list_makes_large two b
 makes_large2 two a b = false
 
 -- whether a plain value is printed

@@ -5,6 +5,7 @@ mod faults;
 mod flags;
 mod labels;
 pub mod laws;
+mod lists;
 mod operate;
 mod outcome;
 mod outcomes;
@@ -12,6 +13,6 @@ mod texts;
 mod wholes;
 
 pub use faults::OpFault;
-pub use operate::{operate_plains, operate1, operate2};
+pub use operate::{operate_plains, operate_sealed, operate1, operate2};
 pub use outcome::Outcome;
 pub use outcomes::{outcome1, outcome2, plain_outcome};

@@ -1,4 +1,4 @@
-//! Operators on values: a text or a label that they make takes memory.
+//! Operators on values: a text, a label or a list that they make takes memory.
 #![tactic(auto, unfolding(crate::specs::Operators::operate2, crate::specs::Operators::operate1))]
 
 ghost use Rattle.std.specs.Prelude.{IsTrue, Ok, Result};
@@ -6,14 +6,15 @@ ghost use Rattle.lio_values.specs.declared.value.Plain.{Plain};
 ghost use Rattle.lio_values.specs.declared.fault.FaultKind.{FaultKind};
 ghost use Rattle.lio_operators.specs.Answers.{Answers};
 ghost use Rattle.lio_operators.specs.Operators as spec;
-ghost use Rattle.lio_operators.specs.Operators.{str_of, label_of, on_plain, on_plains};
-ghost use Rattle.lio_operators.specs.Operators.{text_and, label_and};
+ghost use Rattle.lio_operators.specs.Operators.{str_of, label_of, on_plain};
+ghost use Rattle.lio_operators.specs.Operators.{text_and, label_and, on_bare_and_sealed};
 ghost use Rattle.lio_operators.specs.Outcomes.{is_handle, is_printed, label_makes_large};
 ghost use Rattle.lio_operators.specs.Outcomes.{makes_large1, makes_large2};
 ghost use Rattle.lio_operators.specs.Outcomes.{plain_makes_large, text_makes_large};
 
 use crate::faults::OpFault;
 use crate::labels::bound;
+use crate::lists::{on_list, on_list_and_sealed};
 use crate::outcome::Outcome;
 use crate::outcomes::{outcome1, outcome2};
 use crate::texts::{joined, made, on_text_at};
@@ -135,31 +136,19 @@ fn large_of_label(alloc: Global, op: Two, a: &Label, b: &Plain) -> Result<Plain,
     }
 }
 
-/// The text or the label that an operator on two plain values makes.
-fn large_of_plains(
-    alloc: Global,
-    op: Two,
-    a: &Plain,
-    b: &Plain,
-    longest: u32,
-) -> Result<Plain, OpFault>
-    requires { IsTrue (makes_large2 op a.now b.now) }
-    ensures { Answers (on_plains longest op a.now b.now) result }
-{
-    match a {
-        Plain::Bytes(a) => large_of_text(alloc, op, a.bytes(), b, longest),
-        Plain::Lab(a) => large_of_label(alloc, op, a, b),
-        _ => unreachable!(),
-    }
-}
-
-/// The text or the label that an operator on two bare values makes.
+/// The text, the label or the list that an operator on two bare values makes, or the item that it
+/// gives.
 #[inline(never)]
 fn large2(alloc: Global, op: Two, a: &Plain, b: &Plain, longest: u32) -> Result<Value, OpFault>
     requires { IsTrue (makes_large2 op a.now b.now) }
     ensures { Answers (spec.operate2 longest op (Value.Bare a.now) (Value.Bare b.now)) result }
 {
-    bare(large_of_plains(alloc, op, a, b, longest))
+    match a {
+        Plain::Bytes(a) => bare(large_of_text(alloc, op, a.bytes(), b, longest)),
+        Plain::Lab(a) => bare(large_of_label(alloc, op, a, b)),
+        Plain::Items(a) => on_list(alloc, op, a, b, longest),
+        _ => unreachable!(),
+    }
 }
 
 /// What an operator on two bare values gives. A text that is made has at most `longest` bytes.
@@ -179,6 +168,22 @@ pub fn operate_plains(
     }
 }
 
+/// What an operator on a bare value and a sealed one gives: `push` alone takes a sealed one.
+pub fn operate_sealed(
+    alloc: Global,
+    op: Two,
+    a: &Plain,
+    b: &Value,
+    longest: u32,
+) -> Result<Value, OpFault>
+    ensures { Answers (on_bare_and_sealed longest op a.now b.now) result }
+{
+    match a {
+        Plain::Items(items) => on_list_and_sealed(alloc, op, items, b, longest),
+        _ => Err(OpFault::Kind(FaultKind::BadType)),
+    }
+}
+
 /// What an operator on two values gives. A text that is made has at most `longest` bytes.
 pub fn operate2(
     alloc: Global,
@@ -191,6 +196,7 @@ pub fn operate2(
 {
     match (a, b) {
         (Value::Bare(a), Value::Bare(b)) => operate_plains(alloc, op, a, b, longest),
+        (Value::Bare(a), Value::Sealed(_, _)) => operate_sealed(alloc, op, a, b, longest),
         _ => Err(OpFault::Kind(FaultKind::BadType)),
     }
 }

@@ -12,7 +12,7 @@ pub enum Outcome {
     Value(Small),
     /// A fault in place of a value.
     Fault(Trap),
-    /// It makes a text or a label, which takes memory.
+    /// It makes a text, a label or a list, or gives an item of one, which takes memory.
     Large,
 }
 

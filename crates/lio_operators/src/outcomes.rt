@@ -14,6 +14,7 @@ ghost use Rattle.lio_operators.specs.Outcomes.{text_makes_large};
 
 use crate::flags::{on_flags, on_units};
 use crate::labels::small_of_labels;
+use crate::lists::small_of_list;
 use crate::outcome::{Outcome, outcome_of};
 use crate::texts::{small_of_text_at, small_of_texts};
 use crate::wholes::{negative, on_wholes};
@@ -43,13 +44,14 @@ fn neg_of(plain: &Plain) -> Result<Small, Trap>
     }
 }
 
-/// The number of bytes of a text.
+/// The number of bytes of a text, or of items of a list.
 #[inline(always)]
 fn len_of(plain: &Plain) -> Result<Small, Trap>
     ensures { given_by result ≡ len_of plain.now }
 {
     match plain {
         Plain::Bytes(text) => Ok(Small::Whole(text.bytes().len() as i64)),
+        Plain::Items(items) => Ok(Small::Whole(items.as_slice().len() as i64)),
         _ => Err(Trap::BadType),
     }
 }
@@ -190,7 +192,7 @@ fn label_and(op: Two, a: &Label, b: &Plain) -> Outcome
 }
 
 /// What an operator on two bare values gives without memory: a small value or a fault, or that it
-/// makes a text or a label.
+/// makes a text, a label or a list, or gives an item of one.
 #[inline(always)]
 pub fn outcome2(op: Two, a: &Plain, b: &Plain) -> Outcome
     ensures large { is_large result ≡ makes_large2 op a.now b.now }
@@ -203,6 +205,7 @@ pub fn outcome2(op: Two, a: &Plain, b: &Plain) -> Outcome
         Plain::Whole(a) => outcome_of(whole_and(op, *a, b)),
         Plain::Bytes(a) => text_and(op, a.bytes(), b),
         Plain::Lab(a) => label_and(op, a, b),
+        Plain::Items(_) => small_of_list(op, b),
         _ => Outcome::Fault(Trap::BadType),
     }
 }

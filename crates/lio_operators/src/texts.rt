@@ -81,22 +81,19 @@ pub(crate) fn small_of_text_at(op: Two) -> Outcome
     }
 }
 
-/// The place in a text that a whole names: its start for one below 0, and its end for one past it.
-fn place_in(text: &[u8], at: i64) -> usize
-    ensures { result ≡ min (place_at at) (length text.now) }
+/// The place that a whole names in what has so many bytes or items: the start for one below 0, and
+/// the end for one past it.
+pub(crate) fn place_in(len: usize, at: i64) -> usize
+    ensures { result ≡ min (place_at at) len }
 {
-    if at < 0 {
-        0
-    } else {
-        (at as usize).min(text.len())
-    }
+    if at < 0 { 0 } else { (at as usize).min(len) }
 }
 
 /// The bytes from a place on.
 fn bytes_from(alloc: Global, text: &[u8], at: i64, longest: u32) -> Result<Plain, OpFault>
     ensures { Answers (made longest (drop (place_at at) text.now)) result }
 {
-    let place = place_in(text, at);
+    let place = place_in(text.len(), at);
     made(alloc, &text[place..], longest)
 }
 
@@ -104,7 +101,7 @@ fn bytes_from(alloc: Global, text: &[u8], at: i64, longest: u32) -> Result<Plain
 fn bytes_upto(alloc: Global, text: &[u8], at: i64, longest: u32) -> Result<Plain, OpFault>
     ensures { Answers (made longest (take (place_at at) text.now)) result }
 {
-    let place = place_in(text, at);
+    let place = place_in(text.len(), at);
     made(alloc, &text[..place], longest)
 }
 

@@ -12,7 +12,7 @@ use Rattle.lio_clauses.specs.declared.faults.NameFault.TheVariants.{TooMany}
 use Rattle.lio_clauses.proofs.NameLemmas.{others-None, AreNames-push}
 use Rattle.lio_policy_draft.specs.Converted.{first_failing, unmade}
 use Rattle.lio_policy_draft.specs.Failing.{Failing, entries}
-use Rattle.lio_policy.specs.Rules.{behind, principal_fails, key_fails, is_past_256}
+use Rattle.lio_policy.specs.Rules.{behind, principal_fails, key_fails, is_past}
 use Rattle.lio_policy.specs.Policy.{AreKeys}
 
 -- none of these fails
@@ -130,13 +130,13 @@ keys_behind bad before (key ∷ keys) none old =
 pub no_keys : (IsKey : List ℕ → Type 0) → AreKeys IsKey []
 no_keys IsKey = record { each = All-nil IsKey; distinct = λ i j d h k. absurd (omega arith) }
 
--- at most 256 items
-pub few_behind : {X : Type 0} (before xs : List X) → NoneFails (behind is_past_256 before xs) → length before ≤ 256 → length (before ++ xs) ≤ 256
-few_behind before [] none few = subst (λ ys. length ys ≤ 256) (sym (append-nil before)) few
-few_behind before (x ∷ xs) none few =
-    let room : length before < 256 = grind (arith, none.0) in
-    let more : length (before ++ x ∷ []) ≤ 256 = omega (arith, length-append before (x ∷ [])) in
-    subst (λ ys. length ys ≤ 256) (append_assoc before (x ∷ []) xs) (few_behind (before ++ x ∷ []) xs none.1 more)
+-- at most so many items
+pub few_behind : {X : Type 0} (most : ℕ) (before xs : List X) → NoneFails (behind (is_past most) before xs) → length before ≤ most → length (before ++ xs) ≤ most
+few_behind most before [] none few = subst (λ ys. length ys ≤ most) (sym (append-nil before)) few
+few_behind most before (x ∷ xs) none few =
+    let room : length before < most = grind (arith, none.0) in
+    let more : length (before ++ x ∷ []) ≤ most = omega (arith, length-append before (x ∷ [])) in
+    subst (λ ys. length ys ≤ most) (append_assoc before (x ∷ []) xs) (few_behind most (before ++ x ∷ []) xs none.1 more)
 
 -- ---- principals
 

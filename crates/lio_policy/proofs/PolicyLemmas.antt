@@ -1,61 +1,37 @@
 -- A draft that breaks no rule makes a policy.
-use Rattle.std.proofs.Common.{◌≡◌, ◌∙◌, ℕ, ◌+◌, ◌*◌, ◌<◌, ◌≤◌, Bool, true, false, ◌||◌, ◌&&◌, not, nat_lt, nat_le, IsTrue, List, [], ◌∷◌, ◌++◌, length, map, sum_by, All, Some, option_map, option_and_then, slice_get, Ok, Err, Result, refl, sym, ap, subst, arith, append_assoc, length-append}
+use Rattle.std.proofs.Common.{◌≡◌, ◌∙◌, ℕ, ◌+◌, ◌*◌, ◌<◌, ◌≤◌, Bool, true, false, ◌||◌, ◌&&◌, not, nat_lt, nat_le, IsTrue, List, [], ◌∷◌, ◌++◌, length, map, sum_by, All, Option, Some, None, unwrap_or, ◌==◌, if◌then◌else◌, option_map, option_and_then, slice_get, refl, sym, ap, subst, arith, append_assoc, length-append}
 use Rattle.std.specs.List.{filter_map, list_any}
 use Rattle.std.specs.Result.{result_ok}
 use Rattle.std.proofs.lemmas.List.{append-nil, length-map}
 use Rattle.std.proofs.lemmas.List.Elements.{All-nil, All-cons, All-push, All-weaker}
 use Rattle.std.proofs.lemmas.List.Sums.{sum_by-append}
-use Rattle.std.proofs.lemmas.List.Quantifiers.{position-Some}
-use Rattle.std.proofs.lemmas.Option.{slice_get_within}
+use Rattle.std.proofs.lemmas.Option.{slice_get-get_or}
 use Rattle.std.proofs.lemmas.Bool.{and_parts}
+use borrow.Author.Count.{below_more}
 use borrow.Author.Tests.{leb-true}
-use Rattle.std.specs.Str.{bytes_eq}
-use Rattle.lio_clauses.specs.FormulaPrint as formula
-use Rattle.lio_clauses.specs.FormulaText as text
-use Rattle.lio_clauses.specs.FormulaText.{shown}
-use Rattle.lio_clauses.specs.Names.{number_of}
-use Rattle.lio_clauses.proofs.GrammarLemmas.{bind-Ok}
-use Rattle.lio_clauses.proofs.KnownLemmas.{reading-named, reading_two-named}
 use Rattle.lio_labels.specs.Flow.{flows}
-use Rattle.lio_labels.specs.LabelText as label
 use Rattle.lio_labels.specs.LabelPrint.{AreNamed}
 use Rattle.lio_labels.specs.declared.label.Label.{Label}
-use Rattle.lio_values.specs.declared.value.Plain.{Plain}
-use Rattle.lio_values.specs.declared.value.Plain.TheVariants.{Unit as unit, Flag, Whole, Bytes, Lab, Power, RefOf, VarOf, ResultOf, ChanOf}
 use Rattle.lio_policy_draft.specs.Converted.{converted, unmade}
-use Rattle.lio_policy.specs.Policy.{PolicyParts, AreKeys, IsFile, IsOwnValue, IsFixed, IsArgument, HasNames, KeepsLimits, HasFiles, IsPolicy}
-use Rattle.lio_policy.specs.Rules.{behind, key_fails, no_name, no_file, label_of, file_entry, file_names, task_names, files_of, labelled_arg, labelled_task, with_args, tasks_of, is_above, known, channel_arg, arg_entry, task_entry, is_longest, longest_of, turns_in_all, cells_in_all, work_fails, is_past_256, is_too_long, args_fail, task_fails, names_fail, labels_fail, flow_fails, arguments_fail, limits_fail, files_fail}
+use Rattle.lio_policy_draft.specs.Limits.{first_limits, second_limits, limits_of}
+use Rattle.lio_policy_draft.specs.declared.limits.Limits.{Limits}
+use Rattle.lio_policy.specs.Policy.{IsSmallArgument, PolicyParts, AreKeys, IsFile, IsArgument, HasNames, KeepsLimits, HasFiles, IsPolicy}
+use Rattle.lio_policy.specs.Lists.{extent}
+use Rattle.lio_policy.specs.Rules.{lists_fail, is_large, inputs_of, entries_of, behind, key_fails, no_name, no_file, label_of, file_entry, file_names, task_names, files_of, labelled_arg, labelled_task, with_args, tasks_of, is_above, known, arg_entry, task_entry, is_version, is_longest, longest_of, version_of, turns_in_all, cells_in_all, work_fails, is_past, is_too_long, args_fail, task_fails, version_fails, names_fail, labels_fail, flow_fails, arguments_fail, limits_fail, files_fail}
 use Rattle.lio_policy.specs.declared.arguments.Known.{Known}
 use Rattle.lio_policy_draft.specs.declared.draft.Draft.{Draft}
 use Rattle.lio_policy_draft.specs.declared.draft.FileDraft.{FileDraft}
 use Rattle.lio_policy_draft.specs.declared.draft.TaskDraft.{TaskDraft}
 use Rattle.lio_policy_draft.specs.declared.draft.ArgDraft.{ArgDraft}
-use Rattle.lio_policy_draft.specs.declared.draft.ArgDraft.TheVariants as draft
 use Rattle.lio_policy.specs.declared.labelled.LabelledArg.{LabelledArg}
-use Rattle.lio_policy.specs.declared.labelled.LabelledArg.TheVariants as labelled
 use Rattle.lio_policy.specs.declared.labelled.LabelledTask.{LabelledTask}
 use Rattle.lio_policy.specs.declared.policy.FileEntry.{FileEntry}
 use Rattle.lio_policy.specs.declared.policy.TaskEntry.{TaskEntry}
 use Rattle.lio_policy.specs.declared.policy.Arg.{Arg}
-use Rattle.lio_policy.specs.declared.policy.Arg.TheVariants as arg
 use Rattle.lio_policy_draft.proofs.FailingLemmas.{converted_ok}
+use Rattle.lio_policy.proofs.NamedLemmas.{read_result, label_is_named}
+use Rattle.lio_policy.proofs.SingleLemmas.{IsKnownOf, is_argument, is_small}
 use Rattle.lio_policy.proofs.MadeLemmas.{NoneFails, NothingFails, none_fails, mapped, chained, neither, made_all, made_map, made_length, made_sum, none_map, keys_behind, no_keys, few_behind, names_behind, no_names}
-
--- ---- labels and formulas
-
-read_result : {A E : Type 0} (r : Result A E) (x : A) → result_ok r ≡ Some x → r ≡ Ok x
-read_result (Ok y) x h = cc
-read_result (Err e) x h = absurd (cc)
-
-label_is_named : (names : List (List ℕ)) (t : List ℕ) (l : Label) → label_of names t ≡ Some l → AreNamed names l
-unfolding label.reading
-label_is_named names t l h =
-    let p = bind-Ok (text.reading_two names t) (λ both. Ok (label.label_of both)) l (read_result (label.reading names t) l h) in
-    let is : label.label_of p.0 ≡ l = let e = p.2 in cc in
-    subst (AreNamed names) is (reading_two-named names t p.0 p.1)
-
-formula_is_named : (names : List (List ℕ)) (t : List ℕ) (a : List (List ℕ)) → result_ok (text.reading names t) ≡ Some a → formula.AreNamed names a
-formula_is_named names t a h = reading-named names t a (read_result (text.reading names t) a h)
 
 -- ---- channels and inputs
 
@@ -69,88 +45,11 @@ file_of names f e h =
     let p = mapped (λ l. record { name = f.name; label = l; file = f.file }) (label_of names f.label) e h in
     record { name = ap (λ x. x.name) (sym p.2); file = ap (λ x. x.file) (sym p.2); label = subst (AreNamed names) (ap (λ x. x.label) p.2) (label_is_named names f.label p.0 p.1) }
 
--- ---- arguments
-
--- an argument whose label is read
-abbrev IsLabelled : ℕ → List (List ℕ) → LabelledArg → Type 0
-IsLabelled longest names (labelled.Input name) = Unit {0}
-IsLabelled longest names (labelled.Channel name) = Unit {0}
-IsLabelled longest names (labelled.Fixed value) = IsOwnValue longest names value
-
-arg_is_labelled : (longest : ℕ) (names : List (List ℕ)) (a : ArgDraft) (b : LabelledArg) → is_too_long longest a ≡ false → labelled_arg names a ≡ Some b → IsLabelled longest names b
-arg_is_labelled longest names (draft.Input n) b fine h = let is : labelled.Input n ≡ b = cc in subst (IsLabelled longest names) is tt
-arg_is_labelled longest names (draft.Channel n) b fine h = let is : labelled.Channel n ≡ b = cc in subst (IsLabelled longest names) is tt
-arg_is_labelled longest names (draft.Label t) b fine h =
-    let p = mapped (λ l. labelled.Fixed (Lab l)) (label_of names t) b h in
-    subst (IsLabelled longest names) p.2 (label_is_named names t p.0 p.1)
-arg_is_labelled longest names (draft.Power t) b fine h =
-    let p = mapped (λ a. labelled.Fixed (Power (record { power = a }))) (result_ok (text.reading names t)) b h in
-    subst (IsLabelled longest names) p.2 (formula_is_named names t p.0 p.1)
-arg_is_labelled longest names (draft.Bytes t) b fine h =
-    let is : labelled.Fixed (Bytes t) ≡ b = cc in
-    let short : length t ≤ longest = grind (arith, fine) in
-    subst (IsLabelled longest names) is short
-arg_is_labelled longest names (draft.Whole n) b fine h = let is : labelled.Fixed (Whole n) ≡ b = cc in subst (IsLabelled longest names) is tt
-arg_is_labelled longest names (draft.Flag t) b fine h = let is : labelled.Fixed (Flag t) ≡ b = cc in subst (IsLabelled longest names) is tt
-arg_is_labelled longest names draft.Unit b fine h = let is : labelled.Fixed unit ≡ b = cc in subst (IsLabelled longest names) is tt
-
-own_is_fixed : (p : PolicyParts) (v : Plain) → IsOwnValue p.longest p.names v → IsFixed p v
-own_is_fixed p unit h = h
-own_is_fixed p (Flag b) h = h
-own_is_fixed p (Whole n) h = h
-own_is_fixed p (Bytes t) h = h
-own_is_fixed p (Lab l) h = h
-own_is_fixed p (Power a) h = h
-own_is_fixed p (RefOf h') h = h
-own_is_fixed p (VarOf h') h = h
-own_is_fixed p (ResultOf h') h = h
-own_is_fixed p (ChanOf h') h = absurd h
-
--- what may be named is the policy's
-pub record IsKnownOf (k : Known) (p : PolicyParts) : Type 0 where
-  pub inputs : length k.input_names ≡ length p.inputs
-  pub channels : k.channels ≡ p.channels
-  pub few : length p.channels ≤ 256
-
-number_within : (names : List (List ℕ)) (name : List ℕ) (n : ℕ) → number_of names name ≡ Some n → n < length names
-number_within names name n h = (position-Some (bytes_eq name) names n [] h).0
-
-arg_is_argument : (k : Known) (p : PolicyParts) → IsKnownOf k p → (b : LabelledArg) (a : Arg) → IsLabelled p.longest p.names b → arg_entry k b ≡ Some a → IsArgument p a
-arg_is_argument k p of (labelled.Input name) a fine h =
-    let m = mapped (λ n. arg.Input (shown n)) (number_of k.input_names name) a h in
-    let within = number_within k.input_names name m.0 m.1 in
-    let there : shown m.0 < length p.inputs = omega (arith, of.inputs) in
-    subst (IsArgument p) m.2 there
-arg_is_argument k p of (labelled.Channel name) a fine h =
-    let c = chained (λ n. option_map (channel_arg n) (slice_get k.channels n)) (number_of k.channel_names name) a h in
-    let m = mapped (channel_arg c.0) (slice_get k.channels c.0) a c.2 in
-    let at : slice_get p.channels c.0 ≡ Some m.0 = ap (λ cs. slice_get cs c.0) (sym of.channels) ∙ m.1 in
-    let within = slice_get_within p.channels c.0 m.0 at in
-    let same : shown c.0 ≡ c.0 = omega (arith, of.few) in
-    let found : option_map (λ channel. channel.label) (slice_get p.channels (shown c.0)) ≡ Some m.0.label =
-    ap (λ n. option_map (λ channel. channel.label) (slice_get p.channels n)) same ∙ ap (option_map (λ channel. channel.label)) at in
-    subst (IsArgument p) m.2 found
-arg_is_argument k p of (labelled.Fixed value) a fine h = let is : arg.Fixed value ≡ a = cc in subst (IsArgument p) is (own_is_fixed p value fine)
-
 -- ---- tasks
 
 none_any : {X : Type 0} (q : X → Bool) (xs : List X) → list_any q xs ≡ false → All (λ x. q x ≡ false) xs
 none_any q [] h = All-nil (λ x. q x ≡ false)
 none_any q (x ∷ xs) h = let p = neither (q x) (list_any q xs) h in All-cons (λ x. q x ≡ false) x xs p.0 (none_any q xs p.1)
-
-pub record IsLabelledOf (longest : ℕ) (names : List (List ℕ)) (t : TaskDraft) (l : LabelledTask) : Type 0 where
-  pub name : l.name ≡ t.name
-  pub turns : l.turns ≡ t.turns
-  pub cells : l.cells ≡ t.cells
-  pub label : AreNamed names l.label
-  pub clearance : AreNamed names l.clearance
-  pub count : length l.args ≡ length t.args
-
-pub record IsLabelledTask (longest : ℕ) (names : List (List ℕ)) (l : LabelledTask) : Type 0 where
-  pub label : AreNamed names l.label
-  pub clearance : AreNamed names l.clearance
-  pub count : length l.args ≤ 8
-  pub args : All (IsLabelled longest names) l.args
 
 not_false : (b : Bool) → not b ≡ false → b ≡ true
 not_false true h = refl
@@ -209,19 +108,17 @@ entry_of k l e h =
       args = ap (λ x. x.args) (sym m.2) ∙ c.1;
     }
 
-labelled_is_fine : (longest : ℕ) (names : List (List ℕ)) (t : TaskDraft) (l : LabelledTask) → args_fail longest t ≡ false → labelled_task names t ≡ Some l → IsLabelledTask longest names l
-labelled_is_fine longest names t l fine h =
-    let of = labelled_of names t l h in
-    let ok = neither (nat_lt 8 (length t.args)) (list_any (is_too_long longest) t.args) fine in
-    let few : length t.args ≤ 8 = grind (arith, ok.0) in
-    let same : length of.args ≡ length t.args = ap length of.args_are ∙ made_length (labelled_arg names) t.args of.none in
-    let all = made_all (labelled_arg names) (λ a. is_too_long longest a ≡ false) (IsLabelled longest names) (arg_is_labelled longest names) t.args (none_any (is_too_long longest) t.args ok.1) in
-    subst (IsLabelledTask longest names) of.is (record {
-      label = of.label_named;
-      clearance = of.clearance_named;
-      count = omega arith;
-      args = subst (All (IsLabelled longest names)) (sym of.args_are) all;
-    })
+-- a task with its labels comes of a draft whose arguments are few, and none of them a text that is too long
+record IsOfDraft (longest : ℕ) (names : List (List ℕ)) (l : LabelledTask) : Type 0 where
+  draft : TaskDraft
+  fine : args_fail longest draft ≡ false
+  is : labelled_task names draft ≡ Some l
+
+-- and so does an argument with its labels
+record IsOfArg (longest : ℕ) (names : List (List ℕ)) (b : LabelledArg) : Type 0 where
+  draft : ArgDraft
+  fine : is_too_long longest draft ≡ false
+  is : labelled_arg names draft ≡ Some b
 
 -- a task of a policy
 pub record IsTask (p : PolicyParts) (e : TaskEntry) : Type 0 where
@@ -230,67 +127,121 @@ pub record IsTask (p : PolicyParts) (e : TaskEntry) : Type 0 where
   pub flow : IsTrue (flows e.label e.clearance)
   pub count : length e.args ≤ 8
   pub args : All (IsArgument p) e.args
+  pub lists : All (IsSmallArgument p) e.args
 
 is_true : (b : Bool) → b ≡ true → IsTrue b
 is_true b h = h
 
-entry_is_fine : (k : Known) (p : PolicyParts) → IsKnownOf k p → (l : LabelledTask) (e : TaskEntry) → IsLabelledTask p.longest p.names l × (is_above l ≡ false) → task_entry k l ≡ Some e → IsTask p e
-entry_is_fine k p known l e fine h =
+both_of : {X : Type 0} (P Q : X → Type 0) (xs : List X) → All (λ x. P x → Q x) xs → All P xs → All Q xs
+both_of P Q xs f h = λ k d lt. f k d lt (h k d lt)
+
+entry_is_fine : (k : Known) (p : PolicyParts) → IsKnownOf k p → (l : LabelledTask) (e : TaskEntry) → IsOfDraft p.longest p.names l × (is_above l ≡ false) → task_entry k l ≡ Some e
+    → lists_fail (limits_of p.version) p.longest p.inputs (Some e) ≡ false → IsTask p e
+entry_is_fine k p known l e fine h keeps =
     let of = entry_of k l e h in
-    let same : length e.args ≡ length l.args = ap length of.args ∙ made_length (arg_entry k) l.args of.none in
-    let few = fine.0.count in
-    let flow : flows e.label e.clearance ≡ true = ap (λ x. flows x e.clearance) of.label ∙ ap (flows l.label) of.clearance ∙ not_false (flows l.label l.clearance) fine.1 in record {
-      label = subst (AreNamed p.names) (sym of.label) fine.0.label;
-      clearance = subst (AreNamed p.names) (sym of.clearance) fine.0.clearance;
+    let t = fine.0.draft in
+    let from = labelled_of p.names t l fine.0.is in
+    let ok = neither (nat_lt 8 (length t.args)) (list_any (is_too_long p.longest) t.args) fine.0.fine in
+    let few : length t.args ≤ 8 = grind (arith, ok.0) in
+    let args : l.args ≡ filter_map (labelled_arg p.names) t.args = ap (λ x. x.args) (sym from.is) ∙ from.args_are in
+    let count : length e.args ≡ length t.args =
+    ap length of.args ∙ made_length (arg_entry k) l.args of.none ∙ ap length args ∙ made_length (labelled_arg p.names) t.args from.none in
+    let flow : flows e.label e.clearance ≡ true = ap (λ x. flows x e.clearance) of.label ∙ ap (flows l.label) of.clearance ∙ not_false (flows l.label l.clearance) fine.1 in
+    let limits : Limits = limits_of p.version in
+    let small : Arg → Type 0 = IsSmallArgument p in
+    let lists : All small e.args = All-weaker (λ a. is_large limits p.longest (extent p.inputs a) ≡ false) small (λ a. is_small limits p.longest (extent p.inputs a)) e.args
+    (none_any (λ a. is_large limits p.longest (extent p.inputs a)) e.args keeps) in
+    let drafts = subst (All (IsOfArg p.longest p.names)) (sym args)
+    (made_all (labelled_arg p.names) (λ a. is_too_long p.longest a ≡ false) (IsOfArg p.longest p.names) (λ a b not_long is. record { draft = a; fine = not_long; is = is }) t.args
+    (none_any (is_too_long p.longest) t.args ok.1)) in
+    let made = subst (All (λ a. small a → IsArgument p a)) (sym of.args)
+    (made_all (arg_entry k) (IsOfArg p.longest p.names) (λ a. small a → IsArgument p a) (λ b a from is. is_argument k p limits known from.draft b a from.is is from.fine) l.args drafts) in record {
+      label = subst (AreNamed p.names) (sym (of.label ∙ ap (λ x. x.label) (sym from.is))) from.label_named;
+      clearance = subst (AreNamed p.names) (sym (of.clearance ∙ ap (λ x. x.clearance) (sym from.is))) from.clearance_named;
       flow = is_true (flows e.label e.clearance) flow;
       count = omega arith;
-      args = subst (All (IsArgument p)) (sym of.args) (made_all (arg_entry k) (IsLabelled p.longest p.names) (IsArgument p) (arg_is_argument k p known) l.args fine.0.args);
+      args = both_of small (IsArgument p) e.args made lists;
+      lists = lists;
     }
 
 -- ---- limits
 
-record TasksKeep (longest : ℕ) (ts : List TaskDraft) : Type 0 where
-  count : length ts ≤ 256
-  turns : turns_in_all ts ≤ 1048576
-  cells : cells_in_all ts ≤ 65536
+-- the limits of each version are small
+pub record AreSmall (limits : Limits) : Type 0 where
+  pub longest : limits.longest ≤ 262144
+  pub entries : limits.entries ≤ 1024
+  pub turns : limits.turns ≤ 4194304
+  pub cells : limits.cells ≤ 262144
+  pub depth : limits.depth ≤ 8
+
+pub limits_are_small : (version : ℕ) → AreSmall (limits_of version)
+unfolding limits_of
+limits_are_small version = by (version == 2)
+  where
+    by : (b : Bool) → AreSmall (if b then second_limits else first_limits)
+    by true = record { longest = omega arith; entries = omega arith; turns = omega arith; cells = omega arith; depth = omega arith }
+    by false = record { longest = omega arith; entries = omega arith; turns = omega arith; cells = omega arith; depth = omega arith }
+
+-- tasks keep to the limits, by the entries of all
+record TasksKeep (limits : Limits) (longest : ℕ) (inputs : List FileEntry) (entries : List TaskEntry) (ts : List TaskDraft) : Type 0 where
+  count : length ts ≤ limits.entries
+  turns : turns_in_all ts ≤ limits.turns
+  cells : cells_in_all ts ≤ limits.cells
   args : All (λ t. args_fail longest t ≡ false) ts
+  lists : (i : ℕ) → i < length ts → lists_fail limits longest inputs (slice_get entries i) ≡ false
 
 sum_push : (f : TaskDraft → ℕ) (ts : List TaskDraft) (t : TaskDraft) → sum_by f (ts ++ t ∷ []) ≡ sum_by f ts + f t
 sum_push f ts t = let one : sum_by f (t ∷ []) ≡ f t = omega arith in sum_by-append f ts (t ∷ []) ∙ ap (λ n. sum_by f ts + n) one
 
-tasks_behind : (longest : ℕ) (before ts : List TaskDraft) → NoneFails (behind (task_fails longest) before ts) → TasksKeep longest before → TasksKeep longest (before ++ ts)
-tasks_behind longest before [] none old = subst (TasksKeep longest) (sym (append-nil before)) old
-tasks_behind longest before (t ∷ ts) none old =
-    let room = nat_le 256 (length before) in
-    let many = nat_lt 1048576 (turns_in_all before + t.turns) in
-    let large = nat_lt 65536 (cells_in_all before + t.cells) in
-    let a = neither (room || many || large) (args_fail longest t) none.0 in
-    let b = neither (room || many) large a.0 in
-    let c = neither room many b.0 in
-    let few : length before < 256 = grind (arith, c.0) in
-    let turns : turns_in_all before + t.turns ≤ 1048576 = grind (arith, c.1) in
-    let cells : cells_in_all before + t.cells ≤ 65536 = grind (arith, b.1) in
-    let more : TasksKeep longest (before ++ t ∷ []) = record {
-      count = omega (arith, length-append before (t ∷ []));
-      turns = subst (λ n. n ≤ 1048576) (sym (sum_push (λ t. t.turns) before t)) turns;
-      cells = subst (λ n. n ≤ 65536) (sym (sum_push (λ t. t.cells) before t)) cells;
-      args = All-push (λ t. args_fail longest t ≡ false) before t old.args a.1;
-    } in
-    subst (TasksKeep longest) (append_assoc before (t ∷ []) ts) (tasks_behind longest (before ++ t ∷ []) ts none.1 more)
+module _ (limits : Limits) (longest : ℕ) (inputs : List FileEntry) (entries : List TaskEntry) where
+  abbrev Keep : List TaskDraft → Type 0
+  Keep = TasksKeep limits longest inputs entries
 
-no_tasks : (longest : ℕ) → TasksKeep longest []
-no_tasks longest = record { count = omega arith; turns = omega arith; cells = omega arith; args = All-nil (λ t. args_fail longest t ≡ false) }
+  abbrev NoLists : ℕ → Type 0
+  NoLists i = lists_fail limits longest inputs (slice_get entries i) ≡ false
 
-record WorkKeeps (longest : ℕ) (ts : List TaskDraft) : Type 0 where
+  tasks_behind : (before ts : List TaskDraft) → NoneFails (behind (task_fails limits longest inputs entries) before ts) → Keep before → Keep (before ++ ts)
+  tasks_behind before [] none old = subst Keep (sym (append-nil before)) old
+  tasks_behind before (t ∷ ts) none old =
+      let room = nat_le limits.entries (length before) in
+      let many = nat_lt limits.turns (turns_in_all before + t.turns) in
+      let large = nat_lt limits.cells (cells_in_all before + t.cells) in
+      let l = neither (room || many || large || args_fail longest t) (lists_fail limits longest inputs (slice_get entries (length before))) none.0 in
+      let a = neither (room || many || large) (args_fail longest t) l.0 in
+      let b = neither (room || many) large a.0 in
+      let c = neither room many b.0 in
+      let few : length before < limits.entries = grind (arith, c.0) in
+      let turns : turns_in_all before + t.turns ≤ limits.turns = grind (arith, c.1) in
+      let cells : cells_in_all before + t.cells ≤ limits.cells = grind (arith, b.1) in
+      let one : length before + 1 ≡ length (before ++ t ∷ []) = omega (arith, length-append before (t ∷ [])) in
+      let more : Keep (before ++ t ∷ []) = record {
+        count = omega (arith, length-append before (t ∷ []));
+        turns = subst (λ n. n ≤ limits.turns) (sym (sum_push (λ t. t.turns) before t)) turns;
+        cells = subst (λ n. n ≤ limits.cells) (sym (sum_push (λ t. t.cells) before t)) cells;
+        args = All-push (λ t. args_fail longest t ≡ false) before t old.args a.1;
+        lists = subst (λ n. (i : ℕ) → i < n → NoLists i) one (below_more NoLists (length before) old.lists l.1);
+      } in
+      subst Keep (append_assoc before (t ∷ []) ts) (tasks_behind (before ++ t ∷ []) ts none.1 more)
+
+  no_tasks : Keep []
+  no_tasks = record {
+    count = omega arith;
+    turns = omega arith;
+    cells = omega arith;
+    args = All-nil (λ t. args_fail longest t ≡ false);
+    lists = λ i within. absurd (omega arith);
+  }
+
+record WorkKeeps (limits : Limits) (longest : ℕ) (ts : List TaskDraft) : Type 0 where
   some : 1 ≤ longest
-  most : longest ≤ 65536
+  most : longest ≤ limits.longest
   work : turns_in_all ts * longest ≤ 1073741824
 
-work_keeps : (longest : ℕ) (ts : List TaskDraft) → work_fails longest ts ≡ false → WorkKeeps longest ts
-work_keeps longest ts h =
+work_keeps : (limits : Limits) (longest : ℕ) (ts : List TaskDraft) → work_fails limits longest ts ≡ false → WorkKeeps limits longest ts
+work_keeps limits longest ts h =
     let work = nat_le (turns_in_all ts * longest) 1073741824 in
-    let a = and_parts (is_longest longest) work (not_false (is_longest longest && work) h) in
-    let b = and_parts (nat_le 1 longest) (nat_le longest 65536) a.0 in
+    let a = and_parts (is_longest limits longest) work (not_false (is_longest limits longest && work) h) in
+    let b = and_parts (nat_le 1 longest) (nat_le longest limits.longest) a.0 in
     record { some = grind (arith, b.0); most = grind (arith, b.1); work = leb-true (turns_in_all ts * longest) 1073741824 a.1 }
 
 -- ---- a policy
@@ -298,11 +249,12 @@ work_keeps longest ts h =
 keys_of : (bad : List ℕ → Bool) (keys named : List (List ℕ)) → named ≡ keys → NoneFails (behind (key_fails bad) [] keys) → AreKeys (λ key. bad key ≡ false) named
 keys_of bad keys named same none = subst (AreKeys (λ key. bad key ≡ false)) (sym same) (keys_behind bad [] keys none (no_keys (λ key. bad key ≡ false)))
 
-few_of : {X Y : Type 0} (xs : List X) (ys : List Y) → length ys ≡ length xs → NoneFails (behind is_past_256 [] xs) → length ys ≤ 256
-few_of xs ys same none = let few : length xs ≤ 256 = few_behind [] xs none (omega arith) in omega arith
+few_of : {X Y : Type 0} (most : ℕ) (xs : List X) (ys : List Y) → length ys ≡ length xs → NoneFails (behind (is_past most) [] xs) → length ys ≤ most
+few_of most xs ys same none = let few : length xs ≤ most = few_behind most [] xs none (omega arith) in omega arith
 
 -- what the rules say of a draft that breaks none
 pub record BreaksNone (d : Draft) : Type 0 where
+  pub version : NothingFails (version_fails d)
   pub names : NothingFails (names_fail d)
   pub labels : NothingFails (labels_fail d)
   pub flow : NothingFails (flow_fails d)
@@ -313,6 +265,7 @@ pub record BreaksNone (d : Draft) : Type 0 where
 -- the parts of the policy that it makes
 abbrev pub parts : Draft → PolicyParts
 parts d = record {
+  version = version_of d;
   longest = longest_of d;
   names = d.principals;
   channels = filter_map (file_entry d.principals) d.channels;
@@ -360,44 +313,69 @@ has_files d ok =
     let both = keys_behind no_file (files_of d.channels) (files_of d.inputs) ok.files.inputs first in
     subst (AreKeys IsFile) (sym (ap (λ xs. xs ++ map (λ f. f.file) (parts d).inputs) channels ∙ ap (λ xs. files_of d.channels ++ xs) inputs)) both
 
-tasks_keep : (d : Draft) → BreaksNone d → TasksKeep (longest_of d) d.tasks
-tasks_keep d ok = tasks_behind (longest_of d) [] d.tasks ok.limits.tasks (no_tasks (longest_of d))
+tasks_keep : (d : Draft) → BreaksNone d → TasksKeep (limits_of (version_of d)) (longest_of d) (inputs_of d) (entries_of d) d.tasks
+tasks_keep d ok =
+    let limits : Limits = limits_of (version_of d) in
+    tasks_behind limits (longest_of d) (inputs_of d) (entries_of d) [] d.tasks ok.limits.tasks (no_tasks limits (longest_of d) (inputs_of d) (entries_of d))
+
+-- there are as many tasks as drafts of them
+task_count : (d : Draft) → BreaksNone d → length (parts d).tasks ≡ length d.tasks
+task_count d ok = made_length (task_entry (known d)) (tasks_of d) ok.arguments.tasks ∙ made_length (labelled_task d.principals) d.tasks ok.labels.tasks
 
 keeps_limits : (d : Draft) → BreaksNone d → All (IsTask (parts d)) (parts d).tasks → KeepsLimits (parts d)
 keeps_limits d ok all =
     let keep = tasks_keep d ok in
-    let work = work_keeps (longest_of d) d.tasks ok.limits.document in
+    let limits : Limits = limits_of (version_of d) in
+    let work = work_keeps limits (longest_of d) d.tasks ok.limits.document in
     let turns = task_sum d ok (λ e. e.turns) (λ l. l.turns) (λ t. t.turns) (λ l e h. (entry_of (known d) l e h).turns) (λ t l h. ap (λ x. x.turns) (sym (labelled_of d.principals t l h).is)) in
     let cells = task_sum d ok (λ e. e.cells) (λ l. l.cells) (λ t. t.cells) (λ l e h. (entry_of (known d) l e h).cells) (λ t l h. ap (λ x. x.cells) (sym (labelled_of d.principals t l h).is)) in
-    let entries = made_length (task_entry (known d)) (tasks_of d) ok.arguments.tasks ∙ made_length (labelled_task d.principals) d.tasks ok.labels.tasks in
+    let entries = task_count d ok in
     let count = keep.count in record {
       some = work.some;
       longest = work.most;
       work = subst (λ n. n * longest_of d ≤ 1073741824) (sym turns) work.work;
-      turns = subst (λ n. n ≤ 1048576) (sym turns) keep.turns;
-      cells = subst (λ n. n ≤ 65536) (sym cells) keep.cells;
-      channels = few_of d.channels (parts d).channels (made_length (file_entry d.principals) d.channels ok.labels.channels) ok.limits.channels;
-      inputs = few_of d.inputs (parts d).inputs (made_length (file_entry d.principals) d.inputs ok.labels.inputs) ok.limits.inputs;
+      turns = subst (λ n. n ≤ limits.turns) (sym turns) keep.turns;
+      cells = subst (λ n. n ≤ limits.cells) (sym cells) keep.cells;
+      channels = few_of limits.entries d.channels (parts d).channels (made_length (file_entry d.principals) d.channels ok.labels.channels) ok.limits.channels;
+      inputs = few_of limits.entries d.inputs (parts d).inputs (made_length (file_entry d.principals) d.inputs ok.labels.inputs) ok.limits.inputs;
       tasks = omega arith;
       args = All-weaker (IsTask (parts d)) (λ e. length e.args ≤ 8) (λ e t. t.count) (parts d).tasks all;
+      lists = All-weaker (IsTask (parts d)) (λ e. All (IsSmallArgument (parts d)) e.args) (λ e t. t.lists) (parts d).tasks all;
     }
 
 are_tasks : (d : Draft) → BreaksNone d → All (IsTask (parts d)) (parts d).tasks
 are_tasks d ok =
     let keep = tasks_keep d ok in
+    let most = (limits_of (version_of d)).entries in
+    let few : length (parts d).channels ≤ most = few_of most d.channels (parts d).channels (made_length (file_entry d.principals) d.channels ok.labels.channels) ok.limits.channels in
+    let all : most ≤ 1024 = (limits_are_small (version_of d)).entries in
     let known_of : IsKnownOf (known d) (parts d) = record {
       inputs = length-map d.inputs (λ f. f.name) ∙ sym (made_length (file_entry d.principals) d.inputs ok.labels.inputs);
       channels = refl;
-      few = few_of d.channels (parts d).channels (made_length (file_entry d.principals) d.channels ok.labels.channels) ok.limits.channels;
+      few = omega arith;
     } in
-    let labelled = made_all (labelled_task d.principals) (λ t. args_fail (longest_of d) t ≡ false) (IsLabelledTask (longest_of d) d.principals) (labelled_is_fine (longest_of d) d.principals) d.tasks keep.args in
+    let limits : Limits = limits_of (version_of d) in
+    let longest = longest_of d in
+    let p = parts d in
+    let labelled = made_all (labelled_task d.principals) (λ t. args_fail longest t ≡ false) (IsOfDraft longest d.principals) (λ t l fine is. record { draft = t; fine = fine; is = is }) d.tasks keep.args in
     let flow = none_map is_above (tasks_of d) ok.flow.tasks in
-    made_all (task_entry (known d)) (λ l. IsLabelledTask (longest_of d) d.principals l × (is_above l ≡ false)) (IsTask (parts d)) (entry_is_fine (known d) (parts d) known_of) (tasks_of d) (λ k l h. (labelled k l h, flow k l h))
+    let fits = λ (e : TaskEntry). lists_fail limits longest (inputs_of d) (Some e) ≡ false in
+    let made = made_all (task_entry (known d)) (λ l. IsOfDraft longest d.principals l × (is_above l ≡ false)) (λ e. fits e → IsTask p e) (entry_is_fine (known d) p known_of) (tasks_of d)
+    (λ k l h. (labelled k l h, flow k l h)) in
+    let count = task_count d ok in
+    let lists : All fits p.tasks = λ k e within. subst (λ o. lists_fail limits longest (inputs_of d) o ≡ false) (slice_get-get_or p.tasks k e within) (keep.lists k (omega arith)) in
+    both_of fits (IsTask p) p.tasks made lists
+
+-- a version that a draft has by the rules is one
+version_is : (v : Option ℕ) → not (is_version v) ≡ false → IsTrue (is_version (Some (unwrap_or v 0)))
+version_is None h = absurd (cc)
+version_is (Some n) h = is_true (is_version (Some n)) (not_false (is_version (Some n)) h)
 
 pub is_policy : (d : Draft) → BreaksNone d → IsPolicy (parts d)
 is_policy d ok =
     let tasks = are_tasks d ok in
     let at = λ (P : TaskEntry → Type 0) (of : (e : TaskEntry) → IsTask (parts d) e → P e). All-weaker (IsTask (parts d)) P of (parts d).tasks tasks in record {
+      version = version_is d.version ok.version.document;
       names = has_names d ok;
       labels = record {
         channels = files_named d.principals d.channels;

@@ -1,5 +1,5 @@
 -- On the lists of the rules, and the first entry that fails in them.
-use Rattle.std.proofs.Common.{◌≡◌, ℕ, suc, ◌+◌, ◌-◌, ◌<◌, ◌≤◌, Bool, true, false, ◌||◌, nat_le, nat_lt, List, [], ◌∷◌, ◌++◌, length, get_or, drop, map, if◌then◌else◌, position, Option, Some, None, option_map, option_and_then, Result, Ok, Err, refl, sym, ap, ◌∙◌, arith, length-append, append_assoc}
+use Rattle.std.proofs.Common.{◌≡◌, ℕ, suc, ◌+◌, ◌-◌, ◌<◌, ◌≤◌, Bool, true, false, ◌||◌, nat_le, nat_lt, List, [], ◌∷◌, ◌++◌, length, get_or, drop, map, if◌then◌else◌, position, slice_get, Option, Some, None, option_map, option_and_then, Result, Ok, Err, refl, sym, ap, ◌∙◌, arith, length-append, append_assoc}
 use Rattle.std.specs.List.{position_from}
 use Rattle.std.proofs.lemmas.List.{length-map, at_drop_more, at_drop_all, drop_more}
 use Rattle.std.proofs.lemmas.Iterator.Adapters.{position_from-zero}
@@ -10,8 +10,12 @@ use Rattle.lio_policy_draft.specs.declared.draft.Draft.{Draft}
 use Rattle.lio_policy_draft.specs.declared.draft.TaskDraft.{TaskDraft}
 use Rattle.lio_policy_draft.specs.declared.fault.PolicyFault.{PolicyFault}
 use Rattle.lio_policy_draft.proofs.FailingLemmas.{HasLengths, length_unmade, none_in_all, fault_in_tasks}
-use Rattle.lio_policy.specs.Rules.{label_of, labels_of, labelled_task, behind, none_of, is_past_256, task_fails, args_fail, turns_in_all, cells_in_all, version_fails, names_fail, labels_fail, flow_fails, arguments_fail, limits_fail, files_fail, principal_fails, key_fails, no_name, no_file, file_names, files_of, file_entry}
+use Rattle.lio_policy_draft.specs.Limits.{limits_of}
+use Rattle.lio_policy_draft.specs.declared.limits.Limits.{Limits}
+use Rattle.lio_policy.specs.Rules.{label_of, labels_of, labelled_task, behind, none_of, is_past, version_of, task_fails, args_fail, lists_fail, turns_in_all, cells_in_all, version_fails, names_fail, labels_fail, flow_fails, arguments_fail, limits_fail, files_fail, principal_fails, key_fails, no_name, no_file, file_names, files_of, file_entry}
 use Rattle.lio_policy.specs.declared.labelled.LabelledTask.{LabelledTask}
+use Rattle.lio_policy.specs.declared.policy.FileEntry.{FileEntry}
+use Rattle.lio_policy.specs.declared.policy.TaskEntry.{TaskEntry}
 
 -- ---- lists in which nothing fails, and their lengths
 
@@ -52,38 +56,41 @@ none_now fails before xs i past = at_drop_all (λ ys. first_failing i (behind fa
 
 -- ---- limits
 
--- at most 256 entries, or the first past them
-pub none_past_256 : {X : Type 0} (k : ℕ) (before xs : List X) → length before + length xs ≤ 256 → first_failing k (behind is_past_256 before xs) ≡ None
-none_past_256 k before [] h = refl
-none_past_256 k before (x ∷ xs) h =
-    let few : nat_le 256 (length before) ≡ false = grind arith in
-    ap (λ b. first_failing k (b ∷ behind is_past_256 (before ++ x ∷ []) xs)) few
-    ∙ none_past_256 (k + 1) (before ++ x ∷ []) xs (omega (arith, length-append before (x ∷ [])))
+-- at most so many entries, or the first past them
+pub none_past : {X : Type 0} (most k : ℕ) (before xs : List X) → length before + length xs ≤ most → first_failing k (behind (is_past most) before xs) ≡ None
+none_past most k before [] h = refl
+none_past most k before (x ∷ xs) h =
+    let few : nat_le most (length before) ≡ false = grind arith in
+    ap (λ b. first_failing k (b ∷ behind (is_past most) (before ++ x ∷ []) xs)) few
+    ∙ none_past most (k + 1) (before ++ x ∷ []) xs (omega (arith, length-append before (x ∷ [])))
 
-pub first_past_256 : {X : Type 0} (k : ℕ) (before xs : List X) → length before ≤ 256 → 256 < length before + length xs → first_failing k (behind is_past_256 before xs) ≡ Some (k + (256 - length before))
-first_past_256 k before [] h more = absurd (omega arith)
-first_past_256 k before (x ∷ xs) h more = by (nat_le 256 (length before)) refl (first_past_256 (k + 1) (before ++ x ∷ []) xs)
+pub first_past : {X : Type 0} (most k : ℕ) (before xs : List X) → length before ≤ most → most < length before + length xs → first_failing k (behind (is_past most) before xs) ≡ Some (k + (most - length before))
+first_past most k before [] h more = absurd (omega arith)
+first_past most k before (x ∷ xs) h more = by (nat_le most (length before)) refl (first_past most (k + 1) (before ++ x ∷ []) xs)
   where
-    by : (b : Bool) → nat_le 256 (length before) ≡ b
-        → (length (before ++ x ∷ []) ≤ 256 → 256 < length (before ++ x ∷ []) + length xs → first_failing (k + 1) (behind is_past_256 (before ++ x ∷ []) xs) ≡ Some (k + 1 + (256 - length (before ++ x ∷ []))))
-        → first_failing k (behind is_past_256 before (x ∷ xs)) ≡ Some (k + (256 - length before))
+    by : (b : Bool) → nat_le most (length before) ≡ b
+        → (length (before ++ x ∷ []) ≤ most → most < length (before ++ x ∷ []) + length xs → first_failing (k + 1) (behind (is_past most) (before ++ x ∷ []) xs) ≡ Some (k + 1 + (most - length (before ++ x ∷ []))))
+        → first_failing k (behind (is_past most) before (x ∷ xs)) ≡ Some (k + (most - length before))
     by true e rest =
-        let full : 256 ≤ length before = grind arith in
-        let here : k ≡ k + (256 - length before) = omega arith in
-        ap (λ b. first_failing k (b ∷ behind is_past_256 (before ++ x ∷ []) xs)) e ∙ ap Some here
+        let full : most ≤ length before = grind arith in
+        let here : k ≡ k + (most - length before) = omega arith in
+        ap (λ b. first_failing k (b ∷ behind (is_past most) (before ++ x ∷ []) xs)) e ∙ ap Some here
     by false e rest =
-        let few : length before < 256 = grind arith in
+        let few : length before < most = grind arith in
         let len : length (before ++ x ∷ []) ≡ length before + 1 = length-append before (x ∷ []) in
-        let there : k + 1 + (256 - length (before ++ x ∷ [])) ≡ k + (256 - length before) = omega arith in
-        ap (λ b. first_failing k (b ∷ behind is_past_256 (before ++ x ∷ []) xs)) e ∙ rest (omega arith) (omega arith) ∙ ap Some there
+        let there : k + 1 + (most - length (before ++ x ∷ [])) ≡ k + (most - length before) = omega arith in
+        ap (λ b. first_failing k (b ∷ behind (is_past most) (before ++ x ∷ []) xs)) e ∙ rest (omega arith) (omega arith) ∙ ap Some there
 
 -- a task by the numbers of those before it
-pub task_fails_by : (longest : ℕ) (before : List TaskDraft) (t : TaskDraft) (place turns cells : ℕ) → place ≡ length before → turns ≡ turns_in_all before + t.turns → cells ≡ cells_in_all before + t.cells
-    → (nat_le 256 place || nat_lt 1048576 turns || nat_lt 65536 cells || args_fail longest t) ≡ task_fails longest before t
-task_fails_by longest before t place turns cells p q r =
-    ap (λ n. nat_le 256 n || nat_lt 1048576 turns || nat_lt 65536 cells || args_fail longest t) p
-    ∙ ap (λ n. nat_le 256 (length before) || nat_lt 1048576 n || nat_lt 65536 cells || args_fail longest t) q
-    ∙ ap (λ n. nat_le 256 (length before) || nat_lt 1048576 (turns_in_all before + t.turns) || nat_lt 65536 n || args_fail longest t) r
+pub task_fails_by : (limits : Limits) (longest : ℕ) (inputs : List FileEntry) (entries : List TaskEntry) (before : List TaskDraft) (t : TaskDraft) (place turns cells : ℕ) (large : Bool)
+    → place ≡ length before → turns ≡ turns_in_all before + t.turns → cells ≡ cells_in_all before + t.cells
+    → large ≡ lists_fail limits longest inputs (slice_get entries (length before))
+    → (nat_le limits.entries place || nat_lt limits.turns turns || nat_lt limits.cells cells || args_fail longest t || large) ≡ task_fails limits longest inputs entries before t
+task_fails_by limits longest inputs entries before t place turns cells large p q r l =
+    ap (λ n. nat_le limits.entries n || nat_lt limits.turns turns || nat_lt limits.cells cells || args_fail longest t || large) p
+    ∙ ap (λ n. nat_le limits.entries (length before) || nat_lt limits.turns n || nat_lt limits.cells cells || args_fail longest t || large) q
+    ∙ ap (λ n. nat_le limits.entries (length before) || nat_lt limits.turns (turns_in_all before + t.turns) || nat_lt limits.cells n || args_fail longest t || large) r
+    ∙ ap (λ b. nat_le limits.entries (length before) || nat_lt limits.turns (turns_in_all before + t.turns) || nat_lt limits.cells (cells_in_all before + t.cells) || args_fail longest t || b) l
 
 -- ---- rules on tasks alone
 
@@ -123,7 +130,7 @@ pub arguments_lengths : (d : Draft) → HasLengths (arguments_fail d) (length d.
 arguments_lengths d = record { principals = length_none_of d.principals; channels = length_none_of d.channels; inputs = length_none_of d.inputs }
 
 pub limits_lengths : (d : Draft) → HasLengths (limits_fail d) (length d.principals) (length d.channels) (length d.inputs)
-limits_lengths d = record { principals = length_none_of d.principals; channels = length_behind is_past_256 [] d.channels; inputs = length_behind is_past_256 [] d.inputs }
+limits_lengths d = record { principals = length_none_of d.principals; channels = length_behind (is_past (limits_of (version_of d)).entries) [] d.channels; inputs = length_behind (is_past (limits_of (version_of d)).entries) [] d.inputs }
 
 pub files_lengths : (d : Draft) → HasLengths (files_fail d) (length d.principals) (length d.channels) (length d.inputs)
 files_lengths d = record {

@@ -8,7 +8,7 @@ use Rattle.lio_policy_draft.specs.declared.draft.Draft.{Draft}
 use Rattle.lio_policy_draft.specs.declared.fault.PolicyFault.{PolicyFault}
 use Rattle.lio_policy_draft.specs.declared.fault.PolicyFault.TheVariants.{NoMemory}
 use Rattle.lio_policy_draft.proofs.FailingLemmas.{Blames, not_blamed}
-use Rattle.lio_policy.specs.Rules.{version_fails, names_fail, labels_fail, flow_fails, arguments_fail, limits_fail, files_fail, file_entry, task_entry, known, tasks_of, longest_of}
+use Rattle.lio_policy.specs.Rules.{version_fails, names_fail, labels_fail, flow_fails, arguments_fail, limits_fail, files_fail, file_entry, task_entry, known, tasks_of, longest_of, version_of}
 use Rattle.lio_policy.specs.Verdict.{Gives, first_fault, declarations_fault, uses_fault, least, made, judged, from_draft, policy_of}
 use Rattle.lio_policy.specs.Policy.{PolicyParts, IsPolicy}
 use Rattle.lio_policy.specs.declared.policy.Policy.{Policy}
@@ -104,17 +104,19 @@ pub judged_ok : (d : Draft) → declarations_fault d ≡ None → uses_fault d �
 judged_ok d a b = ap (λ o. unless_fault o (Ok (made d))) (skip (declarations_fault d) (uses_fault d ∷ []) a ∙ skip (uses_fault d) [] b)
 
 -- the same of what was read part by part
-pub parts_are : (d : Draft) (longest : ℕ) (names : List (List ℕ)) (channels inputs : List FileEntry) (tasks : List TaskEntry) → longest ≡ longest_of d → names ≡ d.principals
+pub parts_are : (d : Draft) (version longest : ℕ) (names : List (List ℕ)) (channels inputs : List FileEntry) (tasks : List TaskEntry) → version ≡ version_of d → longest ≡ longest_of d → names ≡ d.principals
     → channels ≡ filter_map (file_entry d.principals) d.channels → inputs ≡ filter_map (file_entry d.principals) d.inputs → tasks ≡ filter_map (task_entry (known d)) (tasks_of d)
-    → parts d ≡ record { longest = longest; names = names; channels = channels; inputs = inputs; tasks = tasks }
-parts_are d longest names channels inputs tasks e f g h i =
-    let with : ℕ → List (List ℕ) → List FileEntry → List FileEntry → List TaskEntry → PolicyParts = λ l n c i t. record { longest = l; names = n; channels = c; inputs = i; tasks = t } in
+    → parts d ≡ record { version = version; longest = longest; names = names; channels = channels; inputs = inputs; tasks = tasks }
+parts_are d version longest names channels inputs tasks v e f g h i =
+    let with : ℕ → ℕ → List (List ℕ) → List FileEntry → List FileEntry → List TaskEntry → PolicyParts =
+    λ v l n c i t. record { version = v; longest = l; names = n; channels = c; inputs = i; tasks = t } in
     sym (
-    ap (λ x. with x names channels inputs tasks) e
-    ∙ ap (λ x. with (longest_of d) x channels inputs tasks) f
-    ∙ ap (λ x. with (longest_of d) d.principals x inputs tasks) g
-    ∙ ap (λ x. with (longest_of d) d.principals (filter_map (file_entry d.principals) d.channels) x tasks) h
-    ∙ ap (λ x. with (longest_of d) d.principals (filter_map (file_entry d.principals) d.channels) (filter_map (file_entry d.principals) d.inputs) x) i
+    ap (λ x. with x longest names channels inputs tasks) v
+    ∙ ap (λ x. with (version_of d) x names channels inputs tasks) e
+    ∙ ap (λ x. with (version_of d) (longest_of d) x channels inputs tasks) f
+    ∙ ap (λ x. with (version_of d) (longest_of d) d.principals x inputs tasks) g
+    ∙ ap (λ x. with (version_of d) (longest_of d) d.principals (filter_map (file_entry d.principals) d.channels) x tasks) h
+    ∙ ap (λ x. with (version_of d) (longest_of d) d.principals (filter_map (file_entry d.principals) d.channels) (filter_map (file_entry d.principals) d.inputs) x) i
     )
 
 pub made_is : (d : Draft) (p : PolicyParts) → parts d ≡ p → made d ≡ p
@@ -124,18 +126,20 @@ made_is d p e = e
 breaks_none : (d : Draft) → declarations_fault d ≡ None → uses_fault d ≡ None → BreaksNone d
 unfolding declarations_fault uses_fault
 breaks_none d h k =
+    let version = blamed 3 (version_fails d) in
     let names = blamed 4 (names_fail d) in
     let labels = blamed 5 (labels_fail d) in
     let flow = blamed 6 (flow_fails d) in
     let limits = blamed 8 (limits_fail d) in
     let files = blamed 9 (files_fail d) in
-    let a = none_first (blamed 3 (version_fails d)) (names ∷ labels ∷ flow ∷ []) h in
+    let a = none_first version (names ∷ labels ∷ flow ∷ []) h in
     let b = none_first names (labels ∷ flow ∷ []) a.1 in
     let c = none_first labels (flow ∷ []) b.1 in
     let g = none_first flow [] c.1 in
     let i = none_first (blamed 7 (arguments_fail d)) (limits ∷ files ∷ []) k in
     let j = none_first limits (files ∷ []) i.1 in
     let l = none_first files [] j.1 in record {
+      version = nothing_fails (version_fails d) (blames_none 3 (version_fails d) a.0);
       names = nothing_fails (names_fail d) (blames_none 4 (names_fail d) b.0);
       labels = nothing_fails (labels_fail d) (blames_none 5 (labels_fail d) c.0);
       flow = nothing_fails (flow_fails d) (blames_none 6 (flow_fails d) g.0);

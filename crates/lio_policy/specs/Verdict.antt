@@ -6,7 +6,7 @@ use Rattle.lio_policy_draft.specs.Drafted.{draft_of}
 use Rattle.lio_policy_draft.specs.declared.draft.Draft.{Draft}
 use Rattle.lio_policy_draft.specs.declared.fault.PolicyFault.{PolicyFault}
 use Rattle.lio_policy_draft.specs.declared.fault.PolicyFault.TheVariants.{NoMemory}
-use Rattle.lio_policy.specs.Rules.{version_fails, names_fail, labels_fail, flow_fails, arguments_fail, limits_fail, longest_of, files_fail, file_entry, task_entry, known, tasks_of}
+use Rattle.lio_policy.specs.Rules.{version_fails, names_fail, labels_fail, flow_fails, arguments_fail, limits_fail, longest_of, version_of, files_fail, file_entry, task_entry, known, tasks_of}
 use Rattle.lio_policy.specs.declared.policy.Policy.{Policy}
 
 -- the first fault, if there is one
@@ -30,6 +30,7 @@ least d = first_fault (declarations_fault d ∷ uses_fault d ∷ [])
 -- the policy that a draft makes which breaks no rule
 unfoldable pub made : Draft → Policy
 made d = record {
+  version = version_of d;
   longest = longest_of d;
   names = d.principals;
   channels = filter_map (file_entry d.principals) d.channels;

@@ -1,15 +1,15 @@
 //! Rule 7: arguments.
 #![tactic(auto, unfolding(crate::specs::Rules::task_entry))]
 
-ghost use Rattle.std.specs.Prelude.{◌≡◌, IfOk};
+ghost use Rattle.std.specs.Prelude.{◌≡◌, IfOk, map};
 ghost use Rattle.std.specs.List.{filter_map};
 ghost use Rattle.lio_policy_draft.specs.Failing.{entries, Passes};
 ghost use Rattle.lio_policy.specs.Rules as spec;
-ghost use Rattle.lio_policy.specs.Rules.{arguments_fail, tasks_of};
+ghost use Rattle.lio_policy.specs.Rules.{all_there, arguments_fail, tasks_of};
 
 use crate::copies::{copied_labels, copied_texts};
 use crate::labelled::{LabelledArg, LabelledTask};
-use crate::policy::{Arg, FileEntries, TaskEntries, TaskEntry};
+use crate::policy::{Arg, Args, FileEntries, TaskEntries, TaskEntry};
 use crate::table::Table;
 use lio_clauses::NoMemory;
 use lio_labels::Label;
@@ -55,18 +55,45 @@ impl Known {
     }
 }
 
+/// The argument, if what it names is known.
+#[cycle(known)]
+fn known_arg(alloc: Global, from: &LabelledArg, known: &Known) -> Result<Option<Arg>, NoMemory>
+    ensures { IfOk result (λ made. made ≡ spec.arg_entry known.now from.now) }
+{
+    match from {
+        LabelledArg::Input(name) => match known.input_names.find(name.bytes()) {
+            Some(number) => Ok(Some(Arg::Input(shown(number as u128)))),
+            None => Ok(None),
+        },
+        LabelledArg::Channel(name) => known.channel(alloc, name),
+        LabelledArg::Fixed(value) => Ok(Some(Arg::Fixed(value.copy(alloc)?))),
+        LabelledArg::Items(args) => match known_args(alloc, args.as_slice(), known)? {
+            Some(args) => Ok(Some(Arg::Items(args))),
+            None => Ok(None),
+        },
+    }
+}
+
+/// The arguments, if what they name is known.
+#[cycle(known)]
+fn known_args(alloc: Global, args: &[LabelledArg], known: &Known) -> Result<Option<Args>, NoMemory>
+    ensures { IfOk result (λ made. made ≡ all_there (map (spec.arg_entry known.now) args.now)) }
+{
+    let mut made = Args::new(alloc);
+    for arg in args {
+        let Some(one) = known_arg(alloc, arg, known)? else {
+            return Ok(None);
+        };
+        made.push(one)?;
+    }
+    Ok(Some(made))
+}
+
 impl Conversion<LabelledArg, Arg> for Known {
     ghost gives = { spec.arg_entry };
 
     fn convert(&self, alloc: Global, from: &LabelledArg) -> Result<Option<Arg>, NoMemory> {
-        match from {
-            LabelledArg::Input(name) => match self.input_names.find(name.bytes()) {
-                Some(number) => Ok(Some(Arg::Input(shown(number as u128)))),
-                None => Ok(None),
-            },
-            LabelledArg::Channel(name) => self.channel(alloc, name),
-            LabelledArg::Fixed(value) => Ok(Some(Arg::Fixed(value.copy(alloc)?))),
-        }
+        known_arg(alloc, from, self)
     }
 }
 

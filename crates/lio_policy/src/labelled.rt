@@ -10,6 +10,8 @@ pub enum LabelledArg {
     /// The channel with this name.
     Channel(Text),
     Fixed(Plain),
+    /// A list of arguments.
+    Items(List<LabelledArg>),
 }
 
 /// A task whose labels and formulas are read.

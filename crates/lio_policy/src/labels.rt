@@ -1,11 +1,12 @@
 //! Rules 5 and 6: labels, and their flow.
-ghost use Rattle.std.specs.Prelude.{◌≡◌, IfOk, position};
+ghost use Rattle.std.specs.Prelude.{◌≡◌, IfOk, map, position};
 ghost use Rattle.std.specs.List.{filter_map};
 ghost use Rattle.std.specs.Result.{result_ok};
 ghost use Rattle.lio_clauses.specs.FormulaText.{reading};
 ghost use Rattle.lio_policy_draft.specs.Failing.{entries, Passes};
 ghost use Rattle.lio_policy.specs.Rules as spec;
 ghost use Rattle.lio_policy.specs.Rules.{labels_fail, flow_fails, tasks_of, file_entry, is_above};
+ghost use Rattle.lio_policy.specs.Rules.{all_there};
 
 use crate::copies::copied_texts;
 use crate::labelled::{LabelledArg, LabelledTask};
@@ -58,26 +59,62 @@ impl Conversion<FileDraft, FileEntry> for Names {
     }
 }
 
+/// An argument with its labels and formulas, if they can be read.
+#[cycle(labelled)]
+fn labelled_arg(
+    alloc: Global,
+    from: &ArgDraft,
+    names: &Names,
+) -> Result<Option<LabelledArg>, NoMemory>
+    ensures { IfOk result (λ made. made ≡ spec.labelled_arg names.now from.now) }
+{
+    match from {
+        ArgDraft::Input(name) => Ok(Some(LabelledArg::Input(name.copy(alloc)?))),
+        ArgDraft::Channel(name) => Ok(Some(LabelledArg::Channel(name.copy(alloc)?))),
+        ArgDraft::Label(text) => match label_of(alloc, text, names)? {
+            Some(label) => Ok(Some(LabelledArg::Fixed(Plain::Lab(label)))),
+            None => Ok(None),
+        },
+        ArgDraft::Power(text) => match formula_of(alloc, text, names)? {
+            Some(power) => Ok(Some(LabelledArg::Fixed(Plain::Power(Priv { power })))),
+            None => Ok(None),
+        },
+        ArgDraft::Bytes(text) => Ok(Some(LabelledArg::Fixed(Plain::Bytes(text.copy(alloc)?)))),
+        ArgDraft::Whole(number) => Ok(Some(LabelledArg::Fixed(Plain::Whole(*number)))),
+        ArgDraft::Flag(flag) => Ok(Some(LabelledArg::Fixed(Plain::Flag(*flag)))),
+        ArgDraft::Unit => Ok(Some(LabelledArg::Fixed(Plain::Unit))),
+        ArgDraft::Items(args) => match labelled_args(alloc, args.as_slice(), names)? {
+            Some(args) => Ok(Some(LabelledArg::Items(args))),
+            None => Ok(None),
+        },
+    }
+}
+
+/// Arguments with their labels and formulas, if they can be read.
+#[cycle(labelled)]
+fn labelled_args(
+    alloc: Global,
+    args: &[ArgDraft],
+    names: &Names,
+) -> Result<Option<List<LabelledArg>>, NoMemory>
+    ensures { IfOk result
+        (λ made. made ≡ all_there (map (spec.labelled_arg names.now) args.now)) }
+{
+    let mut made = List::new(alloc);
+    for arg in args {
+        let Some(one) = labelled_arg(alloc, arg, names)? else {
+            return Ok(None);
+        };
+        made.push(one)?;
+    }
+    Ok(Some(made))
+}
+
 impl Conversion<ArgDraft, LabelledArg> for Names {
     ghost gives = { spec.labelled_arg };
 
     fn convert(&self, alloc: Global, from: &ArgDraft) -> Result<Option<LabelledArg>, NoMemory> {
-        match from {
-            ArgDraft::Input(name) => Ok(Some(LabelledArg::Input(name.copy(alloc)?))),
-            ArgDraft::Channel(name) => Ok(Some(LabelledArg::Channel(name.copy(alloc)?))),
-            ArgDraft::Label(text) => match label_of(alloc, text, self)? {
-                Some(label) => Ok(Some(LabelledArg::Fixed(Plain::Lab(label)))),
-                None => Ok(None),
-            },
-            ArgDraft::Power(text) => match formula_of(alloc, text, self)? {
-                Some(power) => Ok(Some(LabelledArg::Fixed(Plain::Power(Priv { power })))),
-                None => Ok(None),
-            },
-            ArgDraft::Bytes(text) => Ok(Some(LabelledArg::Fixed(Plain::Bytes(text.copy(alloc)?)))),
-            ArgDraft::Whole(number) => Ok(Some(LabelledArg::Fixed(Plain::Whole(*number)))),
-            ArgDraft::Flag(flag) => Ok(Some(LabelledArg::Fixed(Plain::Flag(*flag)))),
-            ArgDraft::Unit => Ok(Some(LabelledArg::Fixed(Plain::Unit))),
-        }
+        labelled_arg(alloc, from, self)
     }
 }
 

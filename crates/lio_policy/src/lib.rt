@@ -10,6 +10,7 @@ mod labelled;
 mod labels;
 pub mod laws;
 mod limits;
+mod lists;
 mod names;
 mod policy;
 mod read;

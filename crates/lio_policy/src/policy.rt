@@ -21,6 +21,8 @@ pub enum Arg {
     /// The input with this number.
     Input(u32),
     Fixed(Plain),
+    /// A list of arguments, in version 2 alone.
+    Items(Args),
 }
 
 /// A task: the procedure that it runs, its label and clearance, and the turns, cells and arguments
@@ -44,20 +46,22 @@ pub struct TaskEntry {
     pub args: Args,
 }
 
-/// A policy: the longest text, the principals, the channels and inputs, and the tasks. Its type
-/// keeps the rules on names, labels, flow, arguments, limits and files (`IsPolicy`), which a proof
-/// learns where the code reads a field.
+/// A policy: its version, the longest text, the principals, the channels and inputs, and the tasks.
+/// Its type keeps the rules on its version, names, labels, flow, arguments, limits and files
+/// (`IsPolicy`), which a proof learns where the code reads a field.
 #[derive(Drop)]
 pub struct Policy {
-    /// How many bytes a text may have: 1 to 65,536.
+    /// Its version: 1 or 2.
+    pub version: u32,
+    /// How many bytes a text may have: 1 to 65,536, and in version 2 to 262,144.
     pub longest: u32,
     /// The principals, at most 64.
     pub names: Names,
-    /// The channels, at most 256.
+    /// The channels, at most 256, and in version 2 at most 1,024.
     pub channels: FileEntries,
-    /// The inputs, at most 256.
+    /// The inputs, as many.
     pub inputs: FileEntries,
-    /// The tasks, at most 256.
+    /// The tasks, as many.
     pub tasks: TaskEntries,
 }
 
@@ -66,7 +70,13 @@ impl Model for Policy {
 
     ghost Value = { PolicyParts };
 
+    ghost use Rattle.std.specs.Coded.{codes};
+    ghost use Rattle.lio_policy.specs.contracts.policy.Arg as arguments;
+
+    ghost coded = { Prim.hlevel (codes, arguments.the_row.coded) };
+
     ghost view = { λ p. record {
+      version = p.version;
       longest = p.longest;
       names = p.names;
       channels = p.channels;
@@ -75,6 +85,7 @@ impl Model for Policy {
     } };
 
     ghost invariant = { λ p. IsPolicy (record {
+      version = p.version;
       longest = p.longest;
       names = p.names;
       channels = p.channels;

@@ -36,7 +36,7 @@ drafted_fault p fault (inl e) = inl e
 drafted_fault p fault (inr e) = inr (ap (λ o. unless_fault o (Ok (made_of p))) e)
 
 pub drafted_ok : (p : Parts) (ps : List (List ℕ)) (cs is : List FileDraft) (ts : List TaskDraft) → first_failing 0 (entries (shape_fails p)) ≡ None
-    → ps ≡ filter_map as_str p.principals → cs ≡ filter_map file_of p.channels → is ≡ filter_map file_of p.inputs → ts ≡ filter_map task_of p.tasks
+    → ps ≡ filter_map as_str p.principals → cs ≡ filter_map file_of p.channels → is ≡ filter_map file_of p.inputs → ts ≡ filter_map (task_of p.version) p.tasks
     → drafted p ≡ Ok (record { version = p.version; longest = p.longest; principals = ps; channels = cs; inputs = is; tasks = ts })
 drafted_ok p ps cs is ts none e f g h =
     ap (λ o. unless_fault o (Ok (made_of p))) (not_blamed 2 (shape_fails p) none)

@@ -4,3 +4,4 @@ pub mod DocumentLemmas
 pub mod FailingLemmas
 pub mod DraftedLemmas
 pub mod EntryLemmas
+pub mod ArgLemmas

@@ -37,9 +37,9 @@ no_texts_by (Some n) (Some p) None c rest h = refl
 no_texts_by (Some n) (Some p) (Some l) None rest h = refl
 no_texts_by (Some n) (Some p) (Some l) (Some c) rest h = absurd (cc)
 
-pub no_texts : (d : Data) → None ≡ task_texts d → None ≡ task_of d
+pub no_texts : (version : Option ℕ) (d : Data) → None ≡ task_texts d → None ≡ task_of version d
 unfolding task_of
-no_texts d h = either _ (task_parts d) (no_texts_by (text_at (codes "name") d) (text_at (codes "proc") d) (text_at (codes "label") d) (text_at (codes "clearance") d) _ h)
+no_texts version d h = either _ (task_parts version d) (no_texts_by (text_at (codes "name") d) (text_at (codes "proc") d) (text_at (codes "label") d) (text_at (codes "clearance") d) _ h)
 
 -- without the name and the label of a channel or an input there is none
 no_file_by : (n l f : Option (List ℕ)) (rest : List ℕ → List ℕ → List ℕ → Option FileDraft) → None ≡ both n l → None ≡ (n >>= λ name. l >>= λ label. f >>= λ file. rest name label file)

@@ -23,7 +23,7 @@ shape_fails p = record {
   principals = unmade as_str p.principals;
   channels = unmade file_of p.channels;
   inputs = unmade file_of p.inputs;
-  tasks = unmade task_of p.tasks;
+  tasks = unmade (task_of p.version) p.tasks;
 }
 
 abbrev pub made_of : Parts → Draft
@@ -33,7 +33,7 @@ made_of p = record {
   principals = filter_map as_str p.principals;
   channels = filter_map file_of p.channels;
   inputs = filter_map file_of p.inputs;
-  tasks = filter_map task_of p.tasks;
+  tasks = filter_map (task_of p.version) p.tasks;
 }
 
 abbrev pub drafted : Parts → Result Draft PolicyFault

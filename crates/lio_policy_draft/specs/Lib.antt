@@ -4,3 +4,4 @@ pub mod Failing
 pub mod Drafted
 pub mod Parts
 pub mod Entries
+pub mod Limits

@@ -107,10 +107,13 @@ fn drafted(alloc: Global, parts: &Parts<'_>) -> Result<Draft, PolicyFault>
     let first_channel = FIRST_PRINCIPAL + parts.principals.len() as u128;
     let first_input = first_channel + parts.channels.len() as u128;
     let first_task = first_input + parts.inputs.len() as u128;
-    let principals = each_entry(alloc, &Shape, parts.principals, SHAPE, FIRST_PRINCIPAL)?;
-    let channels = each_entry(alloc, &Shape, parts.channels, SHAPE, first_channel)?;
-    let inputs = each_entry(alloc, &Shape, parts.inputs, SHAPE, first_input)?;
-    let tasks = each_entry(alloc, &Shape, parts.tasks, SHAPE, first_task)?;
+    let shape = Shape {
+        version: parts.version,
+    };
+    let principals = each_entry(alloc, &shape, parts.principals, SHAPE, FIRST_PRINCIPAL)?;
+    let channels = each_entry(alloc, &shape, parts.channels, SHAPE, first_channel)?;
+    let inputs = each_entry(alloc, &shape, parts.inputs, SHAPE, first_input)?;
+    let tasks = each_entry(alloc, &shape, parts.tasks, SHAPE, first_task)?;
     Ok(Draft {
         version: parts.version,
         longest: parts.longest,

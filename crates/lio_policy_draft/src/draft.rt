@@ -27,6 +27,8 @@ pub enum ArgDraft {
     Whole(i64),
     Flag(bool),
     Unit,
+    /// A list of arguments, in the second version alone.
+    Items(List<ArgDraft>),
 }
 
 /// A task, as it is written.

@@ -8,6 +8,7 @@ mod draft;
 mod entries;
 mod fault;
 mod json;
+mod limits;
 mod numbering;
 mod shape;
 
@@ -18,4 +19,5 @@ pub use entries::{
     FIRST_PRINCIPAL, each_entry, fault_at, first_channel, first_input, first_task, shown,
 };
 pub use fault::PolicyFault;
+pub use limits::{Limits, limits_of};
 pub use numbering::{EntryAt, EntryKind, entry_at};

@@ -1,12 +1,12 @@
 //! From JSON values to drafts.
-#![tactic(auto, unfolding(crate::specs::Shape::arg_of, crate::specs::Shape::plain_arg_of))]
+#![tactic(auto)]
 
 ghost use Rattle.std.specs.Prelude.{◌≡◌, IfOk};
-ghost use Rattle.serde_json.specs.View.{view};
+ghost use Rattle.serde_json.specs.View.{view, items_view};
 ghost use Rattle.serde_json.specs.Find.{as_str};
 ghost use Rattle.lio_policy_draft.specs.Shape as spec;
 
-use crate::conversion::{Conversion, each};
+use crate::conversion::Conversion;
 use crate::draft::{ArgDraft, FileDraft, TaskDraft};
 use crate::json::{count_at, has_keys, items_at, text_at, text_of};
 use lio_clauses::NoMemory;
@@ -14,8 +14,11 @@ use lio_values::{List, Text};
 use serde_json::Value;
 use std::alloc::Global;
 
-/// Reads the parts of a document by their shape.
-pub(crate) struct Shape;
+/// Reads the parts of a document of a version by their shape.
+#[derive(Drop)]
+pub(crate) struct Shape {
+    pub(crate) version: Option<u64>,
+}
 
 impl Conversion<Value, Text> for Shape {
     ghost gives = { λ _ value. as_str (view value) };
@@ -33,19 +36,11 @@ impl Conversion<Value, FileDraft> for Shape {
     }
 }
 
-impl Conversion<Value, ArgDraft> for Shape {
-    ghost gives = { λ _ value. spec.arg_of (view value) };
-
-    fn convert(&self, alloc: Global, value: &Value) -> Result<Option<ArgDraft>, NoMemory> {
-        arg_draft(alloc, value)
-    }
-}
-
 impl Conversion<Value, TaskDraft> for Shape {
-    ghost gives = { λ _ value. spec.task_of (view value) };
+    ghost gives = { λ shape value. spec.task_of shape.version (view value) };
 
     fn convert(&self, alloc: Global, value: &Value) -> Result<Option<TaskDraft>, NoMemory> {
-        task_draft(alloc, value)
+        task_draft(alloc, self.version, value)
     }
 }
 
@@ -66,9 +61,35 @@ fn file_draft(alloc: Global, value: &Value) -> Result<Option<FileDraft>, NoMemor
     Ok(Some(FileDraft { name, label, file }))
 }
 
-/// The argument that a value is.
-fn arg_draft(alloc: Global, value: &Value) -> Result<Option<ArgDraft>, NoMemory>
-    ensures { IfOk result (λ draft. draft ≡ spec.arg_of (view value.now)) }
+/// Whether an argument of this version may be a list of arguments.
+fn has_lists(version: Option<u64>) -> bool
+    ensures { result ≡ spec.has_lists version }
+{
+    match version {
+        Some(number) => number == 2,
+        None => false,
+    }
+}
+
+/// The argument that a value is in this version.
+#[cycle(args)]
+fn arg_draft(
+    alloc: Global,
+    version: Option<u64>,
+    value: &Value,
+) -> Result<Option<ArgDraft>, NoMemory>
+    ensures { IfOk result (λ draft. draft ≡ spec.arg_of version (view value.now)) }
+{
+    if has_lists(version) && has_keys(value, &["items"]) {
+        return Ok(args_at(alloc, version, value, "items")?.map(ArgDraft::Items));
+    }
+    single_arg(alloc, value)
+}
+
+/// The argument that a value is, where it is no list.
+#[tactic(auto, unfolding(crate::specs::Shape::single_arg_of))]
+fn single_arg(alloc: Global, value: &Value) -> Result<Option<ArgDraft>, NoMemory>
+    ensures { IfOk result (λ draft. draft ≡ spec.single_arg_of (view value.now)) }
 {
     if has_keys(value, &["input"]) {
         return Ok(text_at(alloc, value, "input")?.map(ArgDraft::Input));
@@ -89,6 +110,7 @@ fn arg_draft(alloc: Global, value: &Value) -> Result<Option<ArgDraft>, NoMemory>
 }
 
 /// The argument that a value is, where it is a number, a truth value or nothing.
+#[tactic(auto, unfolding(crate::specs::Shape::plain_arg_of))]
 fn plain_arg(value: &Value) -> Option<ArgDraft>
     ensures { result ≡ spec.plain_arg_of (view value.now) }
 {
@@ -106,13 +128,38 @@ fn plain_arg(value: &Value) -> Option<ArgDraft>
 }
 
 /// The arguments at a key.
-fn args_at(alloc: Global, value: &Value, key: &str) -> Result<Option<List<ArgDraft>>, NoMemory>
-    ensures { IfOk result (λ args. args ≡ spec.args_at key.now (view value.now)) }
+#[cycle(args)]
+fn args_at(
+    alloc: Global,
+    version: Option<u64>,
+    value: &Value,
+    key: &str,
+) -> Result<Option<List<ArgDraft>>, NoMemory>
+    ensures { IfOk result (λ args. args ≡ spec.args_at version key.now (view value.now)) }
 {
     match items_at(value, key) {
-        Some(items) => Ok(each(alloc, &Shape, items)?.ok()),
+        Some(items) => each_arg(alloc, version, items),
         None => Ok(None),
     }
+}
+
+/// The arguments that some values are.
+#[cycle(args)]
+fn each_arg(
+    alloc: Global,
+    version: Option<u64>,
+    items: &[Value],
+) -> Result<Option<List<ArgDraft>>, NoMemory>
+    ensures { IfOk result (λ args. args ≡ spec.each_arg version (items_view items.now)) }
+{
+    let mut args = List::new(alloc);
+    for item in items {
+        let Some(arg) = arg_draft(alloc, version, item)? else {
+            return Ok(None);
+        };
+        args.push(arg)?;
+    }
+    Ok(Some(args))
 }
 
 /// The texts at two keys.
@@ -162,8 +209,12 @@ fn task_texts(alloc: Global, value: &Value) -> Result<Option<TaskTexts>, NoMemor
 
 /// The task that a value is.
 #[tactic(auto, unfolding(crate::specs::Shape::task_of))]
-fn task_draft(alloc: Global, value: &Value) -> Result<Option<TaskDraft>, NoMemory>
-    ensures { IfOk result (λ draft. draft ≡ spec.task_of (view value.now)) }
+fn task_draft(
+    alloc: Global,
+    version: Option<u64>,
+    value: &Value,
+) -> Result<Option<TaskDraft>, NoMemory>
+    ensures { IfOk result (λ draft. draft ≡ spec.task_of version (view value.now)) }
 {
     if !has_keys(
         value,
@@ -185,7 +236,7 @@ fn task_draft(alloc: Global, value: &Value) -> Result<Option<TaskDraft>, NoMemor
     let (Some(turns), Some(cells)) = (count_at(value, "turns"), count_at(value, "cells")) else {
         return Ok(None);
     };
-    let Some(args) = args_at(alloc, value, "args")? else {
+    let Some(args) = args_at(alloc, version, value, "args")? else {
         return Ok(None);
     };
     Ok(Some(TaskDraft {

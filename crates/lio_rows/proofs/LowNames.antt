@@ -4,7 +4,7 @@ use Rattle.std.specs.Prelude.{IfOk, OnErr}
 use Rattle.lio_labels.specs.declared.label.Label.{Label}
 use Rattle.lio_values.specs.declared.value.Content.{Content}
 use Rattle.lio_values.specs.declared.entry.Entry.{Entry}
-use Rattle.lio_events.specs.Named.{IsContentNamed}
+use Rattle.lio_calculus_names.specs.NameLaws.{IsContentPrintable}
 use Rattle.lio_events.specs.Printable.{IsPrintable}
 use Rattle.lio_syntax.specs.Statements.{Procedure}
 use Rattle.lio_calculus.specs.Step.{Configuration}
@@ -40,13 +40,13 @@ seen_names_only job observer seen is e =
 pub record IsTakenNamed (names : List (List ℕ)) (state : ErasedState) (contents : List Content) (result : Result Entry LowFault) : Type 0 where
   pub entry : IfOk result (IsPrintable names)
   pub named : NamesOnly names state.configuration
-  pub contents_named : All (IsContentNamed names) contents
+  pub contents_named : All (IsContentPrintable names) contents
 
-pub taken_is_named : (names : List (List ℕ)) (k : ℕ) (old new : ErasedState) (before after : List Content) (result : Result Entry LowFault) → NamesOnly names old.configuration → All (IsContentNamed names) before
+pub taken_is_named : (names : List (List ℕ)) (k : ℕ) (old new : ErasedState) (before after : List Content) (result : Result Entry LowFault) → NamesOnly names old.configuration → All (IsContentPrintable names) before
     → IfOk result (TakesTurn old new k before after) → OnErr result ((new ≡ old) × (after ≡ before)) → IsTakenNamed names new after result
 taken_is_named names k old new before after (Ok entry) named all ok err =
     let turn : LowTurn = record { entry = entry; next = new.configuration; left = after } in
     let taken = low_turn_names_only names old.observer 0 old.configuration k before turn named all ok.turn in
     record { entry = taken.entry; named = taken.next; contents_named = taken.left }
 taken_is_named names k old new before after (Err fault) named all ok err =
-    record { entry = tt; named = subst (λ (state : ErasedState). NamesOnly names state.configuration) (sym err.0) named; contents_named = subst (All (IsContentNamed names)) (sym err.1) all }
+    record { entry = tt; named = subst (λ (state : ErasedState). NamesOnly names state.configuration) (sym err.0) named; contents_named = subst (All (IsContentPrintable names)) (sym err.1) all }

@@ -1,6 +1,7 @@
 //! Commands on turns of the erased calculus.
 ghost use Rattle.std.specs.Prelude.{◌≡◌, All, IfOk};
-ghost use Rattle.lio_events.specs.Named.{IsContentNamed};
+ghost use Rattle.lio_values.specs.Purity.{IsContentPure};
+ghost use Rattle.lio_calculus_names.specs.NameLaws.{IsContentPrintable};
 ghost use Rattle.lio_events.specs.Printable.{IsPrintable};
 ghost use Rattle.lio_calculus.specs.Erased.{erase};
 ghost use Rattle.lio_config.specs.Configuration.{configuration_of};
@@ -97,10 +98,10 @@ fn turn(
     k: u32,
 ) -> Result<Entry, LowFault>
     requires named { NamesOnly names.now (low_of low.old).configuration }
-    requires contents { All (IsContentNamed names.now) contents.old }
+    requires contents { All (IsContentPrintable names.now) contents.old }
     ensures entry { IfOk result (IsPrintable names.now) }
     ensures named { NamesOnly names.now (low_of low.new).configuration }
-    ensures contents { All (IsContentNamed names.now) contents.new }
+    ensures contents { All (IsContentPrintable names.now) contents.new }
 {
     let _ = names;
     low.turn(alloc, k, contents)
@@ -134,7 +135,7 @@ fn turns(
     schedule: &[u32],
 ) -> Result<Vec<u8>, Refusal>
     requires named { NamesOnly names.now (low_of low.old).configuration }
-    requires contents { All (IsContentNamed names.now) contents.old }
+    requires contents { All (IsContentPrintable names.now) contents.old }
 {
     let mut text = Vec::new(alloc);
     for k in schedule {
@@ -168,7 +169,9 @@ fn cells(
     low: &mut Low,
     contents: &mut Contents,
     schedule: &[u32],
-) -> Result<Vec<u8>, Refusal> {
+) -> Result<Vec<u8>, Refusal>
+    requires { All IsContentPure contents.old }
+{
     for k in schedule {
         match low.turn(alloc, *k, contents) {
             Ok(entry) => drop(entry),
@@ -181,7 +184,7 @@ fn cells(
 /// Gives the contents that an observer is told: those that the run by rounds releases to it, or
 /// none.
 fn told(alloc: Global, job: &Job, observer: &Label, asked: Asked) -> Result<Contents, Refusal>
-    ensures { IfOk result (All (IsContentNamed job.now.policy.names)) }
+    ensures { IfOk result (All (IsContentPrintable job.now.policy.names)) }
 {
     match asked {
         Asked::TurnsUntold => Ok(Contents::new(alloc)),
@@ -198,7 +201,7 @@ fn asked_with(
     schedule: &[u32],
     asked: Asked,
 ) -> Result<Vec<u8>, Refusal>
-    requires { All (IsContentNamed job.now.policy.names) contents.old }
+    requires { All (IsContentPrintable job.now.policy.names) contents.old }
 {
     let mut low = low_start(alloc, job, observer)?;
     let policy = job.policy();

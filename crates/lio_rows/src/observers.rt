@@ -1,6 +1,6 @@
 //! Commands by which an observer checks its view, and computes it.
 ghost use Rattle.std.specs.Prelude.{All, IfOk};
-ghost use Rattle.lio_events.specs.Named.{IsContentNamed};
+ghost use Rattle.lio_calculus_names.specs.NameLaws.{IsContentPrintable};
 ghost use Rattle.lio_events.specs.Printable.{IsPrintable};
 
 use crate::refusal::{Answered, Refusal};
@@ -72,7 +72,7 @@ fn seen(
 
 /// The contents that the run of a job by rounds releases to an observer, or none.
 fn contents_of(alloc: Global, job: &Job, observer: &Label, told: bool) -> Result<Contents, Refusal>
-    ensures { IfOk result (All (IsContentNamed job.now.policy.names)) }
+    ensures { IfOk result (All (IsContentPrintable job.now.policy.names)) }
 {
     if told {
         released(alloc, job, observer)

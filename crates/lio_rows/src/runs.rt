@@ -1,6 +1,7 @@
 //! Commands on runs.
 ghost use Rattle.std.specs.Prelude.{◌≡◌, All, IfOk, None, length};
-ghost use Rattle.lio_events.specs.Named.{IsContentNamed};
+ghost use Rattle.lio_values.specs.Named.{IsContentNamed};
+ghost use Rattle.lio_calculus_names.specs.NameLaws.{IsContentPrintable};
 ghost use Rattle.lio_events.specs.Printable.{IsPrintable};
 ghost use Rattle.lio_start.specs.Fits.{fits};
 ghost use Rattle.lio_syntax.specs.Verdict.{IsOver};
@@ -176,7 +177,7 @@ fn lines_of(alloc: Global, contents: &[Content], names: &Names) -> Result<Vec<u8
 
 /// Gives the contents that the run by rounds releases to an observer.
 pub fn released(alloc: Global, job: &Job, observer: &Label) -> Result<Contents, Refusal>
-    ensures { IfOk result (All (IsContentNamed job.now.policy.names)) }
+    ensures { IfOk result (All (IsContentPrintable job.now.policy.names)) }
 {
     let journal = journal_of(alloc, job)?;
     let contents = releases(alloc, &journal, observer);

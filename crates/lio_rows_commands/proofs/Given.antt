@@ -4,7 +4,7 @@ use Rattle.lio_values.specs.declared.value.Value.{Value}
 use Rattle.lio_values.specs.declared.fault.FaultKind.{FaultKind}
 use Rattle.lio_syntax_lines.specs.declared.operators.One.{One}
 use Rattle.lio_syntax_lines.specs.declared.operators.Two.{Two}
-use Rattle.lio_events.specs.Named.{IsValueNamed}
+use Rattle.lio_values.specs.Named.{IsValueNamed}
 use Rattle.lio_operators.specs.declared.faults.OpFault.{OpFault}
 use Rattle.lio_operators.specs.declared.faults.OpFault.TheVariants.{Kind, NoMemory}
 use Rattle.lio_operators.specs.Answers.{Answers}

@@ -1,7 +1,7 @@
 -- What an operator gives can be printed.
 use Rattle.std.specs.Prelude.{ℕ, List, Result, Ok, Err}
 use Rattle.lio_values.specs.declared.value.Value.{Value}
-use Rattle.lio_events.specs.Named.{IsKindNamed, IsValueNamed}
+use Rattle.lio_values.specs.Named.{IsKindNamed, IsValueNamed}
 use Rattle.lio_operators.specs.declared.faults.OpFault.{OpFault}
 use Rattle.lio_operators.specs.declared.faults.OpFault.TheVariants.{Kind, NoMemory}
 

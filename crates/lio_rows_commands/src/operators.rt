@@ -1,5 +1,5 @@
 //! Commands on operators.
-ghost use Rattle.lio_events.specs.Named.{IsFaultNamed, IsKindNamed, IsValueNamed};
+ghost use Rattle.lio_values.specs.Named.{IsFaultNamed, IsKindNamed, IsValueNamed};
 ghost use Rattle.lio_rows_commands.specs.Given.{IsGivenNamed};
 
 use crate::answers::{Answer, Answered, finished};
@@ -91,13 +91,24 @@ fn given(alloc: Global, names: &Names, given: Result<Value, OpFault>) -> Result<
     requires { IsGivenNamed names.now given }
 {
     match given {
-        Ok(value) => {
-            let text = print_value(alloc, &value, names);
-            drop(value);
-            Ok(Answer::Text(text?))
-        }
+        Ok(value) => returned(alloc, names, value),
         Err(OpFault::Kind(kind)) => faulted(alloc, names, kind),
         Err(OpFault::NoMemory) => Err(Refusal::NoMemory),
+    }
+}
+
+/// The text of the content with which a public task ends that returns a value: of a fault where the
+/// value isn't pure.
+fn returned(alloc: Global, names: &Names, value: Value) -> Result<Answer, Refusal>
+    requires { IsValueNamed names.now value }
+{
+    if value.is_pure() {
+        let text = print_value(alloc, &value, names);
+        drop(value);
+        Ok(Answer::Text(text?))
+    } else {
+        drop(value);
+        faulted(alloc, names, FaultKind::BadType)
     }
 }
 

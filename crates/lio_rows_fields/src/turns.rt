@@ -1,11 +1,12 @@
 //! Acts, replies and entries, as the fields of a command write them.
 ghost use Rattle.std.specs.Prelude.{All, IfOk};
 ghost use Rattle.lio_labels.specs.LabelPrint.{AreNamed};
-ghost use Rattle.lio_events.specs.Named.{IsContentNamed, IsValueNamed};
 ghost use Rattle.lio_values.specs.PlainText.{IsPowerNamed};
-ghost use Rattle.lio_events.specs.Printable.{IsOptionNamed, IsBirthNamed, IsActNamed, IsRaising};
-ghost use Rattle.lio_events.specs.Printable.{IsRaiseOf, IsReplyNamed, IsPrintable};
-ghost use Rattle.lio_rows_fields.specs.Turns.{CanPrint};
+ghost use Rattle.lio_values.specs.Purity.{KeepsPure};
+ghost use Rattle.lio_events.specs.Printable.{IsOptionNamed, IsBirthNamed, IsRaising, IsPrintable};
+ghost use Rattle.lio_events.specs.Printable.{OptionKeepsPure};
+ghost use Rattle.lio_rows_fields.specs.Turns.{CanPrint, CanPrintContent, CanPrintReply};
+ghost use Rattle.lio_rows_fields.specs.Turns.{CanPrintValue};
 
 use crate::fault::FieldFault;
 use crate::values::{content, fault, power, read_label, read_value, two_labels, values};
@@ -38,7 +39,7 @@ fn share(
     alloc: Global,
     names: &Names,
 ) -> Result<(u32, u32, u32, Values), FieldFault>
-    ensures { IfOk result (λ share. All (IsValueNamed names.now) share.3) }
+    ensures { IfOk result (λ share. All (CanPrintValue names.now) share.3) }
 {
     let turns = words.number()?;
     let first = words.number()?;
@@ -50,7 +51,8 @@ fn share(
 /// A birth: the procedure's place, the label of the result, the clearance, turns, first number, how
 /// many numbers, and the arguments with their number before them.
 fn birth(words: &mut Words, alloc: Global, names: &Names) -> Result<Held<Birth>, FieldFault>
-    ensures { IfOk result (IsBirthNamed names.now) }
+    ensures named { IfOk result (IsBirthNamed names.now) }
+    ensures pure { IfOk result (λ birth. All KeepsPure birth.args) }
 {
     let proc_at = words.number()?;
     let (result, clearance) = two_labels(words, alloc, names)?;
@@ -77,7 +79,7 @@ fn birth(words: &mut Words, alloc: Global, names: &Names) -> Result<Held<Birth>,
 
 /// A value on the heap.
 fn held_value(words: &mut Words, alloc: Global, names: &Names) -> Result<Held<Value>, FieldFault>
-    ensures { IfOk result (IsValueNamed names.now) }
+    ensures { IfOk result (CanPrintValue names.now) }
 {
     Ok(Held::new(alloc, read_value(words, alloc, names)?)?)
 }
@@ -88,7 +90,7 @@ fn held_content(
     alloc: Global,
     names: &Names,
 ) -> Result<Held<Content>, FieldFault>
-    ensures { IfOk result (IsContentNamed names.now) }
+    ensures { IfOk result (CanPrintContent names.now) }
 {
     Ok(Held::new(alloc, content(words, alloc, names)?)?)
 }
@@ -106,7 +108,8 @@ fn variable(
     alloc: Global,
     names: &Names,
 ) -> Result<Held<Option<Value>>, FieldFault>
-    ensures { IfOk result (IsOptionNamed names.now) }
+    ensures named { IfOk result (IsOptionNamed names.now) }
+    ensures pure { IfOk result OptionKeepsPure }
 {
     match words.text()? {
         "empty" => Ok(Held::new(alloc, None)?),
@@ -122,7 +125,7 @@ fn power_and_content(
     names: &Names,
 ) -> Result<(Priv, Held<Content>), FieldFault>
     ensures power { IfOk result (λ told. IsPowerNamed names.now told.0) }
-    ensures content { IfOk result (λ told. IsContentNamed names.now told.1) }
+    ensures content { IfOk result (λ told. CanPrintContent names.now told.1) }
 {
     let power = power(words, alloc, names)?;
     let content = held_content(words, alloc, names)?;
@@ -219,7 +222,7 @@ fn act(words: &mut Words, alloc: Global, names: &Names) -> Result<Act, FieldFaul
 
 /// A reply.
 fn reply(words: &mut Words, alloc: Global, names: &Names) -> Result<Reply, FieldFault>
-    ensures { IfOk result (IsReplyNamed names.now) }
+    ensures { IfOk result (CanPrintReply names.now) }
 {
     match words.text()? {
         "done" => Ok(Reply::Done),
@@ -237,7 +240,7 @@ fn act_and_reply(
     names: &Names,
 ) -> Result<(Act, Reply), FieldFault>
     ensures act { IfOk result (λ turn. CanPrint names.now turn.0) }
-    ensures reply { IfOk result (λ turn. IsReplyNamed names.now turn.1) }
+    ensures reply { IfOk result (λ turn. CanPrintReply names.now turn.1) }
 {
     let act = act(words, alloc, names)?;
     beside(act, reply(words, alloc, names))

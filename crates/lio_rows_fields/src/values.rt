@@ -1,15 +1,24 @@
 //! Values, as the fields of a command write them: the word of a kind, and what belongs to it.
-ghost use Rattle.std.specs.Prelude.{All, List, ℕ, IfOk};
+ghost use Rattle.std.specs.Prelude.{All, List, ℕ, ◌≤◌, IfOk, IsTrue};
 ghost use Rattle.lio_labels.specs.LabelPrint.{AreNamed};
 ghost use Rattle.lio_values.specs.PlainText.{IsPowerNamed, IsPlainNamed};
-ghost use Rattle.lio_events.specs.Named.{IsKindNamed, IsFaultNamed, IsContentNamed, IsValueNamed};
+ghost use Rattle.lio_values.specs.Measures.{is_pure};
+ghost use Rattle.lio_rows_fields.specs.Turns.{CanPrintKind, CanPrintFault, CanPrintContent};
+ghost use Rattle.lio_rows_fields.specs.Turns.{CanPrintValue};
+ghost use Rattle.lio_rows_fields.specs.Within.{IsSingle, IsPureWithin, IsValueWithin};
+ghost use Rattle.lio_rows_fields.specs.Within.{list, list_value};
 
 use crate::fault::FieldFault;
 use crate::words::Words;
 use lio_clauses::{Formula, Names, beside};
 use lio_labels::{Label, Priv};
-use lio_values::{Content, Fault, FaultKind, Handle, Held, List, Plain, Text, Value, Values};
+use lio_values::{
+    Content, Fault, FaultKind, Handle, Held, Items, List, Plain, Text, Value, Values,
+};
 use std::alloc::Global;
+
+/// How deep a list is at most.
+const DEPTH: u64 = 8;
 
 /// The label of the next field.
 pub fn read_label(words: &mut Words, alloc: Global, names: &Names) -> Result<Label, FieldFault>
@@ -42,7 +51,8 @@ fn plain_handle(
     alloc: Global,
     names: &Names,
 ) -> Result<Plain, FieldFault>
-    ensures { IfOk result (IsPlainNamed names.now) }
+    ensures named { IfOk result (IsPlainNamed names.now) }
+    ensures single { IfOk result IsSingle }
 {
     match word {
         "ref" => Ok(Plain::RefOf(handle(words, alloc, names)?)),
@@ -53,11 +63,12 @@ fn plain_handle(
     }
 }
 
-/// A plain value.
-fn plain(words: &mut Words, alloc: Global, names: &Names) -> Result<Plain, FieldFault>
-    ensures { IfOk result (IsPlainNamed names.now) }
+/// A plain value that is no list, behind its word.
+fn single(word: &str, words: &mut Words, alloc: Global, names: &Names) -> Result<Plain, FieldFault>
+    ensures named { IfOk result (IsPlainNamed names.now) }
+    ensures single { IfOk result IsSingle }
 {
-    match words.text()? {
+    match word {
         "unit" => Ok(Plain::Unit),
         "true" => Ok(Plain::Flag(true)),
         "false" => Ok(Plain::Flag(false)),
@@ -67,6 +78,57 @@ fn plain(words: &mut Words, alloc: Global, names: &Names) -> Result<Plain, Field
         "power" => Ok(Plain::Power(power(words, alloc, names)?)),
         word => plain_handle(word, words, alloc, names),
     }
+}
+
+/// A list of pure values, of at most this depth: a number, and so many plain values, each behind
+/// `bare`.
+#[cycle(plain)]
+fn pure_items(
+    words: &mut Words,
+    alloc: Global,
+    names: &Names,
+    depth: u64,
+) -> Result<Items, FieldFault>
+    requires some { 1 ≤ depth }
+    requires few { depth ≤ 8 }
+    ensures { IfOk result (λ items. IsPureWithin names.now depth (list items)) }
+{
+    let count = words.number()?;
+    let mut items = Items::new(alloc);
+    for _ in 0..count {
+        match words.text()? {
+            "bare" => {
+                let item = plain_within(words, alloc, names, depth - 1)?;
+                items.push(Value::Bare(item))?;
+            }
+            _ => return Err(FieldFault::Invalid),
+        }
+    }
+    Ok(items)
+}
+
+/// A pure value of at most this depth.
+#[cycle(plain)]
+fn plain_within(
+    words: &mut Words,
+    alloc: Global,
+    names: &Names,
+    depth: u64,
+) -> Result<Plain, FieldFault>
+    requires { depth ≤ 8 }
+    ensures { IfOk result (IsPureWithin names.now depth) }
+{
+    match words.text()? {
+        "list" if depth > 0 => Ok(Plain::Items(pure_items(words, alloc, names, depth)?)),
+        word => single(word, words, alloc, names),
+    }
+}
+
+/// A pure value.
+fn plain(words: &mut Words, alloc: Global, names: &Names) -> Result<Plain, FieldFault>
+    ensures { IfOk result (λ plain. IsPlainNamed names.now plain × IsTrue (is_pure plain)) }
+{
+    plain_within(words, alloc, names, DEPTH)
 }
 
 /// Two labels.
@@ -84,7 +146,7 @@ pub(crate) fn two_labels(
 
 /// The kind of a fault without labels.
 fn short_kind(word: &str, words: &mut Words) -> Result<FaultKind, FieldFault>
-    ensures { IfOk result (λ kind. (names : List (List ℕ)) → IsKindNamed names kind) }
+    ensures { IfOk result (λ kind. (names : List (List ℕ)) → CanPrintKind names kind) }
 {
     match word {
         "bad_type" => Ok(FaultKind::BadType),
@@ -106,7 +168,7 @@ fn labels_kind(
     alloc: Global,
     names: &Names,
 ) -> Result<FaultKind, FieldFault>
-    ensures { IfOk result (IsKindNamed names.now) }
+    ensures { IfOk result (CanPrintKind names.now) }
 {
     match word {
         "flow_current" => {
@@ -131,7 +193,7 @@ fn labels_kind(
 
 /// The kind of the fault of a privilege that doesn't reach so far.
 fn privilege_kind(words: &mut Words, alloc: Global, names: &Names) -> Result<FaultKind, FieldFault>
-    ensures { IfOk result (IsKindNamed names.now) }
+    ensures { IfOk result (CanPrintKind names.now) }
 {
     let power = power(words, alloc, names)?;
     let (power, (source, target)) = beside(power, two_labels(words, alloc, names))?;
@@ -140,7 +202,7 @@ fn privilege_kind(words: &mut Words, alloc: Global, names: &Names) -> Result<Fau
 
 /// The kind of a fault.
 fn kind(words: &mut Words, alloc: Global, names: &Names) -> Result<FaultKind, FieldFault>
-    ensures { IfOk result (IsKindNamed names.now) }
+    ensures { IfOk result (CanPrintKind names.now) }
 {
     match words.text()? {
         "flow_privilege" => privilege_kind(words, alloc, names),
@@ -151,7 +213,7 @@ fn kind(words: &mut Words, alloc: Global, names: &Names) -> Result<FaultKind, Fi
 
 /// A fault: its kind, and the label at which it was thrown.
 pub(crate) fn fault(words: &mut Words, alloc: Global, names: &Names) -> Result<Fault, FieldFault>
-    ensures { IfOk result (IsFaultNamed names.now) }
+    ensures { IfOk result (CanPrintFault names.now) }
 {
     let kind = kind(words, alloc, names)?;
     let (kind, at) = beside(kind, read_label(words, alloc, names))?;
@@ -164,7 +226,7 @@ pub(crate) fn content(
     alloc: Global,
     names: &Names,
 ) -> Result<Content, FieldFault>
-    ensures { IfOk result (IsContentNamed names.now) }
+    ensures { IfOk result (CanPrintContent names.now) }
 {
     match words.text()? {
         "kept" => Ok(Content::Kept(plain(words, alloc, names)?)),
@@ -174,12 +236,46 @@ pub(crate) fn content(
     }
 }
 
-/// A value.
-pub fn read_value(words: &mut Words, alloc: Global, names: &Names) -> Result<Value, FieldFault>
-    ensures { IfOk result (IsValueNamed names.now) }
+/// A list of at most this depth: a number, and so many values.
+#[cycle(value)]
+fn items(words: &mut Words, alloc: Global, names: &Names, depth: u64) -> Result<Items, FieldFault>
+    requires some { 1 ≤ depth }
+    requires few { depth ≤ 8 }
+    ensures { IfOk result (λ items. IsValueWithin names.now depth (list_value items)) }
+{
+    let count = words.number()?;
+    let mut items = Items::new(alloc);
+    for _ in 0..count {
+        items.push(value_within(words, alloc, names, depth - 1)?)?;
+    }
+    Ok(items)
+}
+
+/// A value behind `bare`, of at most this depth.
+#[cycle(value)]
+fn bare(words: &mut Words, alloc: Global, names: &Names, depth: u64) -> Result<Value, FieldFault>
+    requires { depth ≤ 8 }
+    ensures { IfOk result (IsValueWithin names.now depth) }
 {
     match words.text()? {
-        "bare" => Ok(Value::Bare(plain(words, alloc, names)?)),
+        "list" if depth > 0 => Ok(Value::Bare(Plain::Items(items(words, alloc, names, depth)?))),
+        word => Ok(Value::Bare(single(word, words, alloc, names)?)),
+    }
+}
+
+/// A value of at most this depth.
+#[cycle(value)]
+fn value_within(
+    words: &mut Words,
+    alloc: Global,
+    names: &Names,
+    depth: u64,
+) -> Result<Value, FieldFault>
+    requires { depth ≤ 8 }
+    ensures { IfOk result (IsValueWithin names.now depth) }
+{
+    match words.text()? {
+        "bare" => bare(words, alloc, names, depth),
         "sealed" => {
             let label = read_label(words, alloc, names)?;
             let content = Held::new(alloc, content(words, alloc, names)?)?;
@@ -189,9 +285,16 @@ pub fn read_value(words: &mut Words, alloc: Global, names: &Names) -> Result<Val
     }
 }
 
+/// A value.
+pub fn read_value(words: &mut Words, alloc: Global, names: &Names) -> Result<Value, FieldFault>
+    ensures { IfOk result (CanPrintValue names.now) }
+{
+    value_within(words, alloc, names, DEPTH)
+}
+
 /// A number, and so many values.
 pub(crate) fn values(words: &mut Words, alloc: Global, names: &Names) -> Result<Values, FieldFault>
-    ensures { IfOk result (All (IsValueNamed names.now)) }
+    ensures { IfOk result (All (CanPrintValue names.now)) }
 {
     let count = words.number()?;
     let mut values = List::new(alloc);

@@ -1,13 +1,17 @@
 -- What an observer sees of a first configuration goes by the sealed inputs with their contents hidden.
-use Rattle.std.proofs.Common.{◌≡◌, ◌∙◌, refl, sym, ap, ℕ, zero, suc, ◌+◌, Bool, true, false, IsTrue, List, [], ◌∷◌, ◌++◌, map, Option, Some, None, arith}
-use Rattle.std.specs.Prelude.{replicate}
+use Rattle.std.proofs.Common.{◌≡◌, ◌∙◌, refl, sym, ap, subst, ℕ, zero, suc, ◌+◌, Bool, true, false, IsTrue, List, [], ◌∷◌, ◌++◌, map, Option, Some, None, arith}
+use Rattle.std.specs.Prelude.{replicate, slice_index_or}
 use Rattle.std.proofs.Math.ListN.{get_or-map}
 use Rattle.std.proofs.lemmas.List.{map-append}
 use Rattle.lio_labels.specs.declared.label.Label.{Label}
 use Rattle.lio_labels.specs.Flow.{flows}
-use Rattle.lio_values.specs.declared.value.Plain.TheVariants.{Unit as unit}
+use Rattle.lio_values.specs.declared.value.Plain.TheVariants.{Unit as unit, Items}
 use Rattle.lio_values.specs.declared.value.Value.{Value}
 use Rattle.lio_values.specs.declared.value.Value.TheVariants.{Bare}
+use Rattle.lio_values.specs.Views.{forest_of}
+use Rattle.lio_values.specs.Forest.{Forest}
+use Rattle.lio_values.proofs.ErasureLemmas.{value_erased_twice}
+use Rattle.lio_values.proofs.ItemsLemmas.{erased-items}
 use Rattle.lio_values.specs.Erasure.{erase_content, erase_value}
 use Rattle.lio_syntax.specs.Statements.{Procedure}
 use Rattle.lio_cells.specs.declared.state.State.TheVariants.{Job}
@@ -23,10 +27,13 @@ use Rattle.lio_calculus.proofs.HidingLemmas.{bind_all-hidden}
 use Rattle.lio_calculus.proofs.ConfigLemmas.{erase_cell-hidden}
 use Rattle.lio_policy.specs.declared.policy.FileEntry.{FileEntry}
 use Rattle.lio_policy.specs.declared.policy.TaskEntry.{TaskEntry}
-use Rattle.lio_policy.specs.declared.policy.Arg.{Arg}
-use Rattle.lio_policy.specs.declared.policy.Arg.TheVariants.{Input, Fixed}
+use Rattle.lio_policy.specs.declared.policy.Arg.{Arg, map-Arg, roll-Arg}
+use Rattle.lio_policy.specs.declared.policy.Arg.TheVariants as arg
+use Rattle.lio_policy.specs.declared.policy.Arg.TheOpen.{Arg-F}
+use Rattle.lio_policy.specs.declared.policy.Arg.TheFolds.{ind-Arg}
 use Rattle.lio_start.specs.Fits.{procedure_of}
 use Rattle.lio_start.specs.Laws.{AreAlike, StartsLookAlike}
+use Rattle.lio_start.proofs.ArgumentLemmas.{argument-input, argument-fixed, argument-items}
 use Rattle.lio_start.specs.Start.{sealed_input, sealed_inputs, inputs_of, argument_of, task_of, channel_cell, job_cell, job_cells, cells_in_all, ranges_from, start_of}
 
 -- an input with its text, where the texts are the same or the label doesn't flow to the observer's
@@ -63,33 +70,63 @@ inputs-alike observer longest (input ∷ inputs) (one ∷ ones) (two ∷ twos) a
     input-alike observer longest input one two (alike-first observer input inputs one two ones twos alike) in
     λ i. first i ∷ inputs-alike observer longest inputs ones twos (alike-rest observer input inputs one two ones twos alike) i
 
--- arguments over hidden inputs
-argument-hidden : (observer : Label) (inputs : List Value) (argument : Arg) → argument_of (map (erase_value observer) inputs) argument ≡ erase_value observer (argument_of inputs argument)
-argument-hidden observer inputs (Input place) = get_or-map (erase_value observer) inputs place (Bare unit)
-argument-hidden observer inputs (Fixed plain) = refl
+-- arguments over hidden inputs look as they do over the inputs
+module _ (observer : Label) (inputs : List Value) where
+  abbrev hidden : List Value
+  hidden = map (erase_value observer) inputs
 
-arguments-hidden : (observer : Label) (inputs : List Value) (arguments : List Arg)
-    → map (argument_of (map (erase_value observer) inputs)) arguments ≡ map (erase_value observer) (map (argument_of inputs) arguments)
-arguments-hidden observer inputs [] = refl
-arguments-hidden observer inputs (argument ∷ arguments) = λ i. argument-hidden observer inputs argument i ∷ arguments-hidden observer inputs arguments i
+  abbrev LooksAlike : Arg → Type 0
+  LooksAlike argument = erase_value observer (argument_of hidden argument) ≡ erase_value observer (argument_of inputs argument)
 
--- a task over hidden inputs
+  each-hidden : (es : List ((a : Arg) × LooksAlike a))
+      → map (erase_value observer) (map (argument_of hidden) (map (λ e. e.0) es)) ≡ map (erase_value observer) (map (argument_of inputs) (map (λ e. e.0) es))
+  each-hidden [] = refl
+  each-hidden (e ∷ es) = λ i. e.1 i ∷ each-hidden es i
+
+  hidden-by : (y : Arg-F ((a : Arg) × LooksAlike a)) → LooksAlike (roll-Arg (map-Arg ((a : Arg) × LooksAlike a) Arg (λ e. e.0) y))
+  hidden-by (Arg-F.Input place) =
+      subst LooksAlike (sym (arg.rolls-Input place))
+      (ap (erase_value observer) (argument-input hidden place ∙ get_or-map (erase_value observer) inputs place (Bare unit))
+      ∙ value_erased_twice observer (slice_index_or inputs place (Bare unit)) ∙ ap (erase_value observer) (sym (argument-input inputs place)))
+  hidden-by (Arg-F.Fixed plain) =
+      subst LooksAlike (sym (arg.rolls-Fixed plain)) (ap (erase_value observer) (argument-fixed hidden plain ∙ sym (argument-fixed inputs plain)))
+  hidden-by (Arg-F.Items es) =
+      let args = map (λ e. e.0) es in
+      let ones = map (argument_of hidden) args in
+      let twos = map (argument_of inputs) args in
+      subst LooksAlike (sym (arg.rolls-Items args))
+      (ap (erase_value observer) (argument-items hidden args)
+      ∙ ap (λ (f : Forest). Bare (Items f)) (sym (erased-items observer ones))
+      ∙ ap (λ (vs : List Value). Bare (Items (forest_of vs))) (each-hidden es)
+      ∙ ap (λ (f : Forest). Bare (Items f)) (erased-items observer twos)
+      ∙ ap (erase_value observer) (sym (argument-items inputs args)))
+
+  argument-hidden : (argument : Arg) → LooksAlike argument
+  argument-hidden = ind-Arg LooksAlike (λ x y is. subst (λ z. LooksAlike (roll-Arg z)) is (hidden-by y))
+
+  arguments-hidden : (arguments : List Arg) → map (erase_value observer) (map (argument_of hidden) arguments) ≡ map (erase_value observer) (map (argument_of inputs) arguments)
+  arguments-hidden [] = refl
+  arguments-hidden (argument ∷ arguments) = λ i. argument-hidden argument i ∷ arguments-hidden arguments i
+
+-- a task over hidden inputs is hidden as it is over the inputs
 task-hidden : (observer : Label) (script : List Procedure) (inputs : List Value) (first : ℕ) (task : TaskEntry)
-    → task_of script (map (erase_value observer) inputs) first task ≡ hide_task observer (task_of script inputs first task)
+    → hide_task observer (task_of script (map (erase_value observer) inputs) first task) ≡ hide_task observer (task_of script inputs first task)
 unfolding task_of
 task-hidden observer script inputs first task =
-    let procedure : Option Procedure = procedure_of script task.proc_name in
-    let environment : bind_all [] (parameters_of procedure) (map (argument_of (map (erase_value observer) inputs)) task.args)
-    ≡ hide_environment observer (bind_all [] (parameters_of procedure) (map (argument_of inputs) task.args)) =
-    ap (bind_all [] (parameters_of procedure)) (arguments-hidden observer inputs task.args) ∙ bind_all-hidden observer [] (parameters_of procedure) (map (argument_of inputs) task.args) in
-    let items : enter (body_of procedure) [] ≡ map (hide_item observer) (enter (body_of procedure) []) = enter-hidden observer (body_of procedure) [] in
-    λ i. record { environment = environment i; items = items i; label = task.label; clearance = task.clearance; turns = task.turns; first = first; cells = task.cells; ended = false }
+    let parameters = parameters_of (procedure_of script task.proc_name) in
+    let items = map (hide_item observer) (enter (body_of (procedure_of script task.proc_name)) []) in
+    let ones = map (argument_of (map (erase_value observer) inputs)) task.args in
+    let twos = map (argument_of inputs) task.args in
+    let environment : hide_environment observer (bind_all [] parameters ones) ≡ hide_environment observer (bind_all [] parameters twos) =
+    sym (bind_all-hidden observer [] parameters ones) ∙ ap (bind_all [] parameters) (arguments-hidden observer inputs task.args) ∙ bind_all-hidden observer [] parameters twos in
+    λ i. record { environment = environment i; items = items; label = task.label; clearance = task.clearance; turns = task.turns; first = first; cells = task.cells; ended = false }
 
 -- jobs over hidden inputs look as they do over the inputs
 job-hidden : (observer : Label) (script : List Procedure) (inputs : List Value) (first : ℕ) (task : TaskEntry)
     → erase_cell observer (job_cell script (map (erase_value observer) inputs) first task) ≡ erase_cell observer (job_cell script inputs first task)
 job-hidden observer script inputs first task =
-    ap (λ (t : TaskState). erase_cell observer (record { state = Job task.clearance None; task = Some t })) (task-hidden observer script inputs first task)
+    sym (erase_cell-hidden observer (job_cell script (map (erase_value observer) inputs) first task))
+    ∙ ap (λ (t : TaskState). erase_cell observer (record { state = Job task.clearance None; task = Some t })) (task-hidden observer script inputs first task)
     ∙ erase_cell-hidden observer (job_cell script inputs first task)
 
 jobs-hidden : (observer : Label) (script : List Procedure) (inputs : List Value) (first : ℕ) (tasks : List TaskEntry)

@@ -1,6 +1,8 @@
 pub mod FitsLemmas
 pub mod PlaceLemmas
 pub mod LiteralLemmas
+pub mod ArgumentLemmas
+pub mod ShallowLemmas
 pub mod SoundLemmas
 pub mod WellFormedLemmas
 pub mod AlikeLemmas

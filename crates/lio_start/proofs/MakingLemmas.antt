@@ -18,12 +18,14 @@ use Rattle.lio_task_turns.specs.StateOf.{program_of}
 use Rattle.lio_config.specs.declared.config.Holder.{Holder}
 use Rattle.lio_config.specs.Configuration.{cell_of}
 use Rattle.lio_config.specs.Logs.{HaveNoLogs}
+use Rattle.lio_policy.proofs.PolicyLemmas.{limits_are_small}
 use Rattle.lio_policy.specs.Policy.{PolicyParts, IsPolicy}
 use Rattle.lio_policy.specs.declared.policy.FileEntry.{FileEntry}
 use Rattle.lio_policy.specs.declared.policy.TaskEntry.{TaskEntry}
 use Rattle.lio_start.specs.Fits.{Fits, fits}
 use Rattle.lio_start.specs.Start.{argument_of, cells_in_all, channel_cell, inputs_of, job_cell, job_cells, sealed_input, sealed_inputs, start_of, task_of}
-use Rattle.lio_start.specs.Making.{Adds, Bears, CanBegin, CanBeginAll}
+use Rattle.lio_start.specs.Making.{Adds, AreShallow, Bears, CanBegin, CanBeginAll}
+use Rattle.lio_start.proofs.ShallowLemmas.{policy-shallow}
 use Rattle.lio_start.proofs.FitsLemmas.{each_task_fits}
 
 -- one element between two lists
@@ -58,7 +60,7 @@ inputs-end longest i inputs texts values whole behind so_far =
     sym (ap (λ (ins : List FileEntry). values ++ sealed_inputs longest ins (drop i texts)) (drop_all i inputs behind) ∙ append-nil values) ∙ so_far
 
 -- a birth whose child is a task as it begins
-pub bears : (script : List Procedure) (inputs : List Value) (first number : ℕ) (entry : TaskEntry) (args : List Value) (result clearance : Label) → CanBegin script first entry
+pub bears : (script : List Procedure) (inputs : List Value) (first number : ℕ) (entry : TaskEntry) (args : List Value) (result clearance : Label) → CanBegin script inputs first entry
     → number_of script entry.proc_name ≡ Some number → number < length script → args ≡ map (argument_of inputs) entry.args → clearance ≡ entry.clearance
     → Bears script inputs first entry (record { proc_at = number; args = args; result = result; clearance = clearance; turns = entry.turns; first = first; cells = entry.cells })
 unfolding child_of task_of
@@ -122,26 +124,28 @@ pub cells-end : (tasks : List TaskEntry) (i : ℕ) → length tasks ≤ i → ce
 cells-end tasks i behind = ap cells_in_all (drop_all i tasks behind)
 
 -- of the tasks that are left the first can begin, and so can those behind it
-first-begins : (script : List Procedure) (first : ℕ) (task : TaskEntry) (tasks : List TaskEntry) → CanBeginAll script first (task ∷ tasks) → CanBegin script first task
-first-begins script first task tasks can = record {
+first-begins : (script : List Procedure) (inputs : List Value) (first : ℕ) (task : TaskEntry) (tasks : List TaskEntry) → CanBeginAll script inputs first (task ∷ tasks) → CanBegin script inputs first task
+first-begins script inputs first task tasks can = record {
   fits = All-head (Fits script) task tasks can.fits;
   range = omega (arith, can.range, sum_by-cons (λ (t : TaskEntry). t.cells) task tasks);
   cleared = All-head (λ (t : TaskEntry). IsTrue (flows t.label t.clearance)) task tasks can.cleared;
+  shallow = All-head (AreShallow inputs) task tasks can.shallow;
 }
 
-others-begin : (script : List Procedure) (first : ℕ) (task : TaskEntry) (tasks : List TaskEntry) → CanBeginAll script first (task ∷ tasks) → CanBeginAll script (first + task.cells) tasks
-others-begin script first task tasks can = record {
+others-begin : (script : List Procedure) (inputs : List Value) (first : ℕ) (task : TaskEntry) (tasks : List TaskEntry) → CanBeginAll script inputs first (task ∷ tasks) → CanBeginAll script inputs (first + task.cells) tasks
+others-begin script inputs first task tasks can = record {
   fits = All-tail (Fits script) task tasks can.fits;
   range = omega (arith, can.range, sum_by-cons (λ (t : TaskEntry). t.cells) task tasks);
   cleared = All-tail (λ (t : TaskEntry). IsTrue (flows t.label t.clearance)) task tasks can.cleared;
+  shallow = All-tail (AreShallow inputs) task tasks can.shallow;
 }
 
-pub begins-here : (script : List Procedure) (first i : ℕ) (tasks : List TaskEntry) (task : TaskEntry) → i < length tasks → task ≡ get_or tasks i task → CanBeginAll script first (drop i tasks) → CanBegin script first task
-begins-here script first i tasks task within is can = first-begins script first task (drop (i + 1) tasks) (subst (CanBeginAll script first) (drop_at tasks i task within is) can)
+pub begins-here : (script : List Procedure) (inputs : List Value) (first i : ℕ) (tasks : List TaskEntry) (task : TaskEntry) → i < length tasks → task ≡ get_or tasks i task → CanBeginAll script inputs first (drop i tasks) → CanBegin script inputs first task
+begins-here script inputs first i tasks task within is can = first-begins script inputs first task (drop (i + 1) tasks) (subst (CanBeginAll script inputs first) (drop_at tasks i task within is) can)
 
-pub begins-next : (script : List Procedure) (first i : ℕ) (tasks : List TaskEntry) (task : TaskEntry) → i < length tasks → task ≡ get_or tasks i task → CanBeginAll script first (drop i tasks)
-    → CanBeginAll script (first + task.cells) (drop (i + 1) tasks)
-begins-next script first i tasks task within is can = others-begin script first task (drop (i + 1) tasks) (subst (CanBeginAll script first) (drop_at tasks i task within is) can)
+pub begins-next : (script : List Procedure) (inputs : List Value) (first i : ℕ) (tasks : List TaskEntry) (task : TaskEntry) → i < length tasks → task ≡ get_or tasks i task → CanBeginAll script inputs first (drop i tasks)
+    → CanBeginAll script inputs (first + task.cells) (drop (i + 1) tasks)
+begins-next script inputs first i tasks task within is can = others-begin script inputs first task (drop (i + 1) tasks) (subst (CanBeginAll script inputs first) (drop_at tasks i task within is) can)
 
 -- one job more, and no more jobs
 pub jobs-next : (script : List Procedure) (inputs : List Value) (after : List Holder) (whole : List Cell) (first i : ℕ) (tasks : List TaskEntry) (task : TaskEntry) (holder : Holder) → i < length tasks → task ≡ get_or tasks i task
@@ -163,15 +167,17 @@ jobs-end script inputs after whole first i tasks behind so_far =
     sym (ap (λ (ts : List TaskEntry). map (cell_of script) after ++ job_cells script inputs first ts) (drop_all i tasks behind) ∙ append-nil (map (cell_of script) after)) ∙ so_far
 
 -- the tasks of a policy that fit a script can begin
-pub all-begin : (policy : PolicyParts) (script : List Procedure) (channels : List FileEntry) (tasks : List TaskEntry) → IsPolicy policy → fits policy.tasks script ≡ None → channels ≡ policy.channels → tasks ≡ policy.tasks
-    → CanBeginAll script (length channels + length tasks) tasks
-all-begin policy script channels tasks is none same_channels same_tasks =
-    let here : CanBeginAll script (length channels + length tasks) policy.tasks = record {
+pub all-begin : (policy : PolicyParts) (script : List Procedure) (texts : List (List ℕ)) (channels : List FileEntry) (tasks : List TaskEntry) → IsPolicy policy → fits policy.tasks script ≡ None → channels ≡ policy.channels → tasks ≡ policy.tasks
+    → CanBeginAll script (inputs_of policy texts) (length channels + length tasks) tasks
+all-begin policy script texts channels tasks is none same_channels same_tasks =
+    let small = limits_are_small policy.version in
+    let here : CanBeginAll script (inputs_of policy texts) (length channels + length tasks) policy.tasks = record {
       fits = (each_task_fits script policy.tasks).0 none;
-      range = omega (arith, is.limits.channels, is.limits.tasks, is.limits.cells, ap (length {A = FileEntry}) same_channels, ap (length {A = TaskEntry}) same_tasks);
+      range = omega (arith, small.entries, small.cells, is.limits.channels, is.limits.tasks, is.limits.cells, ap (length {A = FileEntry}) same_channels, ap (length {A = TaskEntry}) same_tasks);
       cleared = is.flow;
+      shallow = policy-shallow policy texts is;
     } in
-    subst (CanBeginAll script (length channels + length tasks)) (sym same_tasks) here
+    subst (CanBeginAll script (inputs_of policy texts) (length channels + length tasks)) (sym same_tasks) here
 
 -- the three parts of a first configuration
 pub started : (policy : PolicyParts) (script : List Procedure) (texts : List (List ℕ)) (longest count : ℕ) (channels : List FileEntry) (tasks : List TaskEntry) (inputs : List Value) (none with_channels with_jobs holders : List Holder)

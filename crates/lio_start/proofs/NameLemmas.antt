@@ -6,23 +6,26 @@ use Rattle.lio_labels.specs.declared.label.Label.{Label}
 use Rattle.lio_labels.specs.LabelPrint.{AreNamed}
 use Rattle.lio_values.specs.declared.value.Handle.{Handle}
 use Rattle.lio_values.specs.declared.value.Plain.{Plain}
-use Rattle.lio_values.specs.declared.value.Plain.TheVariants.{Unit as unit, Flag, Whole, Bytes, Lab, Power, RefOf, VarOf, ResultOf, ChanOf}
+use Rattle.lio_values.specs.declared.value.Plain.TheVariants.{Unit as unit, Flag, Whole, Bytes, Lab, Power, RefOf, VarOf, ResultOf, ChanOf, Items}
 use Rattle.lio_values.specs.declared.value.Value.{Value}
 use Rattle.lio_values.specs.declared.value.Value.TheVariants.{Bare, Sealed}
+use Rattle.lio_values.specs.Views.{forest_of}
+use Rattle.lio_values.specs.ForestText.{AreItemsNamed}
 use Rattle.lio_values.specs.PlainText.{IsPlainNamed}
-use Rattle.lio_events.specs.Named.{IsContentNamed, IsValueNamed}
+use Rattle.lio_values.specs.Named.{IsContentNamed, IsValueNamed}
 use Rattle.lio_syntax.specs.Statements.{Procedure}
 use Rattle.lio_syntax.specs.Beginnings.{number_of}
 use Rattle.lio_calculus.specs.Step.{Cell, cell_at, body_of, parameters_of}
 use Rattle.lio_calculus.proofs.Lists.{All-slice_get}
 use Rattle.lio_calculus.proofs.PlanEach.{bind_all-each}
-use Rattle.lio_policy.specs.Policy.{PolicyParts, IsFixed, IsArgument, IsPolicy}
+use Rattle.lio_policy.specs.Policy.{PolicyParts, IsFixed, IsSingle, IsArgument, IsPolicy}
 use Rattle.lio_policy.specs.declared.policy.FileEntry.{FileEntry}
 use Rattle.lio_policy.specs.declared.policy.TaskEntry.{TaskEntry}
 use Rattle.lio_policy.specs.declared.policy.Arg.{Arg}
-use Rattle.lio_policy.specs.declared.policy.Arg.TheVariants.{Input, Fixed}
 use Rattle.lio_start.specs.Fits.{procedure_of}
 use Rattle.lio_start.specs.Start.{content_by, input_content, sealed_inputs, inputs_of, argument_of, task_of, start_of}
+use Rattle.lio_start.proofs.SoundLemmas.{start-pure}
+use Rattle.lio_start.proofs.ArgumentLemmas.{arguments-have}
 use Rattle.lio_start.proofs.PlaceLemmas.{Stands, Channel as channel, Task as job, Nothing as nothing, stands, begun}
 use Rattle.lio_calculus_names.specs.Script.{IsScriptNamed}
 use Rattle.lio_calculus_names.specs.Configuration.{IsTaskNamed, IsStateNamed}
@@ -75,17 +78,16 @@ fixed_named policy (RefOf handle) is fixed = absurd fixed
 fixed_named policy (VarOf handle) is fixed = absurd fixed
 fixed_named policy (ResultOf handle) is fixed = absurd fixed
 fixed_named policy (ChanOf handle) is fixed = channel_named policy handle is.labels.channels fixed
+fixed_named policy (Items items) is fixed = absurd fixed
+
+items_named : (names : List (List ℕ)) (values : List Value) → All (IsValueNamed names) values → AreItemsNamed names (forest_of values)
+items_named names [] all = tt
+items_named names (value ∷ values) all = (All-head (IsValueNamed names) value values all, items_named names values (All-tail (IsValueNamed names) value values all))
 
 arguments_named : (policy : PolicyParts) (inputs : List Value) (arguments : List Arg) → IsPolicy policy → All (IsValueNamed policy.names) inputs → All (IsArgument policy) arguments
     → All (IsValueNamed policy.names) (map (argument_of inputs) arguments)
-arguments_named policy inputs [] is all are = All-nil (IsValueNamed policy.names)
-arguments_named policy inputs (argument ∷ arguments) is all are =
-    All-cons (IsValueNamed policy.names) (argument_of inputs argument) (map (argument_of inputs) arguments) (by argument (All-head (IsArgument policy) argument arguments are))
-    (arguments_named policy inputs arguments is all (All-tail (IsArgument policy) argument arguments are))
-  where
-    by : (a : Arg) → IsArgument policy a → IsValueNamed policy.names (argument_of inputs a)
-    by (Input place) within = input_named policy.names inputs place all
-    by (Fixed plain) fixed = fixed_named policy plain is fixed
+arguments_named policy inputs arguments is all are =
+    arguments-have (IsSingle policy) (IsValueNamed policy.names) inputs (λ place within. input_named policy.names inputs place all) (λ plain fixed. fixed_named policy plain is fixed) (items_named policy.names) arguments are
 
 -- a task as it begins
 task_named : (policy : PolicyParts) (script : List Procedure) (texts : List (List ℕ)) (first place : ℕ) (entry : TaskEntry) → IsPolicy policy → IsScriptNamed policy.names script → slice_get policy.tasks place ≡ Some entry
@@ -126,6 +128,7 @@ start_names_only policy script texts is over =
       tasks = λ k task i. let b = begun policy script texts k task i in subst (IsTaskNamed policy.names) b.is (task_named policy script texts _ b.job.place b.job.entry is said b.job.is);
       nodes = λ n. node_named policy script texts n is;
       program = subst (IsScriptNamed policy.names) (sym (procedures_are policy script texts)) said;
+      pure = start-pure policy script texts is;
     }
 
 pub runs_are_printable : RunsArePrintable

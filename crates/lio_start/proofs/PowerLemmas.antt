@@ -5,28 +5,32 @@ use Rattle.std.specs.List.{Contains, flat_map}
 use Rattle.std.proofs.lemmas.List.Elements.{All-nil, All-head, All-tail, All-cons, Contains-append_left, Contains-append_right}
 use Rattle.lio_labels.specs.declared.label.Label.{Label}
 use Rattle.lio_labels.specs.declared.privilege.Priv.{Priv}
+use Rattle.lio_values.specs.Views.{forest_of}
 use Rattle.lio_values.specs.declared.value.Plain.{Plain}
-use Rattle.lio_values.specs.declared.value.Plain.TheVariants.{Unit as unit, Power}
+use Rattle.lio_values.specs.declared.value.Plain.TheVariants.{Unit as unit, Power, Items}
 use Rattle.lio_values.specs.declared.value.Value.{Value}
 use Rattle.lio_values.specs.declared.value.Value.TheVariants.{Bare, Sealed}
 use Rattle.lio_syntax.specs.Statements.{Procedure}
 use Rattle.lio_task_control.specs.declared.binding.Binding.{Binding}
 use Rattle.lio_calculus.specs.Step.{Cell, cell_at, body_of, parameters_of}
 use Rattle.lio_calculus.specs.Sound.{EachInItem, EachInTask, EachInState}
-use Rattle.lio_calculus.specs.Powers.{PlainIsAmong, ContentIsAmong, ValueIsAmong, PowersAreAmong}
+use Rattle.lio_calculus.proofs.Lists.{All-slice_get}
+use Rattle.lio_calculus.specs.Powers.{ItemsAreAmong, PlainIsAmong, ContentIsAmong, ValueIsAmong, PowersAreAmong}
 use Rattle.lio_calculus.proofs.PlanEach.{bind_all-each}
 use Rattle.lio_calculus.proofs.PlacesKept.{enter-all}
-use Rattle.lio_policy.specs.Policy.{PolicyParts}
+use Rattle.lio_policy.specs.Lists.{singles}
+use Rattle.lio_policy.specs.Policy.{PolicyParts, IsSingle, IsArgument, IsPolicy}
 use Rattle.lio_policy.specs.declared.policy.FileEntry.{FileEntry}
 use Rattle.lio_policy.specs.declared.policy.TaskEntry.{TaskEntry}
 use Rattle.lio_policy.specs.declared.policy.Arg.{Arg}
-use Rattle.lio_policy.specs.declared.policy.Arg.TheVariants.{Input, Fixed}
+use Rattle.lio_policy.specs.declared.policy.Arg.TheVariants.{Fixed}
 use Rattle.lio_start.specs.Fits.{procedure_of}
 use Rattle.lio_start.specs.Start.{content_by, input_content, sealed_inputs, inputs_of, argument_of, task_of, start_of}
 use Rattle.lio_start.proofs.PlaceLemmas.{Stands, Channel as channel, Task as job, Nothing as nothing, stands, begun}
 use Rattle.lio_calculus_names.proofs.PowerLaws.{run_releases_by_powers}
 use Rattle.lio_start.specs.Laws.{ReleasesAreOfPolicy}
-use Rattle.lio_start.specs.Powers.{power_in, task_powers, powers_of}
+use Rattle.lio_start.proofs.ArgumentLemmas.{arguments-have}
+use Rattle.lio_start.specs.Powers.{power_of, power_in, task_powers, powers_of}
 use Rattle.lio_start.proofs.LawLemmas.{start_is_sound}
 
 -- what one element of a list gives is among what all of them give
@@ -56,33 +60,51 @@ placed-among powers [] place all = tt
 placed-among powers (value ∷ inputs) zero all = All-head (ValueIsAmong powers) value inputs all
 placed-among powers (value ∷ inputs) (suc place) all = placed-among powers inputs place (All-tail (ValueIsAmong powers) value inputs all)
 
+-- each privilege that stands in an argument is one of these
+abbrev Given : PolicyParts → List Priv → Arg → Type 0
+Given policy powers single = IsSingle policy single × ((power : Priv) → Contains (power_of single) power → Contains powers power)
+
 -- a value of the policy, if it is a privilege, is one that the argument is
-plain-among : (powers : List Priv) (plain : Plain) → ((power : Priv) → Contains (power_in (Fixed plain)) power → Contains powers power) → PlainIsAmong powers plain
-plain-among powers (Power power) within = within power (0, omega arith, refl)
-plain-among powers plain within = tt
+plain-among : (policy : PolicyParts) (powers : List Priv) (plain : Plain) → Given policy powers (Fixed plain) → PlainIsAmong powers plain
+plain-among policy powers (Power power) given = given.1 power (0, omega arith, refl)
+plain-among policy powers (Items items) given = absurd given.0
+plain-among policy powers plain given = tt
 
-argument-among : (powers : List Priv) (inputs : List Value) → All (ValueIsAmong powers) inputs → (argument : Arg) → ((power : Priv) → Contains (power_in argument) power → Contains powers power) → ValueIsAmong powers (argument_of inputs argument)
-argument-among powers inputs all (Input place) within = placed-among powers inputs place all
-argument-among powers inputs all (Fixed plain) within = plain-among powers plain within
+items-among : (powers : List Priv) (values : List Value) → All (ValueIsAmong powers) values → ItemsAreAmong powers (forest_of values)
+items-among powers [] all = tt
+items-among powers (value ∷ values) all = (All-head (ValueIsAmong powers) value values all, items-among powers values (All-tail (ValueIsAmong powers) value values all))
 
-arguments-among : (powers : List Priv) (inputs : List Value) → All (ValueIsAmong powers) inputs → (arguments : List Arg) → ((power : Priv) → Contains (flat_map power_in arguments) power → Contains powers power)
-    → All (ValueIsAmong powers) (map (argument_of inputs) arguments)
-arguments-among powers inputs all [] within = All-nil (ValueIsAmong powers)
-arguments-among powers inputs all (argument ∷ arguments) within =
-    All-cons (ValueIsAmong powers) (argument_of inputs argument) (map (argument_of inputs) arguments)
-    (argument-among powers inputs all argument (λ power has. within power (Contains-append_left (power_in argument) (flat_map power_in arguments) power has)))
-    (arguments-among powers inputs all arguments (λ power has. within power (Contains-append_right (power_in argument) (flat_map power_in arguments) power has)))
+singles-given : (policy : PolicyParts) (powers : List Priv) (args : List Arg) → All (IsSingle policy) args → ((power : Priv) → Contains (flat_map power_of args) power → Contains powers power) → All (Given policy powers) args
+singles-given policy powers [] are within = All-nil (Given policy powers)
+singles-given policy powers (a ∷ args) are within =
+    All-cons (Given policy powers) a args (All-head (IsSingle policy) a args are, λ power has. within power (Contains-append_left (power_of a) (flat_map power_of args) power has))
+    (singles-given policy powers args (All-tail (IsSingle policy) a args are) (λ power has. within power (Contains-append_right (power_of a) (flat_map power_of args) power has)))
+
+all-given : (policy : PolicyParts) (powers : List Priv) (arguments : List Arg) → All (IsArgument policy) arguments → ((power : Priv) → Contains (flat_map power_in arguments) power → Contains powers power)
+    → All (λ a. All (Given policy powers) (singles a)) arguments
+all-given policy powers [] are within = All-nil (λ a. All (Given policy powers) (singles a))
+all-given policy powers (a ∷ arguments) are within =
+    All-cons (λ a. All (Given policy powers) (singles a)) a arguments
+    (singles-given policy powers (singles a) (All-head (IsArgument policy) a arguments are) (λ power has. within power (Contains-append_left (power_in a) (flat_map power_in arguments) power has)))
+    (all-given policy powers arguments (All-tail (IsArgument policy) a arguments are) (λ power has. within power (Contains-append_right (power_in a) (flat_map power_in arguments) power has)))
+
+arguments-among : (policy : PolicyParts) (powers : List Priv) (inputs : List Value) → All (ValueIsAmong powers) inputs → (arguments : List Arg) → All (IsArgument policy) arguments
+    → ((power : Priv) → Contains (flat_map power_in arguments) power → Contains powers power) → All (ValueIsAmong powers) (map (argument_of inputs) arguments)
+arguments-among policy powers inputs all arguments are within =
+    arguments-have (Given policy powers) (ValueIsAmong powers) inputs (λ place given. placed-among powers inputs place all) (plain-among policy powers) (items-among powers) arguments
+    (all-given policy powers arguments are within)
 
 -- a task as it begins
-task-among : (policy : PolicyParts) (script : List Procedure) (texts : List (List ℕ)) (first place : ℕ) (entry : TaskEntry) → slice_get policy.tasks place ≡ Some entry
+task-among : (policy : PolicyParts) (script : List Procedure) (texts : List (List ℕ)) (first place : ℕ) (entry : TaskEntry) → IsPolicy policy → slice_get policy.tasks place ≡ Some entry
     → EachInTask (ValueIsAmong (powers_of policy)) (task_of script (inputs_of policy texts) first entry)
 unfolding task_of
-task-among policy script texts first place entry e =
+task-among policy script texts first place entry is e =
     let P : Value → Type 0 = ValueIsAmong (powers_of policy) in
     let procedure = procedure_of script entry.proc_name in
     record {
       environment = bind_all-each P [] (parameters_of procedure) (map (argument_of (inputs_of policy texts)) entry.args) (All-nil (λ (b : Binding). P b.value))
-          (arguments-among (powers_of policy) (inputs_of policy texts) (inputs-among (powers_of policy) policy.longest policy.inputs texts) entry.args
+          (arguments-among policy (powers_of policy) (inputs_of policy texts) (inputs-among (powers_of policy) policy.longest policy.inputs texts) entry.args
+          (All-slice_get (λ (t : TaskEntry). All (IsArgument policy) t.args) policy.tasks place entry is.arguments e)
           (λ power has. flat_map-has task_powers policy.tasks place entry power e has));
       items = enter-all (EachInItem P) (λ s. tt) (body_of procedure) [] (All-nil (EachInItem P));
     }
@@ -99,14 +121,14 @@ node-among powers policy script texts n = by (stands policy script texts n)
     by (job is) = subst (λ (cell : Cell). EachInState P cell.state) (sym is.cell) tt
     by (nothing is) = subst (λ (cell : Cell). EachInState P cell.state) (sym is) tt
 
-pub start-among : (policy : PolicyParts) (script : List Procedure) (texts : List (List ℕ)) → PowersAreAmong (powers_of policy) (start_of policy script texts)
-start-among policy script texts = record {
-  tasks = λ k task is. let b = begun policy script texts k task is in
-      subst (EachInTask (ValueIsAmong (powers_of policy))) b.is (task-among policy script texts _ b.job.place b.job.entry b.job.is);
+pub start-among : (policy : PolicyParts) (script : List Procedure) (texts : List (List ℕ)) → IsPolicy policy → PowersAreAmong (powers_of policy) (start_of policy script texts)
+start-among policy script texts is = record {
+  tasks = λ k task i. let b = begun policy script texts k task i in
+      subst (EachInTask (ValueIsAmong (powers_of policy))) b.is (task-among policy script texts _ b.job.place b.job.entry is b.job.is);
   nodes = node-among (powers_of policy) policy script texts;
 }
 
 -- so each release is by one of them
 pub releases_are_of_policy : ReleasesAreOfPolicy
 releases_are_of_policy policy script texts ticket ks ran is said runs =
-    run_releases_by_powers (powers_of policy) ticket _ ks ran (start_is_sound policy script texts is said) (start-among policy script texts) runs
+    run_releases_by_powers (powers_of policy) ticket _ ks ran (start_is_sound policy script texts is said) (start-among policy script texts is) runs

@@ -11,8 +11,11 @@ use Rattle.lio_labels.specs.Flow.{flows}
 use Rattle.lio_labels.proofs.FlowLemmas.{flow_is_reflexive}
 use Rattle.lio_values.specs.declared.value.Handle.{Handle}
 use Rattle.lio_values.specs.declared.value.Plain.{Plain}
-use Rattle.lio_values.specs.declared.value.Plain.TheVariants.{Unit as unit, Flag, Whole, Bytes, Lab, Power, RefOf, VarOf, ResultOf, ChanOf}
-use Rattle.lio_values.specs.declared.value.Content.TheVariants.{Hidden}
+use Rattle.lio_values.specs.declared.value.Plain.TheVariants.{Unit as unit, Flag, Whole, Bytes, Lab, Power, RefOf, VarOf, ResultOf, ChanOf, Items}
+use Rattle.lio_values.specs.Forest.{Forest}
+use Rattle.lio_values.specs.Measures.{value_size}
+use Rattle.lio_values.specs.Purity.{KeepsPure}
+use Rattle.lio_values.specs.Views.{forest_of, values_of, values_of-forest_of}
 use Rattle.lio_values.specs.declared.value.Value.{Value}
 use Rattle.lio_values.specs.declared.value.Value.TheVariants.{Bare, Sealed}
 use Rattle.lio_syntax.specs.Statements.{Procedure}
@@ -22,20 +25,30 @@ use Rattle.lio_task_control.specs.Environment.{bind_all}
 use Rattle.lio_task_control.specs.Items.{enter, open_calls}
 use Rattle.lio_calculus.specs.Task.{TaskState}
 use Rattle.lio_calculus.specs.Step.{Cell, Configuration, blank, cell_at, is_named, body_of, parameters_of}
-use Rattle.lio_calculus.specs.Sound.{Names, ContentNames, ValueNames, IsOpen, EachBound, EachInItem, EachInState, IsNoAccess, block_says, IsTaskOf, IsInRange}
+use Rattle.lio_calculus.specs.Sound.{Names, ContentNames, ValueNames, IsOpen, EachBound, EachInItem, EachInTask, EachInState, IsNoAccess, block_says, IsTaskOf, IsInRange}
 use Rattle.lio_calculus.proofs.Lists.{All-slice_get}
+use Rattle.lio_calculus.specs.Purity.{ContentsArePure}
+use Rattle.lio_calculus.proofs.PurityLemmas.{pure-closed}
+use Rattle.lio_calculus.proofs.Closed.{names-closed, open-closed}
 use Rattle.lio_calculus.proofs.PlanEach.{bind_all-each}
 use Rattle.lio_calculus.proofs.PlacesKept.{enter-all, enter-says, enter-calls}
 use Rattle.lio_calculus.proofs.GoneKept.{none-raised}
 use Rattle.lio_calculus.proofs.SoundAfter.{Fine}
-use Rattle.lio_policy.specs.Policy.{PolicyParts, IsFixed, IsArgument, IsPolicy}
+use Rattle.lio_policy.proofs.PolicyLemmas.{limits_are_small}
+use Rattle.lio_policy.specs.Lists.{extent}
+use Rattle.lio_policy.specs.Policy.{PolicyParts, IsFixed, IsSingle, IsArgument, IsSmallArgument, IsPolicy}
+use Rattle.lio_policy.proofs.ArgumentLemmas.{singles-fixed, extent-items}
 use Rattle.lio_policy.specs.declared.policy.FileEntry.{FileEntry}
 use Rattle.lio_policy.specs.declared.policy.TaskEntry.{TaskEntry}
-use Rattle.lio_policy.specs.declared.policy.Arg.{Arg}
-use Rattle.lio_policy.specs.declared.policy.Arg.TheVariants.{Input, Fixed}
+use Rattle.lio_policy.specs.declared.policy.Arg.{Arg, roll-Arg}
+use Rattle.lio_policy.specs.declared.policy.Arg.TheVariants as arg
+use Rattle.lio_policy.specs.declared.policy.Arg.TheOpen.{Arg-F}
+use Rattle.lio_policy.specs.declared.policy.Arg.TheFolds.{ind-Arg}
 use Rattle.lio_start.specs.Fits.{procedure_of, Fits}
 use Rattle.lio_start.specs.Laws.{SaysLiterals, StartIsSound, IsShort, TextsAreShort, Begins, EachTaskBegins}
 use Rattle.lio_start.specs.Start.{content_by, input_content, sealed_inputs, inputs_of, argument_of, task_of, channel_cell, job_cell, ranges_from, start_of}
+use Rattle.lio_start.proofs.ArgumentLemmas.{argument-input, argument-fixed, argument-items, arguments-have}
+use Rattle.lio_start.proofs.ShallowLemmas.{argument-fits}
 use Rattle.lio_start.proofs.FitsLemmas.{each_task_fits}
 use Rattle.lio_start.proofs.PlaceLemmas.{cells_before, before-later, before-all, channel-at, job-at, nothing-behind, length-start, Stands, Channel as channel, Task as job, Nothing as nothing, stands, IsBegun, begun}
 
@@ -52,19 +65,13 @@ input-each P p [] place all = p
 input-each P p (value ∷ inputs) zero all = All-head P value inputs all
 input-each P p (value ∷ inputs) (suc place) all = input-each P p inputs place (All-tail P value inputs all)
 
-argument-each : (P : Value → Type 0) (policy : PolicyParts) → P (Bare unit) → ((plain : Plain) → IsFixed policy plain → P (Bare plain)) → (inputs : List Value) → All P inputs
-    → (argument : Arg) → IsArgument policy argument → P (argument_of inputs argument)
-argument-each P policy p fixed inputs all (Input place) is = input-each P p inputs place all
-argument-each P policy p fixed inputs all (Fixed plain) is = fixed plain is
+arguments-each : (P : Value → Type 0) (policy : PolicyParts) → P (Bare unit) → ((plain : Plain) → IsFixed policy plain → P (Bare plain)) → ((items : Forest) → All P (values_of items) → P (Bare (Items items)))
+    → (inputs : List Value) → All P inputs → (arguments : List Arg) → All (IsArgument policy) arguments → All P (map (argument_of inputs) arguments)
+arguments-each P policy p fixed list inputs all arguments are =
+    arguments-have (IsSingle policy) P inputs (λ place within. input-each P p inputs place all) fixed
+    (λ values each. list (forest_of values) (subst (All P) (sym (values_of-forest_of values)) each)) arguments are
 
-arguments-each : (P : Value → Type 0) (policy : PolicyParts) → P (Bare unit) → ((plain : Plain) → IsFixed policy plain → P (Bare plain)) → (inputs : List Value) → All P inputs
-    → (arguments : List Arg) → All (IsArgument policy) arguments → All P (map (argument_of inputs) arguments)
-arguments-each P policy p fixed inputs all [] are = All-nil P
-arguments-each P policy p fixed inputs all (argument ∷ arguments) are =
-    All-cons P (argument_of inputs argument) (map (argument_of inputs) arguments) (argument-each P policy p fixed inputs all argument (All-head (IsArgument policy) argument arguments are))
-    (arguments-each P policy p fixed inputs all arguments (All-tail (IsArgument policy) argument arguments are))
-
--- an input's content holds no handle, and isn't hidden
+-- an input's content holds no handle, isn't hidden, and keeps a text, which is pure
 content-names : (c : Configuration) (longest : ℕ) (label : Label) (text : List ℕ) → ContentNames c (input_content longest label text)
 content-names c longest label text = by (nat_le (length text) longest)
   where
@@ -72,12 +79,26 @@ content-names c longest label text = by (nat_le (length text) longest)
     by true = tt
     by false = tt
 
-content-open : (longest : ℕ) (label : Label) (text : List ℕ) → input_content longest label text ≡ Hidden → ⊥
+content-open : (longest : ℕ) (label : Label) (text : List ℕ) → IsOpen (Sealed label (input_content longest label text))
 content-open longest label text = by (nat_le (length text) longest)
   where
-    by : (b : Bool) → content_by b label text ≡ Hidden → ⊥
-    by true e = absurd (cc)
-    by false e = absurd (cc)
+    by : (b : Bool) → IsOpen (Sealed label (content_by b label text))
+    by true = refl
+    by false = tt
+
+-- a value of the policy is no list
+fixed-open : (policy : PolicyParts) (plain : Plain) → IsFixed policy plain → IsOpen (Bare plain)
+fixed-open policy unit is = tt
+fixed-open policy (Flag flag) is = tt
+fixed-open policy (Whole number) is = tt
+fixed-open policy (Bytes text) is = tt
+fixed-open policy (Lab label) is = tt
+fixed-open policy (Power power) is = tt
+fixed-open policy (RefOf handle) is = absurd is
+fixed-open policy (VarOf handle) is = absurd is
+fixed-open policy (ResultOf handle) is = absurd is
+fixed-open policy (ChanOf handle) is = tt
+fixed-open policy (Items items) is = absurd is
 
 -- labels are the same as themselves
 same_label-refl : (label : Label) → same_label label label ≡ true
@@ -112,6 +133,7 @@ fixed-names policy script inputs (RefOf handle) is = absurd is
 fixed-names policy script inputs (VarOf handle) is = absurd is
 fixed-names policy script inputs (ResultOf handle) is = absurd is
 fixed-names policy script inputs (ChanOf handle) is = channel-named policy script inputs handle is
+fixed-names policy script inputs (Items items) is = absurd is
 
 -- the body of a procedure that is there
 body-says : (script : List Procedure) (name : List ℕ) → SaysLiterals script → IsTrue (block_says (body_of (procedure_of script name)))
@@ -126,6 +148,43 @@ body-says script name said = by_number (number_of script name)
     by_number None = refl
     by_number (Some n) = by_procedure n (slice_get script n) refl
 
+-- a value of the policy is no list, and so keeps nothing
+fixed-pure : (policy : PolicyParts) (plain : Plain) → IsFixed policy plain → KeepsPure (Bare plain)
+fixed-pure policy unit is = tt
+fixed-pure policy (Flag flag) is = tt
+fixed-pure policy (Whole number) is = tt
+fixed-pure policy (Bytes text) is = tt
+fixed-pure policy (Lab label) is = tt
+fixed-pure policy (Power power) is = tt
+fixed-pure policy (RefOf handle) is = absurd is
+fixed-pure policy (VarOf handle) is = absurd is
+fixed-pure policy (ResultOf handle) is = absurd is
+fixed-pure policy (ChanOf handle) is = tt
+fixed-pure policy (Items items) is = absurd is
+
+content-pure : (longest : ℕ) (label : Label) (text : List ℕ) → KeepsPure (Sealed label (input_content longest label text))
+content-pure longest label text = by (nat_le (length text) longest)
+  where
+    by : (b : Bool) → KeepsPure (Sealed label (content_by b label text))
+    by true = refl
+    by false = tt
+
+-- a property of the values in a task as it begins
+module _ (P : Value → Type 0) (policy : PolicyParts) (nothing_has : P (Bare unit)) (fixed : (plain : Plain) → IsFixed policy plain → P (Bare plain))
+    (list : (items : Forest) → All P (values_of items) → P (Bare (Items items))) (content : (label : Label) (text : List ℕ) → P (Sealed label (input_content policy.longest label text))) where
+  task-each : (script : List Procedure) (texts : List (List ℕ)) (first place : ℕ) (entry : TaskEntry) → IsPolicy policy → slice_get policy.tasks place ≡ Some entry
+      → EachInTask P (task_of script (inputs_of policy texts) first entry)
+  unfolding task_of
+  task-each script texts first place entry is e =
+      let procedure : Option Procedure = procedure_of script entry.proc_name in
+      let values : List Value = inputs_of policy texts in
+      record {
+        environment = bind_all-each P [] (parameters_of procedure) (map (argument_of values) entry.args) (All-nil _)
+            (arguments-each P policy nothing_has fixed list values (inputs-each P policy.longest content policy.inputs texts) entry.args
+            (All-slice_get (λ (t : TaskEntry). All (IsArgument policy) t.args) policy.tasks place entry is.arguments e));
+        items = enter-all (EachInItem P) (λ s. tt) (body_of procedure) [] (All-nil _);
+      }
+
 -- each task is as a sound configuration has it
 task-fine : (policy : PolicyParts) (script : List Procedure) (inputs : List (List ℕ)) (place : ℕ) (entry : TaskEntry) → IsPolicy policy → SaysLiterals script → slice_get policy.tasks place ≡ Some entry
     → Fine (start_of policy script inputs) (job_cell script (inputs_of policy inputs) (ranges_from policy + cells_before policy.tasks place) entry).state
@@ -135,25 +194,17 @@ task-fine policy script inputs place entry is said e =
     let c : Configuration = start_of policy script inputs in
     let procedure : Option Procedure = procedure_of script entry.proc_name in
     let values : List Value = inputs_of policy inputs in
-    let arguments : All (IsArgument policy) entry.args = All-slice_get (λ (t : TaskEntry). All (IsArgument policy) t.args) policy.tasks place entry is.arguments e in
+    let first : ℕ = ranges_from policy + cells_before policy.tasks place in
     record {
       range = omega (arith, before-all policy.tasks place entry e, length-start policy script inputs);
-      names = record {
-        environment = bind_all-each (ValueNames c) [] (parameters_of procedure) (map (argument_of values) entry.args) (All-nil _)
-            (arguments-each (ValueNames c) policy tt (fixed-names policy script inputs) values (inputs-each (ValueNames c) policy.longest (content-names c policy.longest) policy.inputs inputs) entry.args arguments);
-        items = enter-all (EachInItem (ValueNames c)) (λ s. tt) (body_of procedure) [] (All-nil _);
-      };
+      names = task-each (ValueNames c) policy tt (fixed-names policy script inputs) (names-closed c).list (content-names c policy.longest) script inputs first place entry is e;
       clearance = All-slice_get (λ (t : TaskEntry). IsTrue (flows t.label t.clearance)) policy.tasks place entry is.flow e;
       result = λ label f. let same : entry.clearance ≡ label = cc in subst (λ (x : Label). IsTrue (flows entry.clearance x)) same (flow_is_reflexive entry.clearance);
       ended = refl;
       accesses = none-raised (task_of script values (ranges_from policy + cells_before policy.tasks place) entry) (enter-all IsNoAccess (λ s. tt) (body_of procedure) [] (All-nil _));
       literals = enter-says (body_of procedure) [] (body-says script entry.proc_name said) (All-nil _);
       calls = omega (arith, enter-calls (body_of procedure) []);
-      shown = record {
-        environment = bind_all-each IsOpen [] (parameters_of procedure) (map (argument_of values) entry.args) (All-nil _)
-            (arguments-each IsOpen policy tt (λ plain fixed. tt) values (inputs-each IsOpen policy.longest (content-open policy.longest) policy.inputs inputs) entry.args arguments);
-        items = enter-all (EachInItem IsOpen) (λ s. tt) (body_of procedure) [] (All-nil _);
-      };
+      shown = task-each IsOpen policy tt (fixed-open policy) open-closed.list (content-open policy.longest) script inputs first place entry is e;
     }
 
 -- a task that stands at a number, with its range
@@ -226,6 +277,7 @@ procedures-are policy script inputs = refl
 pub start_is_sound : StartIsSound
 start_is_sound policy script inputs is said =
     let c : Configuration = start_of policy script inputs in
+    let small = limits_are_small policy.version in
     let fine = λ (k : ℕ) (task : TaskState) (i : IsTaskOf c k task). begun-fine policy script inputs k task is said (begun policy script inputs k task i) in
     record {
       jobs = jobs-tasks policy script inputs;
@@ -243,8 +295,17 @@ start_is_sound policy script inputs is said =
       program = subst SaysLiterals (sym (procedures-are policy script inputs)) said;
       shown = λ k task i. (fine k task i).shown;
       node_shown = node-each IsOpen policy script inputs;
-      few = omega (arith, length-start policy script inputs, is.limits.channels, is.limits.tasks, is.limits.cells);
+      few = omega (arith, length-start policy script inputs, small.entries, small.cells, is.limits.channels, is.limits.tasks, is.limits.cells);
     }
+
+-- the contents in it are pure
+pub start-pure : (policy : PolicyParts) (script : List Procedure) (inputs : List (List ℕ)) → IsPolicy policy → ContentsArePure (start_of policy script inputs)
+start-pure policy script inputs is = record {
+  tasks = λ k task i.
+      let b = begun policy script inputs k task i in
+      subst (EachInTask KeepsPure) b.is (task-each KeepsPure policy tt (fixed-pure policy) pure-closed.list (content-pure policy.longest) script inputs _ b.job.place b.job.entry is b.job.is);
+  nodes = node-each KeepsPure policy script inputs;
+}
 
 -- no task begins with a text that is too long
 input-short : (longest : ℕ) (label : Label) (text : List ℕ) → IsShort longest (Sealed label (input_content longest label text))
@@ -265,14 +326,45 @@ fixed-short policy (RefOf handle) is = tt
 fixed-short policy (VarOf handle) is = tt
 fixed-short policy (ResultOf handle) is = tt
 fixed-short policy (ChanOf handle) is = tt
+fixed-short policy (Items items) is = absurd is
+
+-- an argument of a task
+module _ (policy : PolicyParts) (texts : List (List ℕ)) where
+  abbrev IsAllowed : Arg → Type 0
+  IsAllowed a = IsArgument policy a → IsSmallArgument policy a → IsShort policy.longest (argument_of (inputs_of policy texts) a)
+
+  short-by : (x : Arg-F Arg) → IsAllowed (roll-Arg x)
+  short-by (Arg-F.Input place) =
+      subst IsAllowed (sym (arg.rolls-Input place)) (λ is small. subst (IsShort policy.longest) (sym (argument-input (inputs_of policy texts) place))
+      (input-each (IsShort policy.longest) tt (inputs_of policy texts) place (inputs-each (IsShort policy.longest) policy.longest (input-short policy.longest) policy.inputs texts)))
+  short-by (Arg-F.Fixed plain) =
+      subst IsAllowed (sym (arg.rolls-Fixed plain)) (λ is small. subst (IsShort policy.longest) (sym (argument-fixed (inputs_of policy texts) plain))
+      (fixed-short policy plain (All-head (IsSingle policy) (arg.Fixed plain) [] (subst (All (IsSingle policy)) (singles-fixed plain) is))))
+  short-by (Arg-F.Items args) =
+      let is_list = argument-items (inputs_of policy texts) args in
+      subst IsAllowed (sym (arg.rolls-Items args)) (λ is small.
+      let fits = argument-fits policy texts (arg.Items args) is in
+      let deep : 0 < (extent policy.inputs (arg.Items args)).depth = omega (arith, ap (λ e. e.depth) (extent-items policy.inputs args)) in
+      subst (IsShort policy.longest) (sym is_list) (omega (arith, fits.large, ap value_size is_list, small.size deep)))
+
+  argument-short : (a : Arg) → IsAllowed a
+  argument-short = ind-Arg IsAllowed (λ x y is. short-by x)
+
+  arguments-short : (arguments : List Arg) → All (IsArgument policy) arguments → All (IsSmallArgument policy) arguments
+      → All (IsShort policy.longest) (map (argument_of (inputs_of policy texts)) arguments)
+  arguments-short [] are small = All-nil (IsShort policy.longest)
+  arguments-short (a ∷ arguments) are small =
+      All-cons (IsShort policy.longest) (argument_of (inputs_of policy texts) a) (map (argument_of (inputs_of policy texts)) arguments)
+      (argument-short a (All-head (IsArgument policy) a arguments are) (All-head (IsSmallArgument policy) a arguments small))
+      (arguments-short arguments (All-tail (IsArgument policy) a arguments are) (All-tail (IsSmallArgument policy) a arguments small))
 
 task-short : (policy : PolicyParts) (script : List Procedure) (inputs : List (List ℕ)) (first place : ℕ) (entry : TaskEntry) → IsPolicy policy → slice_get policy.tasks place ≡ Some entry
     → EachBound (IsShort policy.longest) (task_of script (inputs_of policy inputs) first entry).environment
 unfolding task_of
 task-short policy script inputs first place entry is e =
     bind_all-each (IsShort policy.longest) [] (parameters_of (procedure_of script entry.proc_name)) (map (argument_of (inputs_of policy inputs)) entry.args) (All-nil _)
-    (arguments-each (IsShort policy.longest) policy tt (fixed-short policy) (inputs_of policy inputs) (inputs-each (IsShort policy.longest) policy.longest (input-short policy.longest) policy.inputs inputs) entry.args
-    (All-slice_get (λ (t : TaskEntry). All (IsArgument policy) t.args) policy.tasks place entry is.arguments e))
+    (arguments-short policy inputs entry.args (All-slice_get (λ (t : TaskEntry). All (IsArgument policy) t.args) policy.tasks place entry is.arguments e)
+    (All-slice_get (λ (t : TaskEntry). All (IsSmallArgument policy) t.args) policy.tasks place entry is.limits.lists e))
 
 pub texts_are_short : TextsAreShort
 texts_are_short policy script inputs k task is i =

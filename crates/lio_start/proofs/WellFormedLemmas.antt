@@ -16,6 +16,7 @@ use Rattle.lio_calculus_rounds.specs.Turns.{turns_of, turns_left}
 use Rattle.lio_calculus_rounds.proofs.LineCalls.{rules_fit_calls}
 use Rattle.lio_calculus_rounds.proofs.Plans.{found-fits}
 use Rattle.lio_calculus_rounds.proofs.Tasks.{enter-fits}
+use Rattle.lio_policy.proofs.PolicyLemmas.{limits_are_small}
 use Rattle.lio_policy.specs.Policy.{PolicyParts}
 use Rattle.lio_policy.specs.declared.policy.FileEntry.{FileEntry}
 use Rattle.lio_policy.specs.declared.policy.TaskEntry.{TaskEntry}
@@ -82,5 +83,5 @@ start_is_well_formed policy script inputs is said keeps = record {
   sound = start_is_sound policy script inputs is said;
   rules = start-rules policy script inputs keeps;
   calls = start-calls policy script inputs (rules_fit_calls script keeps);
-  turns = omega (arith, turns-start policy script inputs, is.limits.turns);
+  turns = omega (arith, turns-start policy script inputs, is.limits.turns, (limits_are_small policy.version).turns);
 }

@@ -1,9 +1,10 @@
 -- The laws of the start.
-use Rattle.std.specs.Prelude.{◌≡◌, ◌↔◌, ◌≤◌, ◌+◌, ℕ, List, [], All, IsTrue, Some, None, take, map, slice_get, length}
+use Rattle.std.specs.Prelude.{◌≡◌, ◌↔◌, ◌<◌, ◌≤◌, ◌+◌, ℕ, List, [], All, IsTrue, Some, None, take, map, slice_get, length}
 use Rattle.lio_labels.specs.declared.label.Label.{Label}
 use Rattle.lio_labels.specs.Flow.{flows}
 use Rattle.lio_events.specs.Printable.{IsPrintable}
-use Rattle.lio_values.specs.declared.value.Plain.TheVariants.{Bytes}
+use Rattle.lio_values.specs.Measures.{items_size}
+use Rattle.lio_values.specs.declared.value.Plain.TheVariants.{Bytes, Items}
 use Rattle.lio_values.specs.declared.value.Plain.{Plain}
 use Rattle.lio_values.specs.declared.value.Content.TheVariants.{Kept, Faulted, Hidden}
 use Rattle.lio_values.specs.declared.value.Value.{Value}
@@ -87,9 +88,10 @@ EachTaskBegins = (policy : PolicyParts) (script : List Procedure) (texts : List 
     → fits policy.tasks script ≡ None → slice_get policy.tasks i ≡ Some entry
     → (task : TaskState) × IsTaskOf (start_of policy script texts) (length policy.channels + i) task × Begins script (inputs_of policy texts) entry task
 
--- a value's text, bare or sealed, has at most so many bytes
+-- a value's text, bare or sealed, has at most so many bytes, and a list is no larger
 abbrev pub PlainIsShort : ℕ → Plain → Type 0
 PlainIsShort longest (Bytes text) = length text ≤ longest
+PlainIsShort longest (Items items) = items_size items < longest
 PlainIsShort longest plain = Unit {0}
 
 abbrev pub IsShort : ℕ → Value → Type 0
@@ -98,7 +100,7 @@ IsShort longest (Sealed label (Kept plain)) = PlainIsShort longest plain
 IsShort longest (Sealed label (Faulted fault)) = Unit {0}
 IsShort longest (Sealed label Hidden) = Unit {0}
 
--- no task begins with a text that is longer than texts may be
+-- no task begins with a text that is longer than texts may be, nor with a list whose size is more
 abbrev pub TextsAreShort : Type 0
 TextsAreShort = (policy : PolicyParts) (script : List Procedure) (inputs : List (List ℕ)) (k : ℕ) (task : TaskState)
     → IsPolicy policy → IsTaskOf (start_of policy script inputs) k task → EachBound (IsShort policy.longest) task.environment

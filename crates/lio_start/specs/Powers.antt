@@ -3,15 +3,20 @@ use Rattle.std.specs.Prelude.{List, [], ◌∷◌}
 use Rattle.std.specs.List.{flat_map}
 use Rattle.lio_labels.specs.declared.privilege.Priv.{Priv}
 use Rattle.lio_values.specs.declared.value.Plain.TheVariants.{Power}
+use Rattle.lio_policy.specs.Lists.{singles}
 use Rattle.lio_policy.specs.Policy.{PolicyParts}
 use Rattle.lio_policy.specs.declared.policy.TaskEntry.{TaskEntry}
 use Rattle.lio_policy.specs.declared.policy.Arg.{Arg}
 use Rattle.lio_policy.specs.declared.policy.Arg.TheVariants.{Fixed}
 
 -- the privilege that an argument is, if it is one
+abbrev pub power_of : Arg → List Priv
+power_of (Fixed (Power power)) = power ∷ []
+power_of argument = []
+
+-- the privileges in an argument, at every depth of a list
 abbrev pub power_in : Arg → List Priv
-power_in (Fixed (Power power)) = power ∷ []
-power_in argument = []
+power_in argument = flat_map power_of (singles argument)
 
 -- the privileges among the arguments of a task
 abbrev pub task_powers : TaskEntry → List Priv

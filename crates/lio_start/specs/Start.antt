@@ -1,7 +1,8 @@
 -- The first configuration of a policy and a script, over the texts of the inputs: the channels, then the tasks, then the numbers that the tasks own.
 use Rattle.std.specs.Prelude.{ℕ, ◌+◌, nat_le, Bool, true, false, List, [], ◌∷◌, ◌++◌, map, length, sum_by, replicate, Option, Some, None, slice_index_or}
 use Rattle.lio_values.specs.declared.fault.FaultKind.TheVariants.{TooLong}
-use Rattle.lio_values.specs.declared.value.Plain.TheVariants.{Unit as unit, Bytes}
+use Rattle.lio_values.specs.declared.value.Plain.TheVariants.{Unit as unit, Bytes, Items}
+use Rattle.lio_values.specs.Views.{forest_of}
 use Rattle.lio_values.specs.declared.value.Content.{Content}
 use Rattle.lio_values.specs.declared.value.Content.TheVariants.{Kept, Faulted}
 use Rattle.lio_values.specs.declared.value.Value.{Value}
@@ -17,7 +18,8 @@ use Rattle.lio_policy.specs.Policy.{PolicyParts}
 use Rattle.lio_policy.specs.declared.policy.FileEntry.{FileEntry}
 use Rattle.lio_policy.specs.declared.policy.TaskEntry.{TaskEntry}
 use Rattle.lio_policy.specs.declared.policy.Arg.{Arg}
-use Rattle.lio_policy.specs.declared.policy.Arg.TheVariants.{Input, Fixed}
+use Rattle.lio_policy.specs.declared.policy.Arg.TheOpen.{Arg-F}
+use Rattle.lio_policy.specs.declared.policy.Arg.TheFolds.{fold-Arg}
 use Rattle.lio_start.specs.Fits.{procedure_of}
 
 -- what is in an input: its text where that fits, else a fault at the input's label
@@ -43,10 +45,14 @@ sealed_inputs longest (input ∷ inputs) (text ∷ texts) = sealed_input longest
 abbrev pub inputs_of : PolicyParts → List (List ℕ) → List Value
 inputs_of policy texts = sealed_inputs policy.longest policy.inputs texts
 
--- what an argument is, over the sealed inputs; each input that a policy names is there
+-- what an argument is, over the sealed inputs, with what the arguments in it are; each input that a policy names is there
+abbrev pub argument_step : List Value → Arg-F Value → Value
+argument_step inputs (Arg-F.Input place) = slice_index_or inputs place (Bare unit)
+argument_step inputs (Arg-F.Fixed plain) = Bare plain
+argument_step inputs (Arg-F.Items values) = Bare (Items (forest_of values))
+
 abbrev pub argument_of : List Value → Arg → Value
-argument_of inputs (Input place) = slice_index_or inputs place (Bare unit)
-argument_of inputs (Fixed plain) = Bare plain
+argument_of inputs = fold-Arg Value (argument_step inputs)
 
 -- a task as it begins, with a range of numbers from the given one on
 unfoldable pub task_of : List Procedure → List Value → ℕ → TaskEntry → TaskState

@@ -27,7 +27,7 @@ fn birth(
     first: u32,
     entry: &TaskEntry,
 ) -> Result<Birth, NoMemory>
-    requires { CanBegin script.now first entry.now }
+    requires { CanBegin script.now inputs.now first entry.now }
     ensures { IfOk result (λ birth. Bears script.now inputs.now first entry.now birth) }
 {
     let Some(number) = script.procedure_number(entry.proc_name.bytes()) else {
@@ -55,7 +55,7 @@ fn task(
     first: u32,
     entry: &TaskEntry,
 ) -> Result<Task, NoMemory>
-    requires { CanBegin script.now first entry.now }
+    requires { CanBegin script.now inputs.now first entry.now }
     ensures { IfOk result (λ task. state_in script.now task
         ≡ task_of script.now inputs.now first entry.now) }
 {
@@ -81,7 +81,7 @@ pub(crate) fn job(
     first: u32,
     entry: &TaskEntry,
 ) -> Result<Holder, NoMemory>
-    requires { CanBegin script.now first entry.now }
+    requires { CanBegin script.now inputs.now first entry.now }
     ensures cell { IfOk result (λ holder. cell_of script.now holder
         ≡ job_cell script.now inputs.now first entry.now) }
     ensures fresh { IfOk result (λ holder. holder.node.log ≡ []) }

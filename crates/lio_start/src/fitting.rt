@@ -37,7 +37,7 @@ fn fault_of(place: u32, task: &TaskEntry, script: &Script) -> Option<StartFault>
 
 /// Why the first of these tasks that can't begin in a script can't, with its place.
 fn first_fault(tasks: &[TaskEntry], script: &Script) -> Option<StartFault>
-    requires { length tasks.now ≤ 256 }
+    requires { length tasks.now ≤ 1024 }
     ensures { result ≡ spec.fits tasks.now script.now }
 {
     let mut place = 0;

@@ -64,7 +64,7 @@ pub(crate) fn add_jobs(
     tasks: &[TaskEntry],
     holders: &mut Vec<Holder>,
 ) -> Result<(), NoMemory>
-    requires { CanBeginAll script.now first tasks.now }
+    requires { CanBeginAll script.now inputs.now first tasks.now }
     ensures adds { OnOk result (Adds script.now holders.old.items holders.new.items
         (job_cells script.now inputs.now first tasks.now)) }
     ensures fresh { OnOk result

@@ -1,11 +1,13 @@
 //! The inputs of a policy with their texts, sealed, and what the arguments of a task stand for.
-ghost use Rattle.std.specs.Prelude.{◌≡◌, IfOk, map};
+ghost use Rattle.std.specs.Prelude.{◌≡◌, ◌<◌, ◌≤◌, All, IfOk, map};
+ghost use Rattle.lio_values.specs.Measures.{value_depth};
+ghost use Rattle.lio_values.specs.Views.{forest_of};
 ghost use Rattle.lio_start.specs.Start.{argument_of, input_content, sealed_input, sealed_inputs};
 
 use lio_clauses::NoMemory;
 use lio_labels::Label;
 use lio_policy::{Arg, FileEntry};
-use lio_values::{Content, Fault, FaultKind, Held, Plain, Text, Value, Values};
+use lio_values::{Content, Fault, FaultKind, Held, Items, Plain, Text, Value, Values};
 use std::alloc::Global;
 
 /// What is in an input: its text, or a fault at its label where the text is longer than texts may
@@ -63,7 +65,9 @@ pub(crate) fn sealed_inputs(
 }
 
 /// What an argument is, over the sealed inputs.
-fn argument(alloc: Global, inputs: &Values, arg: &Arg) -> Result<Value, NoMemory>
+#[cycle(argument)]
+fn argument(alloc: Global, arg: &Arg, inputs: &Values) -> Result<Value, NoMemory>
+    requires { value_depth (argument_of inputs.now arg.now) ≤ 8 }
     ensures { IfOk result (λ value. value ≡ argument_of inputs.now arg.now) }
 {
     match arg {
@@ -72,16 +76,35 @@ fn argument(alloc: Global, inputs: &Values, arg: &Arg) -> Result<Value, NoMemory
             None => Ok(Value::Bare(Plain::Unit)),
         },
         Arg::Fixed(plain) => Ok(Value::Bare(plain.copy(alloc)?)),
+        Arg::Items(args) => {
+            let items = items(alloc, args.as_slice(), inputs)?;
+            Ok(Value::Bare(Plain::Items(items)))
+        }
     }
+}
+
+/// The list of what the arguments are, over the sealed inputs.
+#[cycle(argument)]
+fn items(alloc: Global, args: &[Arg], inputs: &Values) -> Result<Items, NoMemory>
+    requires { All (λ arg. value_depth (argument_of inputs.now arg) < 8) args.now }
+    ensures { IfOk result
+        (λ items. items ≡ forest_of (map (argument_of inputs.now) args.now)) }
+{
+    let mut items = Items::new(alloc);
+    for arg in args {
+        items.push(argument(alloc, arg, inputs)?)?;
+    }
+    Ok(items)
 }
 
 /// What the arguments are, over the sealed inputs.
 pub(crate) fn arguments(alloc: Global, inputs: &Values, args: &[Arg]) -> Result<Values, NoMemory>
+    requires { All (λ arg. value_depth (argument_of inputs.now arg) ≤ 8) args.now }
     ensures { IfOk result (λ values. values ≡ map (argument_of inputs.now) args.now) }
 {
     let mut values = Values::new(alloc);
     for arg in args {
-        values.push(argument(alloc, inputs, arg)?)?;
+        values.push(argument(alloc, arg, inputs)?)?;
     }
     Ok(values)
 }

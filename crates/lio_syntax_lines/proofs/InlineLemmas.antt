@@ -10,7 +10,8 @@ use borrow.Author.Tests.{ltb-true}
 use Rattle.lio_clauses.specs.Names.{AreNames}
 use Rattle.lio_labels.proofs.TextLemmas.{printed_is_read}
 use Rattle.lio_values.specs.declared.value.Plain.{Plain}
-use Rattle.lio_values.specs.declared.value.Plain.TheVariants.{Unit as unit, Flag, Whole, Bytes, Lab, Power, RefOf, VarOf, ResultOf, ChanOf}
+use Rattle.lio_values.specs.declared.value.Plain.TheVariants.{Unit as unit, Flag, Whole, Bytes, Lab, Power, RefOf, VarOf, ResultOf, ChanOf, Items}
+use Rattle.lio_values.specs.Forest.{Nothing, Then}
 use Rattle.lio_values.specs.PlainText.{plain_text}
 use Rattle.lio_values.specs.Quoted.{hex_digit, quoted}
 use Rattle.lio_values.specs.Quoted as quoted
@@ -18,7 +19,7 @@ use Rattle.lio_labels.specs.LabelPrint.{label_text}
 use Rattle.std.proofs.Common.{Some}
 use Rattle.lio_syntax_lines.specs.Literals.{is_name, is_digit, is_whole, is_byte, literal_of, IsLiteral}
 use Rattle.lio_syntax_lines.proofs.LabelLemmas.{both, list_all-weaker, is_inline, is_clean, clean_label, label_begins, named_clean, named_plain, name_is_named}
-use Rattle.lio_syntax_lines.proofs.PrintedLemmas.{own, text_is_literal, text_is_no_name, whole_is_literal, whole_is_no_name, constant_is_literal, constant_is_no_name, label_is_literal, label_is_no_name}
+use Rattle.lio_syntax_lines.proofs.PrintedLemmas.{own, text_is_literal, text_is_no_name, whole_is_literal, whole_is_no_name, constant_is_literal, empty_is_literal, empty_is_no_name, constant_is_no_name, label_is_literal, label_is_no_name}
 use Rattle.lio_syntax_lines.proofs.SolidLemmas.{Solid, is_solid, is_plain_word, is_in_label, solid_plain, solid_text, solid_label}
 
 -- a word that is cut as it is, with no line end and no carriage return in it
@@ -117,6 +118,8 @@ good_literal names (RefOf handle) known h = absurd h
 good_literal names (VarOf handle) known h = absurd h
 good_literal names (ResultOf handle) known h = absurd h
 good_literal names (ChanOf handle) known h = absurd h
+good_literal names (Items Nothing) known h = record { solid = solid_plain _ refl; inline = refl }
+good_literal names (Items (Then item items)) known h = absurd h
 
 pub literal_no_name : (names : List (List ℕ)) (plain : Plain) → IsLiteral names plain → is_name (plain_text names plain) ≡ false
 literal_no_name names unit h = constant_is_no_name.2
@@ -130,6 +133,8 @@ literal_no_name names (RefOf handle) h = absurd h
 literal_no_name names (VarOf handle) h = absurd h
 literal_no_name names (ResultOf handle) h = absurd h
 literal_no_name names (ChanOf handle) h = absurd h
+literal_no_name names (Items Nothing) h = empty_is_no_name
+literal_no_name names (Items (Then item items)) h = absurd h
 
 pub literal_back : (names : List (List ℕ)) (plain : Plain) → AreNames names → IsLiteral names plain → literal_of names (plain_text names plain) ≡ Some plain
 literal_back names unit known h = (constant_is_literal names).2
@@ -143,3 +148,5 @@ literal_back names (RefOf handle) known h = absurd h
 literal_back names (VarOf handle) known h = absurd h
 literal_back names (ResultOf handle) known h = absurd h
 literal_back names (ChanOf handle) known h = absurd h
+literal_back names (Items Nothing) known h = empty_is_literal names
+literal_back names (Items (Then item items)) known h = absurd h

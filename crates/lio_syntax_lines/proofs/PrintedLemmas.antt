@@ -14,12 +14,13 @@ use Rattle.lio_clauses.specs.Names.{is_letter}
 use Rattle.lio_labels.specs.declared.label.Label.{Label}
 use Rattle.lio_labels.specs.LabelText.{reading}
 use Rattle.lio_labels.specs.LabelPrint.{label_text}
-use Rattle.lio_values.specs.declared.value.Plain.TheVariants.{Unit as unit, Flag, Whole, Bytes, Lab}
+use Rattle.lio_values.specs.declared.value.Plain.TheVariants.{Unit as unit, Flag, Whole, Bytes, Lab, Items}
+use Rattle.lio_values.specs.Forest.{Nothing}
 use Rattle.lio_values.specs.Quoted.{hex_digit, quoted}
 use Rattle.lio_values.specs.Quoted as quoted
 use Rattle.lio_syntax_lines.specs.Keyword.{keyword_of}
 use Rattle.lio_syntax_lines.specs.Operators.{one_of, two_of}
-use Rattle.lio_syntax_lines.specs.Literals.{constant_of, is_reserved, is_name, is_digit, is_whole, is_byte, number_from, positive, digits_of, whole_of, hex_value, is_printable, put_before, unquoted, escaped, first_digit, second_digit, text_of, bracketed, label_of, literal_of, or_else}
+use Rattle.lio_syntax_lines.specs.Literals.{constant_of, empty_of, is_reserved, is_name, is_digit, is_whole, is_byte, number_from, positive, digits_of, whole_of, hex_value, is_printable, put_before, unquoted, escaped, first_digit, second_digit, text_of, bracketed, label_of, literal_of, or_else}
 
 -- a word that doesn't begin with a letter is no name
 pub no_name : (byte : ℕ) (bytes : List ℕ) → is_letter byte ≡ false → is_name (byte ∷ bytes) ≡ false
@@ -125,7 +126,7 @@ positive_word names (byte ∷ bytes) n all e few =
     let parts = and_parts (is_digit byte) (list_all is_digit bytes) all in
     rw (no_constant byte bytes parts.0, digit_is byte parts.0) (whole (digits_of (byte ∷ bytes)) e)
   where
-    whole : (o : Option ℕ) → o ≡ Some n → or_else None (or_else (option_map Whole (option_and_then positive o)) (or_else (option_map Bytes (text_of (byte ∷ bytes))) (option_map Lab (label_of names (byte ∷ bytes))))) ≡ Some (Whole (pos n))
+    whole : (o : Option ℕ) → o ≡ Some n → or_else None (or_else (option_map Whole (option_and_then positive o)) (or_else (option_map Bytes (text_of (byte ∷ bytes))) (or_else (option_map Lab (label_of names (byte ∷ bytes))) (empty_of (byte ∷ bytes))))) ≡ Some (Whole (pos n))
     whole o is = rw (is, few) refl
 
 positive_no_name : (word : List ℕ) → list_all is_digit word ≡ true → is_name word ≡ false
@@ -156,6 +157,14 @@ constant_is_literal names = (refl, refl, refl)
 pub constant_is_no_name : (is_name (codes "true") ≡ false) × (is_name (codes "false") ≡ false) × (is_name (codes "unit") ≡ false)
 unfolding is_name is_reserved keyword_of one_of two_of constant_of
 constant_is_no_name = (refl, refl, refl)
+
+-- the empty list
+pub empty_is_literal : (names : List (List ℕ)) → literal_of names (codes "[]") ≡ Some (Items Nothing)
+unfolding literal_of constant_of digits_of bracketed
+empty_is_literal names = refl
+
+pub empty_is_no_name : is_name (codes "[]") ≡ false
+empty_is_no_name = no_name 91 (codes "]") refl
 
 -- labels
 in_brackets : (text : List ℕ) → bracketed (codes "<" ++ text ++ codes ">") ≡ Some text

@@ -2,7 +2,8 @@
 use Rattle.std.proofs.Common.{◌≡◌, ℕ, suc, true, All, List, [], ◌∷◌, refl, arith}
 use Rattle.std.specs.List.{list_all}
 use Rattle.lio_values.specs.declared.value.Plain.{Plain}
-use Rattle.lio_values.specs.declared.value.Plain.TheVariants.{Unit as unit, Flag, Whole, Bytes, Lab, Power, RefOf, VarOf, ResultOf, ChanOf}
+use Rattle.lio_values.specs.declared.value.Plain.TheVariants.{Unit as unit, Flag, Whole, Bytes, Lab, Power, RefOf, VarOf, ResultOf, ChanOf, Items}
+use Rattle.lio_values.specs.Forest.{Nothing, Then}
 use Rattle.lio_syntax_lines.specs.Literals.{IsLiteral}
 use Rattle.lio_syntax_lines.specs.declared.line.Operand.{Operand}
 use Rattle.lio_syntax_lines.specs.declared.line.Operand.TheVariants.{Name, Literal}
@@ -28,6 +29,8 @@ literal_said names (RefOf handle) h = absurd h
 literal_said names (VarOf handle) h = absurd h
 literal_said names (ResultOf handle) h = absurd h
 literal_said names (ChanOf handle) h = absurd h
+literal_said names (Items Nothing) h = refl
+literal_said names (Items (Then item items)) h = absurd h
 
 said : (names : List (List ℕ)) (a : Operand) → IsOperand names a → is_said a ≡ true
 said names (Name name) h = refl

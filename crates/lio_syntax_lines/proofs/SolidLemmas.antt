@@ -99,6 +99,8 @@ solid_two two.Flows = solid_plain _ refl
 solid_two two.From = solid_plain _ refl
 solid_two two.Upto = solid_plain _ refl
 solid_two two.Find = solid_plain _ refl
+solid_two two.Push = solid_plain _ refl
+solid_two two.At = solid_plain _ refl
 
 -- bytes before the first word of others
 pub prepend : List ℕ → List (List ℕ) → List (List ℕ)

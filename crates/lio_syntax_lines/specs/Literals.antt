@@ -9,9 +9,10 @@ use Rattle.lio_labels.specs.IsLabel.{IsLabel}
 use Rattle.lio_labels.specs.LabelPrint.{AreNamed}
 use Rattle.lio_labels.specs.LabelText.{reading}
 use Rattle.lio_values.specs.declared.value.Plain.{Plain}
-use Rattle.lio_values.specs.declared.value.Plain.TheVariants.{Unit as unit, Flag, Whole, Bytes, Lab, Power, RefOf, VarOf, ResultOf, ChanOf}
+use Rattle.lio_values.specs.declared.value.Plain.TheVariants.{Unit as unit, Flag, Whole, Bytes, Lab, Power, RefOf, VarOf, ResultOf, ChanOf, Items}
 use Rattle.lio_syntax_lines.specs.Keyword.{keyword_of}
-use Rattle.lio_syntax_lines.specs.Operators.{one_of, two_of}
+use Rattle.lio_values.specs.Forest.{Nothing, Then}
+use Rattle.lio_syntax_lines.specs.Operators.{one_of, two_of, is_reserved_two}
 
 -- the first of two that is there
 abbrev pub or_else : {X : Type 0} → Option X → Option X → Option X
@@ -25,9 +26,13 @@ constant_of word =
     else (if bytes_eq word (codes "false") then Some (Flag false)
     else (if bytes_eq word (codes "unit") then Some unit else None))
 
--- the first words of lines, the words of operators, the flags and unit are reserved
+-- the empty list
+abbrev pub empty_of : List ℕ → Option Plain
+empty_of word = if bytes_eq word (codes "[]") then Some (Items Nothing) else None
+
+-- the first words of lines, the words of operators but `push` and `at`, the flags and unit are reserved
 unfoldable pub is_reserved : List ℕ → Bool
-is_reserved word = is_some (keyword_of word) || is_some (one_of word) || is_some (two_of word) || is_some (constant_of word)
+is_reserved word = is_some (keyword_of word) || is_some (one_of word) || is_reserved_two (two_of word) || is_some (constant_of word)
 
 -- 1 to 32 bytes of `a` to `z`, `0` to `9` and `_` that begin with a letter, and no reserved word
 unfoldable pub is_name : List ℕ → Bool
@@ -124,10 +129,10 @@ bracketed word =
 abbrev pub label_of : List (List ℕ) → List ℕ → Option Label
 label_of names word = option_and_then (λ text. result_ok (reading names text)) (bracketed word)
 
--- a flag or unit, a whole, a text or a label
+-- a flag or unit, a whole, a text, a label or the empty list
 unfoldable pub literal_of : List (List ℕ) → List ℕ → Option Plain
 literal_of names word =
-    or_else (constant_of word) (or_else (option_map Whole (whole_of word)) (or_else (option_map Bytes (text_of word)) (option_map Lab (label_of names word))))
+    or_else (constant_of word) (or_else (option_map Whole (whole_of word)) (or_else (option_map Bytes (text_of word)) (or_else (option_map Lab (label_of names word)) (empty_of word))))
 
 -- a byte, and a whole of 64 bits with sign
 abbrev pub is_byte : ℕ → Bool
@@ -149,6 +154,8 @@ IsLiteral names (RefOf handle) = ⊥
 IsLiteral names (VarOf handle) = ⊥
 IsLiteral names (ResultOf handle) = ⊥
 IsLiteral names (ChanOf handle) = ⊥
+IsLiteral names (Items Nothing) = Unit {0}
+IsLiteral names (Items (Then item items)) = ⊥
 
 -- a name is no reserved word
 abbrev pub IsName : List ℕ → Type 0

@@ -3,7 +3,8 @@ use Rattle.std.specs.Prelude.{ℕ, Bool, true, false, if◌then◌else◌, List,
 use Rattle.std.specs.List.{flat_map}
 use Rattle.std.specs.Option.{option_map}
 use Rattle.lio_values.specs.declared.value.Plain.{Plain}
-use Rattle.lio_values.specs.declared.value.Plain.TheVariants.{Unit as unit, Flag, Whole, Bytes, Lab, Power, RefOf, VarOf, ResultOf, ChanOf}
+use Rattle.lio_values.specs.declared.value.Plain.TheVariants.{Unit as unit, Flag, Whole, Bytes, Lab, Power, RefOf, VarOf, ResultOf, ChanOf, Items}
+use Rattle.lio_values.specs.Forest.{Nothing, Then}
 use Rattle.lio_values.specs.PlainText.{plain_text}
 use Rattle.lio_syntax_lines.specs.declared.line.Operand.{Operand}
 use Rattle.lio_syntax_lines.specs.declared.line.Operand.TheVariants.{Name, Literal}
@@ -31,6 +32,8 @@ can_be_said (RefOf handle) = false
 can_be_said (VarOf handle) = false
 can_be_said (ResultOf handle) = false
 can_be_said (ChanOf handle) = false
+can_be_said (Items Nothing) = true
+can_be_said (Items (Then item items)) = false
 
 -- a name, or such a value
 abbrev pub is_said : Operand → Bool

@@ -1,10 +1,10 @@
 -- The words of operators.
-use Rattle.std.specs.Prelude.{ℕ, List, codes, bytes_eq, Option}
+use Rattle.std.specs.Prelude.{ℕ, Bool, true, false, List, codes, bytes_eq, Option, Some, None}
 use Rattle.std.specs.List.{find}
 use Rattle.lio_syntax_lines.specs.declared.operators.One.{One}
 use Rattle.lio_syntax_lines.specs.declared.operators.One.TheVariants.{Not, Neg, Len, Num, Str, LabelOf}
 use Rattle.lio_syntax_lines.specs.declared.operators.Two.{Two}
-use Rattle.lio_syntax_lines.specs.declared.operators.Two.TheVariants.{Add, Sub, Mul, Div, Rem, Eq, Ne, Lt, Le, And, Or, Join, Meet, Flows, From, Upto, Find}
+use Rattle.lio_syntax_lines.specs.declared.operators.Two.TheVariants.{Add, Sub, Mul, Div, Rem, Eq, Ne, Lt, Le, And, Or, Join, Meet, Flows, From, Upto, Find, Push, At}
 use Rattle.lio_syntax_lines.specs.declared.operators.TheConstants.{ONES, TWOS}
 
 -- the word of each operator on one value
@@ -35,6 +35,8 @@ two_word Flows = codes "flows"
 two_word From = codes "from"
 two_word Upto = codes "upto"
 two_word Find = codes "find"
+two_word Push = codes "push"
+two_word At = codes "at"
 
 -- the operator on one value that a word is
 unfoldable pub one_of : List ℕ → Option One
@@ -43,3 +45,14 @@ one_of word = find (λ op. bytes_eq (one_word op) word) ONES
 -- the operator on two values that a word is
 unfoldable pub two_of : List ℕ → Option Two
 two_of word = find (λ op. bytes_eq (two_word op) word) TWOS
+
+-- whether the word of an operator is reserved: `push` and `at` are told by their place in the line
+abbrev pub has_reserved_word : Two → Bool
+has_reserved_word Push = false
+has_reserved_word At = false
+has_reserved_word two = true
+
+-- whether there is an operator, and its word is reserved
+abbrev pub is_reserved_two : Option Two → Bool
+is_reserved_two (Some two) = has_reserved_word two
+is_reserved_two None = false

@@ -18,7 +18,7 @@ use crate::operators::{One, Two};
 use lio_clauses::{Names, NoMemory, TextFault, name_fault};
 use lio_labels::Label;
 use lio_labels::laws::label_is_canonical;
-use lio_values::{Plain, Text};
+use lio_values::{Items, Plain, Text};
 use std::alloc::Global;
 
 /// The flag or unit that a word is.
@@ -45,7 +45,7 @@ fn is_reserved(word: &[u8]) -> bool
 {
     Keyword::find(word).is_some()
         || One::find(word).is_some()
-        || Two::find(word).is_some()
+        || matches!(Two::find(word), Some(op) if op.is_reserved())
         || constant(word).is_some()
 }
 
@@ -257,7 +257,7 @@ fn read_label(alloc: Global, names: &Names, word: &[u8]) -> Result<Option<Label>
     }
 }
 
-/// The flag, unit, whole, text or label that a word is.
+/// The flag, unit, whole, text, label or empty list that a word is.
 #[tactic(auto, unfolding(crate::specs::Literals::literal_of))]
 pub fn read_literal(alloc: Global, names: &Names, word: &[u8]) -> Result<Option<Plain>, NoMemory>
     ensures ok { IfOk result (λ plain. plain ≡ literal_of names.now word.now) }
@@ -272,8 +272,11 @@ pub fn read_literal(alloc: Global, names: &Names, word: &[u8]) -> Result<Option<
     if let Some(text) = read_text(alloc, word)? {
         return Ok(Some(Plain::Bytes(text)));
     }
-    match read_label(alloc, names, word)? {
-        Some(label) => Ok(Some(Plain::Lab(label))),
-        None => Ok(None),
+    if let Some(label) = read_label(alloc, names, word)? {
+        return Ok(Some(Plain::Lab(label)));
     }
+    if word == b"[]".as_slice() {
+        return Ok(Some(Plain::Items(Items::new(alloc))));
+    }
+    Ok(None)
 }

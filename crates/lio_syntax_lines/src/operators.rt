@@ -3,6 +3,7 @@
 
 ghost use Rattle.std.specs.Prelude.{◌≡◌};
 ghost use Rattle.lio_syntax_lines.specs.Operators.{one_word, one_of, two_word, two_of};
+ghost use Rattle.lio_syntax_lines.specs.Operators.{has_reserved_word};
 
 /// An operator on one value.
 #[derive(Clone, Copy)]
@@ -35,6 +36,8 @@ pub enum Two {
     From,
     Upto,
     Find,
+    Push,
+    At,
 }
 
 /// All operators on one value.
@@ -48,7 +51,7 @@ const ONES: [One; 6] = [
 ];
 
 /// All operators on two values.
-const TWOS: [Two; 17] = [
+const TWOS: [Two; 19] = [
     Two::Add,
     Two::Sub,
     Two::Mul,
@@ -66,6 +69,8 @@ const TWOS: [Two; 17] = [
     Two::From,
     Two::Upto,
     Two::Find,
+    Two::Push,
+    Two::At,
 ];
 
 impl One {
@@ -114,6 +119,8 @@ impl Two {
             Two::From => b"from",
             Two::Upto => b"upto",
             Two::Find => b"find",
+            Two::Push => b"push",
+            Two::At => b"at",
         }
     }
 
@@ -122,5 +129,13 @@ impl Two {
         ensures { result ≡ two_of word.now }
     {
         TWOS.iter().copied().find(|op| op.word() == word)
+    }
+
+    /// Whether its word is reserved. That of `push` and of `at` is told by its place in the line, so
+    /// that it may be a name too.
+    pub fn is_reserved(self) -> bool
+        ensures { result ≡ has_reserved_word self }
+    {
+        !matches!(self, Two::Push | Two::At)
     }
 }

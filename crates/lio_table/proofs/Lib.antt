@@ -9,3 +9,4 @@ pub mod EndLemmas
 pub mod OverLemmas
 pub mod AnswerLemmas
 pub mod Crossing
+pub mod ScriptCrossing

@@ -25,8 +25,12 @@ impl Model for Environment {
     ghost use Rattle.std.specs.Prelude.{List};
     ghost use Rattle.lio_task_control.specs.declared.binding.Binding.{Binding};
     ghost use Rattle.lio_task_control.specs.Bound.{AreInOrder};
+    ghost use Rattle.lio_task_control.specs.contracts.binding.Binding as binding;
+    ghost use Rattle.std.specs.Coded.{coded_list};
 
     ghost Value = { List Binding };
+
+    ghost coded = { coded_list binding.the_row.coded };
 
     ghost view = { λ environment. environment.bindings.items };
 

@@ -32,6 +32,7 @@ small-is (plain.RefOf handle) s e = absurd (let none : Some s ≡ None = e in cc
 small-is (plain.VarOf handle) s e = absurd (let none : Some s ≡ None = e in cc)
 small-is (plain.ResultOf handle) s e = absurd (let none : Some s ≡ None = e in cc)
 small-is (plain.ChanOf handle) s e = absurd (let none : Some s ≡ None = e in cc)
+small-is (plain.Items items) s e = absurd (let none : Some s ≡ None = e in cc)
 
 pub let_is : (program : Program) (task : TaskState) (name : List ℕ) (value : Operand) (p : Plain) (s : Small) → Some p ≡ seen_as Some task.environment value → Some s ≡ small_of p
     → stepping (Bind name (Bare (plain_of s))) ≡ plan_simple program task (line.Let name value)

@@ -1,4 +1,4 @@
--- What an operator on two operands plans: where one of them isn't bare, the refusal.
+-- What an operator on two operands plans: where the left one isn't bare, the refusal, and where the right one isn't, what it makes of the sealed value.
 use Rattle.std.proofs.Common.{◌≡◌, refl, sym, ap, subst, ◌∙◌, ℕ, List, Option, Some, None, Ok, Err}
 use Rattle.std.specs.Prelude.{Result, IfOk, option_and_then}
 use Rattle.lio_clauses.specs.declared.faults.NoMemory.{NoMemory}
@@ -12,15 +12,17 @@ use Rattle.lio_values.specs.declared.value.Value.TheVariants.{Bare, Sealed}
 use Rattle.lio_syntax_lines.specs.declared.line.Operand.{Operand}
 use Rattle.lio_syntax_lines.specs.declared.line.Simple.TheVariants as line
 use Rattle.lio_syntax.specs.Lines.{script_lines}
-use Rattle.lio_operators.specs.Operators.{operate2}
+use Rattle.lio_operators.specs.Operators.{operate2, on_bare_and_sealed}
 use Rattle.lio_operators.specs.Answers.{Answers}
+use Rattle.lio_task_control.specs.Environment.{Environment}
 use Rattle.lio_operators.specs.declared.faults.OpFault.{OpFault}
 use Rattle.lio_calculus.specs.Operands.{bare_of, bound, seen_as}
 use Rattle.lio_calculus.specs.Task.{TaskState}
 use Rattle.lio_calculus.specs.Plan.{Plan, Program, bad_type, computed, plan_simple, with_seen}
 use Rattle.lio_task_turns.specs.declared.standing.Standing.{Standing}
 use Rattle.lio_task_turns.specs.declared.turn.Turn.{Turn}
-use Rattle.lio_task_plan.specs.Planned.{Computes}
+use Rattle.lio_task_plan.specs.Planned.{Computes, ComputesSealed}
+use Rattle.lio_task_turns.specs.Operands.{sealed_value_of}
 use Rattle.lio_task_turns.specs.Turns.{PlansBy, refusal, turn_of}
 use Rattle.lio_task_turns.specs.StateOf.{state_of}
 
@@ -39,13 +41,13 @@ left-not_bare longest task name op (Some (Bare a)) right e = absurd (let none : 
 left-not_bare longest task name op (Some (Sealed label content)) None e = refl
 left-not_bare longest task name op (Some (Sealed label content)) (Some b) e = refl
 
-right-not_bare : (longest : ℕ) (task : TaskState) (name : List ℕ) (op : Two) (left right : Option Value) → None ≡ bare_in right → bad_type task ≡ two longest task name op left right
+-- a right operand that isn't bare: what its sealed value, if it is there, is planned to
+right-sealed : (longest : ℕ) (task : TaskState) (name : List ℕ) (op : Two) (a : Plain) (right : Option Value) → None ≡ bare_in right
+    → with_seen task (option_and_then sealed_value_of right) (λ b. computed task name (on_bare_and_sealed longest op a b)) ≡ two longest task name op (Some (Bare a)) right
 unfolding operate2
-right-not_bare longest task name op None right e = refl
-right-not_bare longest task name op (Some a) None e = refl
-right-not_bare longest task name op (Some a) (Some (Bare b)) e = absurd (let none : None ≡ Some b = e in cc)
-right-not_bare longest task name op (Some (Bare a)) (Some (Sealed label content)) e = refl
-right-not_bare longest task name op (Some (Sealed label content)) (Some (Sealed label_b content_b)) e = refl
+right-sealed longest task name op a None e = refl
+right-sealed longest task name op a (Some (Bare b)) e = absurd (let none : None ≡ Some b = e in cc)
+right-sealed longest task name op a (Some (Sealed label content)) e = refl
 
 pub bare-is : (seen : Option Value) (a : Plain) → Some a ≡ bare_in seen → seen ≡ Some (Bare a)
 bare-is None a e = absurd (let none : Some a ≡ None = e in cc)
@@ -57,7 +59,7 @@ pub both-bare : (longest : ℕ) (task : TaskState) (name : List ℕ) (op : Two) 
 both-bare longest task name op left right a b e f =
     sym (ap (λ (seen : Option Value). two longest task name op seen right) (bare-is left a e) ∙ ap (λ (seen : Option Value). two longest task name op (Some (Bare a)) seen) (bare-is right b f))
 
--- what the left or the right operand stands for isn't bare
+-- what the left operand stands for isn't bare
 pub left-refuses : (program : Program) (task : Standing) (name : List ℕ) (left : Operand) (op : Two) (right : Operand) (result : Result Turn NoMemory) → IfOk result (λ turn. turn ≡ refusal task act.Step BadType)
     → None ≡ seen_as Some (state_of (script_lines program.procedures) task).environment left → IfOk result (PlansBy program task (line.LetTwo name left op right))
 unfolding plan_simple
@@ -66,13 +68,18 @@ left-refuses program task name left op right (Ok turn) is e =
     ap (turn_of (script_lines program.procedures) (line.LetTwo name left op right)) is ∙ left-not_bare program.longest state name op (bound state.environment left) (bound state.environment right) e
 left-refuses program task name left op right (Err error) is e = tt
 
-pub right-refuses : (program : Program) (task : Standing) (name : List ℕ) (left : Operand) (op : Two) (right : Operand) (result : Result Turn NoMemory) → IfOk result (λ turn. turn ≡ refusal task act.Step BadType)
-    → None ≡ seen_as Some (state_of (script_lines program.procedures) task).environment right → IfOk result (PlansBy program task (line.LetTwo name left op right))
+-- what the right operand stands for isn't bare
+pub right-seals : (program : Program) (task : Standing) (name : List ℕ) (left : Operand) (op : Two) (right : Operand) (a : Plain) (seen : Option Value) (result : Result Turn NoMemory)
+    → IfOk result (ComputesSealed task program.longest name op a seen) → let environment : Environment = (state_of (script_lines program.procedures) task).environment in
+    Some a ≡ seen_as Some environment left → None ≡ seen_as Some environment right → seen ≡ option_and_then sealed_value_of (bound environment right) → IfOk result (PlansBy program task (line.LetTwo name left op right))
 unfolding plan_simple
-right-refuses program task name left op right (Ok turn) is e =
+right-seals program task name left op right a seen (Ok turn) computes e f g =
     let state : TaskState = state_of (script_lines program.procedures) task in
-    ap (turn_of (script_lines program.procedures) (line.LetTwo name left op right)) is ∙ right-not_bare program.longest state name op (bound state.environment left) (bound state.environment right) e
-right-refuses program task name left op right (Err error) is e = tt
+    computes (line.LetTwo name left op right) (script_lines program.procedures)
+    ∙ ap (λ (s : Option Value). with_seen state s (λ b. computed state name (on_bare_and_sealed program.longest op a b))) g
+    ∙ right-sealed program.longest state name op a (bound state.environment right) f
+    ∙ sym (ap (λ (s : Option Value). two program.longest state name op s (bound state.environment right)) (bare-is (bound state.environment left) a e))
+right-seals program task name left op right a seen (Err error) computes e f g = tt
 
 -- what an operator made is bound, or the refusal
 computes-answer : (task : Standing) (name : List ℕ) (made : Result Value OpFault) (answer : Result Value FaultKind) (result : Result Turn NoMemory)

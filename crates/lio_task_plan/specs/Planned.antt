@@ -5,11 +5,13 @@ use Rattle.lio_values.specs.declared.fault.FaultKind.{FaultKind}
 use Rattle.lio_values.specs.declared.fault.FaultKind.TheVariants.{NoTurns}
 use Rattle.lio_values.specs.declared.value.Content.{Content}
 use Rattle.lio_values.specs.declared.value.Content.TheVariants.{Kept, Faulted}
+use Rattle.lio_values.specs.declared.value.Plain.{Plain}
 use Rattle.lio_values.specs.declared.value.Plain.TheVariants.{Unit as unit}
 use Rattle.lio_values.specs.declared.value.Value.{Value}
 use Rattle.lio_values.specs.declared.value.Value.TheVariants.{Bare}
 use Rattle.lio_syntax_lines.specs.declared.operators.One.{One}
-use Rattle.lio_operators.specs.Operators.{operate1}
+use Rattle.lio_syntax_lines.specs.declared.operators.Two.{Two}
+use Rattle.lio_operators.specs.Operators.{operate1, on_bare_and_sealed}
 use Rattle.lio_operators.specs.Outcomes.{Tells}
 use Rattle.lio_operators.specs.declared.outcome.Outcome.{Outcome}
 use Rattle.lio_syntax_lines.specs.declared.line.Line.{Line}
@@ -135,3 +137,8 @@ Computes task name answer turn = Is task turn (λ lines. plan.computed (state_of
 abbrev pub ComputesOne : Standing → ℕ → List ℕ → One → Option Value → Turn → Type 0
 ComputesOne task longest name op seen turn =
     Is task turn (λ lines. plan.with_seen (state_of lines task) seen (λ value. plan.computed (state_of lines task) name (operate1 longest op value)))
+
+-- what an operator on a bare operand and a sealed one, if it is there, makes is bound, or is the refusal
+abbrev pub ComputesSealed : Standing → ℕ → List ℕ → Two → Plain → Option Value → Turn → Type 0
+ComputesSealed task longest name op left seen turn =
+    Is task turn (λ lines. plan.with_seen (state_of lines task) seen (λ value. plan.computed (state_of lines task) name (on_bare_and_sealed longest op left value)))

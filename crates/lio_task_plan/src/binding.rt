@@ -2,7 +2,8 @@
 #![tactic(auto, unfolding(lio_calculus::specs::Plan::plan_simple))]
 
 ghost use Rattle.std.specs.Option.{option_copied};
-ghost use Rattle.std.specs.Prelude.{◌≡◌, ◌==◌, ℕ, IfOk, List, Result, nat_le, slice_get};
+ghost use Rattle.std.specs.Prelude.{◌≡◌, ◌==◌, ℕ, IfOk, List, Result, nat_le, option_and_then};
+ghost use Rattle.std.specs.Prelude.{slice_get};
 ghost use Rattle.lio_syntax_lines.specs.declared.line.Line.{Line};
 ghost use Rattle.lio_syntax_lines.specs.declared.line.Simple.TheVariants as line;
 ghost use Rattle.lio_values.specs.declared.fault.FaultKind.{FaultKind};
@@ -11,19 +12,19 @@ ghost use Rattle.lio_operators.specs.Answers.{Answers};
 ghost use Rattle.lio_syntax_lines.specs.declared.line.Simple.{Simple};
 ghost use Rattle.lio_calculus.specs.Task.{TaskState};
 ghost use Rattle.lio_task_control.specs.Items.{open_calls};
-ghost use Rattle.lio_calculus.specs.Operands.{bare_of};
+ghost use Rattle.lio_calculus.specs.Operands.{bare_of, pure_of};
 ghost use Rattle.lio_calculus.specs.Plan as plan;
 ghost use Rattle.lio_values.specs.declared.act.Act.TheVariants as act;
 ghost use Rattle.lio_values.specs.declared.act.Reply.TheVariants as reply;
 ghost use Rattle.lio_task_turns.specs.declared.turn.Turn.TheVariants as turn;
 ghost use Rattle.lio_task_turns.specs.declared.turn.Onward.TheVariants as onward;
-ghost use Rattle.lio_task_plan.specs.Planned.{Computes, ComputesOne};
+ghost use Rattle.lio_task_plan.specs.Planned.{Computes, ComputesOne, ComputesSealed};
 ghost use Rattle.lio_task_turns.specs.Turns.{Is, IsIn, Plans, PlansBy};
 ghost use Rattle.lio_task_turns.specs.Procedure.{IsNumbered};
 ghost use Rattle.lio_task_turns.specs.StateOf.{program_of, state_of};
 
 use lio_clauses::NoMemory;
-use lio_operators::{OpFault, operate_plains, operate1};
+use lio_operators::{OpFault, operate_plains, operate_sealed, operate1};
 use lio_syntax::Script;
 use lio_syntax_lines::{One, Operand, Operands, Two};
 use lio_task_turns::{Attempt, Onward, Procedure, Standing, Turn, operands};
@@ -106,15 +107,42 @@ pub(crate) fn plan_let_two<'s>(
     let Some(left) = operands::bare(environment, left) else {
         return task.bad_type(alloc);
     };
-    let Some(right) = operands::bare(environment, right) else {
-        return task.bad_type(alloc);
-    };
-    computed(
-        alloc,
-        task,
-        name,
-        operate_plains(alloc, op, left, right, longest),
-    )
+    match operands::bare(environment, right) {
+        Some(right) => computed(
+            alloc,
+            task,
+            name,
+            operate_plains(alloc, op, left, right, longest),
+        ),
+        None => {
+            let sealed = operands::sealed_value(environment, right);
+            let_two_sealed(alloc, task, longest, name, op, left, sealed)
+        }
+    }
+}
+
+/// An operator on a bare value and a sealed one, if that is there: `push` takes one.
+fn let_two_sealed<'s>(
+    alloc: Global,
+    task: &Standing<'_>,
+    longest: u32,
+    name: &'s Name,
+    op: Two,
+    left: &Plain,
+    right: Option<&Value>,
+) -> Attempt<'s>
+    ensures { IfOk result (ComputesSealed task.now longest name.now op left.now
+        (option_copied right.entry)) }
+{
+    match right {
+        Some(right) => computed(
+            alloc,
+            task,
+            name,
+            operate_sealed(alloc, op, left, right, longest),
+        ),
+        None => task.bad_type(alloc),
+    }
 }
 
 /// What an operator made is bound, or the refusal.
@@ -218,14 +246,28 @@ fn is_main(task: &Standing<'_>) -> bool
     task.open_calls() == 0
 }
 
-/// The end of the task with a value, if it is bare.
+/// The end of the task with a value, if it is pure.
 fn ending_with<'s>(alloc: Global, task: &Standing<'_>, value: Value) -> Attempt<'s>
     ensures { IfOk result (λ planned. Is task.now planned
-        (λ (lines : List Line). plan.ending_with (state_of lines task.now) (bare_of value))) }
+        (λ (lines : List Line). plan.ending_with (state_of lines task.now)
+        (option_and_then pure_of (bare_of value)))) }
 {
     match value {
-        Value::Bare(plain) => ending(alloc, Content::Kept(plain)),
+        Value::Bare(plain) => ending_with_plain(alloc, task, plain),
         Value::Sealed(_label, _content) => task.bad_type(alloc),
+    }
+}
+
+/// The end of the task with a plain value, if it is pure.
+fn ending_with_plain<'s>(alloc: Global, task: &Standing<'_>, plain: Plain) -> Attempt<'s>
+    ensures { IfOk result (λ planned. Is task.now planned
+        (λ (lines : List Line). plan.ending_with (state_of lines task.now) (pure_of plain))) }
+{
+    if plain.is_pure() {
+        ending(alloc, Content::Kept(plain))
+    } else {
+        drop(plain);
+        task.bad_type(alloc)
     }
 }
 
@@ -240,7 +282,7 @@ pub(crate) fn plan_stop<'s>(alloc: Global, task: &Standing<'_>) -> Attempt<'s>
 pub(crate) fn plan_throw<'s>(alloc: Global, task: &Standing<'_>, value: &Operand) -> Attempt<'s>
     ensures { IfOk result (Plans task.now (line.Throw value.now)) }
 {
-    match operands::bare(task.environment(), value) {
+    match operands::pure(task.environment(), value) {
         Some(plain) => match plain.copy(alloc) {
             Ok(plain) => task.refused(alloc, Act::Step, FaultKind::User(plain)),
             Err(error) => Err(error),

@@ -46,7 +46,7 @@ impl Standing<'_> {
         let Some(label) = operands::label(environment, label) else {
             return self.bad_type(alloc);
         };
-        match operands::bare(environment, value) {
+        match operands::pure(environment, value) {
             Some(plain) => self.sealing(alloc, name, label, plain),
             None => self.bad_type(alloc),
         }

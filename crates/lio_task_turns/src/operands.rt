@@ -2,10 +2,11 @@
 ghost use Rattle.std.specs.Prelude.{◌≡◌, IfOk, Some, is_some, option_and_then};
 ghost use Rattle.std.specs.Option.{option_copied};
 ghost use Rattle.lio_task_control.specs.Environment.{Environment};
-ghost use Rattle.lio_calculus.specs.Operands.{bound, all_bound, bare_of, seen_as, flag_of};
+ghost use Rattle.lio_calculus.specs.Operands.{bound, all_bound, bare_of, pure_of, seen_as};
+ghost use Rattle.lio_calculus.specs.Operands.{flag_of};
 ghost use Rattle.lio_calculus.specs.Operands.{label_of, power_of, text_of, count_of, reference_of};
 ghost use Rattle.lio_calculus.specs.Operands.{variable_of, result_of, channel_of, sealed_of};
-ghost use Rattle.lio_task_turns.specs.Operands.{sealed_now, literal_of};
+ghost use Rattle.lio_task_turns.specs.Operands.{sealed_now, sealed_value_of, literal_of};
 
 use lio_clauses::NoMemory;
 use lio_labels::{Label, Priv};
@@ -13,6 +14,14 @@ use lio_syntax_lines::{Operand, Operands};
 use lio_task_control::Environment;
 use lio_values::{Content, Handle, Plain, Text, Value, Values};
 use std::alloc::Global;
+
+/// A plain value, if it is pure.
+#[inline(always)]
+fn pure_of(plain: &Plain) -> Option<&Plain>
+    ensures { option_copied result ≡ pure_of plain.now }
+{
+    if plain.is_pure() { Some(plain) } else { None }
+}
 
 /// The plain value that an operand stands for, if it is bare.
 #[inline(always)]
@@ -24,7 +33,28 @@ pub fn bare<'a>(environment: &'a Environment, operand: &'a Operand) -> Option<&'
             Value::Bare(plain) => Some(plain),
             Value::Sealed(_, _) => None,
         },
-        Operand::Literal(plain) => Some(plain),
+        Operand::Literal(plain) => pure_of(plain),
+    }
+}
+
+/// The plain value that an operand stands for, if it is pure.
+pub fn pure<'a>(environment: &'a Environment, operand: &'a Operand) -> Option<&'a Plain>
+    ensures { option_copied result ≡ seen_as pure_of environment.now operand.now }
+{
+    pure_of(bare(environment, operand)?)
+}
+
+/// The value that an operand stands for, where a name is bound to a sealed one.
+pub fn sealed_value<'a>(environment: &'a Environment, operand: &Operand) -> Option<&'a Value>
+    ensures { option_copied result ≡ option_and_then sealed_value_of
+        (bound environment.now operand.now) }
+{
+    match operand {
+        Operand::Name(name) => match environment.get(name)? {
+            Value::Bare(_) => None,
+            sealed => Some(sealed),
+        },
+        Operand::Literal(_) => None,
     }
 }
 
@@ -57,7 +87,7 @@ pub fn value(
             Some(value) => Ok(Some(value.copy(alloc)?)),
             None => Ok(None),
         },
-        Operand::Literal(plain) => Ok(Some(Value::Bare(plain.copy(alloc)?))),
+        Operand::Literal(_) => literal(alloc, operand),
     }
 }
 
@@ -67,7 +97,10 @@ pub fn literal(alloc: Global, operand: &Operand) -> Result<Option<Value>, NoMemo
 {
     match operand {
         Operand::Name(_) => Ok(None),
-        Operand::Literal(plain) => Ok(Some(Value::Bare(plain.copy(alloc)?))),
+        Operand::Literal(plain) => match pure_of(plain) {
+            Some(plain) => Ok(Some(Value::Bare(plain.copy(alloc)?))),
+            None => Ok(None),
+        },
     }
 }
 
@@ -93,7 +126,7 @@ pub fn is_bound(environment: &Environment, operand: &Operand) -> bool
 {
     match operand {
         Operand::Name(name) => environment.get(name).is_some(),
-        Operand::Literal(_) => true,
+        Operand::Literal(plain) => plain.is_pure(),
     }
 }
 

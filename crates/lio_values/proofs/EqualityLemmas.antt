@@ -19,6 +19,7 @@ use Rattle.lio_values.specs.contracts.act.ActPartialEq.TheImpl as of_acts
 use Rattle.lio_values.specs.contracts.act.ReplyPartialEq.TheImpl as of_replies
 use Rattle.lio_values.specs.contracts.entry.EntryPartialEq.TheImpl as of_entries
 use Rattle.lio_values.specs.Equality.{IsEquality}
+use Rattle.lio_values.specs.SameForest.{same_forest, same_forest-is, same_forest-itself}
 use Rattle.lio_values.proofs.DerivedEquality.{IsExact, exact_equality, exact_point, exact_last, exact_more, exact_fields, exact_lists, exact_options, exact_numbers, exact_wholes, exact_flags, exact_bare, exact_variants}
 
 formulas : IsExact same_formula
@@ -33,6 +34,9 @@ privileges = exact_fields formulas (λ p. p.power) (λ f. record { power = f }) 
 handles : IsExact (of_handles.ghosts).eq
 handles = exact_fields (exact_more exact_numbers labels) (λ h. (h.number, h.label)) (λ f. record { number = f.0; label = f.1 }) (λ h. refl)
 
+forests : IsExact same_forest
+forests = record { same = same_forest-is; itself = same_forest-itself }
+
 plains : IsExact (of_plains.ghosts).eq
 plains = exact_variants plain_type.enum _ (
   exact_point,
@@ -46,7 +50,7 @@ plains = exact_variants plain_type.enum _ (
           exact_last labels,
           (
             exact_last privileges,
-            (exact_last handles, (exact_last handles, (exact_last handles, (exact_last handles, tt)))),
+            (exact_last handles, (exact_last handles, (exact_last handles, (exact_last handles, (exact_last forests, tt))))),
           ),
         ),
       ),
@@ -96,7 +100,7 @@ faults = exact_fields (exact_more kinds labels) (λ f. (f.kind, f.at)) (λ f. re
 contents : IsExact (of_contents.ghosts).eq
 contents = exact_variants content_type.enum _ (exact_last plains, (exact_last faults, (exact_point, tt)))
 
-values : IsExact (of_values.ghosts).eq
+pub values : IsExact (of_values.ghosts).eq
 values = exact_variants value_type.enum _ (exact_last plains, (exact_more labels (exact_last contents), tt))
 
 births : IsExact (of_births.ghosts).eq

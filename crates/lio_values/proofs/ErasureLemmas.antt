@@ -1,9 +1,10 @@
 -- The laws of erasure.
-use Rattle.std.proofs.Common.{◌≡◌, Bool, true, false, IsTrue, List, [], ◌∷◌, map, Option, Some, None, refl, ap, cond}
+use Rattle.std.proofs.Common.{◌≡◌, Bool, true, false, IsTrue, List, [], ◌∷◌, map, Option, Some, None, refl, ap, cond, ◌∙◌}
 use Rattle.std.specs.Option.{option_map}
 use Rattle.lio_labels.specs.declared.label.Label.{Label}
 use Rattle.lio_labels.specs.Flow.{flows}
 use Rattle.lio_labels.proofs.FlowLemmas.{flow_is_reflexive, flow_is_transitive}
+use Rattle.lio_values.specs.declared.value.Plain.{Plain}
 use Rattle.lio_values.specs.declared.value.Content.{Content}
 use Rattle.lio_values.specs.declared.value.Content.TheVariants.{Hidden}
 use Rattle.lio_values.specs.declared.value.Value.{Value}
@@ -13,7 +14,10 @@ use Rattle.lio_values.specs.declared.act.Act.TheVariants.{Release, Expose, NewRe
 use Rattle.lio_values.specs.declared.act.Birth.{Birth}
 use Rattle.lio_values.specs.declared.act.Reply.{Reply}
 use Rattle.lio_values.specs.declared.act.Reply.TheVariants.{Got, Done, Told, Refused}
-use Rattle.lio_values.specs.Erasure.{erase_content, erase_value, erase_birth, erase_act, erase_reply}
+use Rattle.lio_values.specs.Forest as forest
+use Rattle.lio_values.specs.Forest.{Tree, Inner, Item, Forest, Nothing, Then}
+use Rattle.lio_values.specs.Views.{tree_of, plain_of, tree_of-plain_of}
+use Rattle.lio_values.specs.Erasure.{erase_content, erase_tree, erase_item, erase_forest, erase_plain, erase_value, erase_birth, erase_act, erase_reply}
 use Rattle.lio_values.specs.Laws.{ValueErasedTwice, ValueErasedBelow, EntryErasedTwice, EntryErasedBelow}
 
 -- hiding by one test and then by a test that implies it is hiding by the second
@@ -29,8 +33,43 @@ unfolding erase_content
 content_erased_below lower higher label content below =
     hidden (flows label higher) (flows label lower) content (λ seen. flow_is_transitive label lower higher seen below)
 
+-- the same of what stands in a list
+inner-hidden : (first second : Bool) (inner : Inner) → (IsTrue second → IsTrue first)
+    → cond second (cond first inner forest.Hidden) forest.Hidden ≡ cond second inner forest.Hidden
+inner-hidden first false inner implied = refl
+inner-hidden true true inner implied = refl
+inner-hidden false true inner implied = let seen : false ≡ true = implied refl in absurd (cc)
+
+mutual
+  tree_erased_below : (lower higher : Label) (tree : Tree) → IsTrue (flows lower higher) → erase_tree lower (erase_tree higher tree) ≡ erase_tree lower tree
+  tree_erased_below lower higher (forest.Items items) below = ap forest.Items (forest_erased_below lower higher items below)
+  tree_erased_below lower higher forest.Unit below = refl
+  tree_erased_below lower higher (forest.Flag flag) below = refl
+  tree_erased_below lower higher (forest.Whole number) below = refl
+  tree_erased_below lower higher (forest.Bytes text) below = refl
+  tree_erased_below lower higher (forest.Lab label) below = refl
+  tree_erased_below lower higher (forest.Power privilege) below = refl
+  tree_erased_below lower higher (forest.RefOf handle) below = refl
+  tree_erased_below lower higher (forest.VarOf handle) below = refl
+  tree_erased_below lower higher (forest.ResultOf handle) below = refl
+  tree_erased_below lower higher (forest.ChanOf handle) below = refl
+
+  item_erased_below : (lower higher : Label) (item : Item) → IsTrue (flows lower higher) → erase_item lower (erase_item higher item) ≡ erase_item lower item
+  item_erased_below lower higher (forest.Bare tree) below = ap forest.Bare (tree_erased_below lower higher tree below)
+  item_erased_below lower higher (forest.Sealed label inner) below =
+      ap (forest.Sealed label) (inner-hidden (flows label higher) (flows label lower) inner (λ seen. flow_is_transitive label lower higher seen below))
+
+  forest_erased_below : (lower higher : Label) (items : Forest) → IsTrue (flows lower higher)
+      → erase_forest lower (erase_forest higher items) ≡ erase_forest lower items
+  forest_erased_below lower higher Nothing below = refl
+  forest_erased_below lower higher (Then item items) below = λ i. Then (item_erased_below lower higher item below i) (forest_erased_below lower higher items below i)
+
+plain_erased_below : (lower higher : Label) (plain : Plain) → IsTrue (flows lower higher) → erase_plain lower (erase_plain higher plain) ≡ erase_plain lower plain
+plain_erased_below lower higher plain below =
+    ap (λ tree. plain_of (erase_tree lower tree)) (tree_of-plain_of (erase_tree higher (tree_of plain))) ∙ ap plain_of (tree_erased_below lower higher (tree_of plain) below)
+
 pub value_erased_below : ValueErasedBelow
-value_erased_below lower higher (Bare plain) below = refl
+value_erased_below lower higher (Bare plain) below = ap Bare (plain_erased_below lower higher plain below)
 value_erased_below lower higher (Sealed label content) below = ap (Sealed label) (content_erased_below lower higher label content below)
 
 values_erased_below : (lower higher : Label) (values : List Value) → IsTrue (flows lower higher)

@@ -3,3 +3,7 @@ pub mod DerivedEquality
 pub mod EqualityLemmas
 pub mod AllLaws
 pub mod NameLemmas
+pub mod ItemsLemmas
+pub mod ListTextLemmas
+pub mod MeasureLemmas
+pub mod ErasedMeasures

@@ -4,6 +4,7 @@ use Rattle.std.specs.Prelude.{map, if◌then◌else◌}
 use Rattle.std.specs.Option.{option_map}
 use Rattle.lio_labels.specs.declared.label.Label.{Label}
 use Rattle.lio_labels.specs.Flow.{flows}
+use Rattle.lio_values.specs.declared.value.Plain.{Plain}
 use Rattle.lio_values.specs.declared.value.Content.{Content}
 use Rattle.lio_values.specs.declared.value.Content.TheVariants.{Hidden}
 use Rattle.lio_values.specs.declared.value.Value.{Value}
@@ -14,14 +15,44 @@ use Rattle.lio_values.specs.declared.act.Birth.{Birth}
 use Rattle.lio_values.specs.declared.act.Reply.{Reply}
 use Rattle.lio_values.specs.declared.act.Reply.TheVariants.{Done, Got, Told, Refused}
 use Rattle.lio_values.specs.declared.entry.Entry.{Entry}
+use Rattle.lio_values.specs.Forest as forest
+use Rattle.lio_values.specs.Forest.{Tree, Item, Forest, Nothing, Then}
+use Rattle.lio_values.specs.Views.{tree_of, plain_of}
 
 -- a content under a label, as the observer sees it
 unfoldable pub erase_content : Label → Label → Content → Content
 erase_content observer label content = if flows label observer then content else Hidden
 
--- a value: the content of a sealed one is hidden where its label doesn't flow to the observer's
+-- The items of a list, each as the observer sees it, at every depth. What stands in a content is left as it is.
+abbrev mutual
+  pub erase_tree : Label → Tree → Tree
+  erase_tree observer (forest.Items items) = forest.Items (erase_forest observer items)
+  erase_tree observer forest.Unit = forest.Unit
+  erase_tree observer (forest.Flag flag) = forest.Flag flag
+  erase_tree observer (forest.Whole number) = forest.Whole number
+  erase_tree observer (forest.Bytes text) = forest.Bytes text
+  erase_tree observer (forest.Lab label) = forest.Lab label
+  erase_tree observer (forest.Power privilege) = forest.Power privilege
+  erase_tree observer (forest.RefOf handle) = forest.RefOf handle
+  erase_tree observer (forest.VarOf handle) = forest.VarOf handle
+  erase_tree observer (forest.ResultOf handle) = forest.ResultOf handle
+  erase_tree observer (forest.ChanOf handle) = forest.ChanOf handle
+
+  pub erase_item : Label → Item → Item
+  erase_item observer (forest.Bare tree) = forest.Bare (erase_tree observer tree)
+  erase_item observer (forest.Sealed label inner) = forest.Sealed label (if flows label observer then inner else forest.Hidden)
+
+  pub erase_forest : Label → Forest → Forest
+  erase_forest observer Nothing = Nothing
+  erase_forest observer (Then item items) = Then (erase_item observer item) (erase_forest observer items)
+
+-- a plain value: each item of a list is erased
+abbrev pub erase_plain : Label → Plain → Plain
+erase_plain observer plain = plain_of (erase_tree observer (tree_of plain))
+
+-- a value: the content of a sealed one is hidden where its label doesn't flow to the observer's, in a list too
 abbrev pub erase_value : Label → Value → Value
-erase_value observer (Bare plain) = Bare plain
+erase_value observer (Bare plain) = Bare (erase_plain observer plain)
 erase_value observer (Sealed label content) = Sealed label (erase_content observer label content)
 
 -- a birth, with its arguments erased

@@ -3,14 +3,14 @@
 
 ghost use Rattle.std.specs.Prelude.{◌≡◌, IfOk, map};
 ghost use Rattle.std.specs.Option.{option_map};
-ghost use Rattle.lio_values.specs.Erasure.{erase_content, erase_value, erase_birth, erase_act};
-ghost use Rattle.lio_values.specs.Erasure.{erase_reply, erase_entry};
+ghost use Rattle.lio_values.specs.Erasure.{erase_content, erase_plain, erase_value, erase_birth};
+ghost use Rattle.lio_values.specs.Erasure.{erase_act, erase_reply, erase_entry};
 
 use crate::act::{Act, Birth, Reply, exposed, released};
 use crate::entry::Entry;
 use crate::held::Held;
 use crate::list::List;
-use crate::value::{Content, Value, Values};
+use crate::value::{Content, Plain, Value, Values};
 use lio_clauses::NoMemory;
 use lio_labels::Label;
 use std::alloc::Global;
@@ -33,15 +33,38 @@ impl Held<Content> {
     }
 }
 
+impl Plain {
+    /// The plain value as an observer sees it: each item of a list is erased.
+    #[cycle(erase)]
+    fn erase(&self, alloc: Global, observer: &Label) -> Result<Plain, NoMemory>
+        ensures { IfOk result (λ plain. plain ≡ erase_plain observer.now self.now) }
+    {
+        match self {
+            Plain::Items(items) => Ok(Plain::Items(items.erase(alloc, observer)?)),
+            Plain::Unit
+            | Plain::Flag(_)
+            | Plain::Whole(_)
+            | Plain::Bytes(_)
+            | Plain::Lab(_)
+            | Plain::Power(_)
+            | Plain::RefOf(_)
+            | Plain::VarOf(_)
+            | Plain::ResultOf(_)
+            | Plain::ChanOf(_) => self.copy(alloc),
+        }
+    }
+}
+
 impl Value {
     /// The value as an observer at the label `observer` sees it: the content of a sealed one is
-    /// hidden where its label doesn't flow to the observer's. Source: the erasure of the concurrent
-    /// calculus of LIO, ICFP 2012.
+    /// hidden where its label doesn't flow to the observer's, at every depth of a list too. Source:
+    /// the erasure of the concurrent calculus of LIO, ICFP 2012.
+    #[cycle(erase)]
     pub fn erase(&self, alloc: Global, observer: &Label) -> Result<Value, NoMemory>
         ensures { IfOk result (λ value. value ≡ erase_value observer.now self.now) }
     {
         match self {
-            Value::Bare(plain) => Ok(Value::Bare(plain.copy(alloc)?)),
+            Value::Bare(plain) => Ok(Value::Bare(plain.erase(alloc, observer)?)),
             Value::Sealed(label, content) => Ok(Value::Sealed(
                 label.copy(alloc)?,
                 content.erase(alloc, observer, label)?,

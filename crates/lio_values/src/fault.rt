@@ -8,6 +8,7 @@ use lio_labels::{Label, Priv};
 use std::alloc::Global;
 
 /// What went wrong.
+#[cycle(value)]
 #[derive(PartialEq, Eq, Drop)]
 pub enum FaultKind {
     /// The current label doesn't flow to the target.
@@ -41,6 +42,7 @@ pub enum FaultKind {
 }
 
 /// A fault, with the current label of the task when it was thrown.
+#[cycle(value)]
 #[derive(PartialEq, Eq, Drop)]
 pub struct Fault {
     pub kind: FaultKind,
@@ -58,6 +60,7 @@ fn copy_two(alloc: Global, first: &Label, second: &Label) -> Result<(Label, Labe
 
 impl FaultKind {
     /// An equal kind.
+    #[cycle(copy)]
     pub fn copy(&self, alloc: Global) -> Result<FaultKind, NoMemory>
         ensures { IfOk result (λ kind. kind ≡ self.now) }
     {
@@ -98,6 +101,7 @@ impl FaultKind {
 
 impl Fault {
     /// An equal fault.
+    #[cycle(copy)]
     pub fn copy(&self, alloc: Global) -> Result<Fault, NoMemory>
         ensures { IfOk result (λ fault. fault ≡ self.now) }
     {
@@ -109,6 +113,7 @@ impl Fault {
 
 impl Held<Fault> {
     /// An equal fault.
+    #[cycle(copy)]
     pub fn copy(&self, alloc: Global) -> Result<Held<Fault>, NoMemory>
         ensures { IfOk result (λ held. held ≡ self.now) }
     {

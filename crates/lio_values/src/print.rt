@@ -1,4 +1,4 @@
-//! Printing texts, labels and plain values, as scripts and journals have them. Where memory runs
+//! Printing texts, labels and handles, as scripts and journals have them. Where memory runs
 //! out, what is printed to is as before.
 #![tactic(auto, unfolding(crate::specs::Quoted::escaped))]
 
@@ -9,9 +9,9 @@ ghost use Rattle.lio_clauses.specs.FormulaPrint.{Extends};
 ghost use Rattle.lio_labels.specs.LabelPrint.{AreNamed};
 ghost use Rattle.lio_values.specs.Quoted.{hex_digit, escaped, quoted};
 ghost use Rattle.lio_values.specs.PlainText.{label_in_brackets, power_text, handle_text};
-ghost use Rattle.lio_values.specs.PlainText.{plain_text, IsPowerNamed, IsPlainNamed};
+ghost use Rattle.lio_values.specs.PlainText.{IsPowerNamed};
 
-use crate::value::{Handle, Plain};
+use crate::value::Handle;
 use itoa::Buffer;
 use lio_clauses::{Names, NoMemory};
 use lio_labels::{Label, Priv};
@@ -27,7 +27,7 @@ pub fn print_number(out: &mut Vec<u8>, number: u64) -> Result<(), NoMemory>
 }
 
 /// Appends a number with a sign.
-fn print_whole(out: &mut Vec<u8>, number: i64) -> Result<(), NoMemory>
+pub(crate) fn print_whole(out: &mut Vec<u8>, number: i64) -> Result<(), NoMemory>
     ensures ok { OnOk result (out.new.items ≡ out.old.items ++ signed_decimal number) }
     ensures err { OnErr result (out.new.items ≡ out.old.items) }
 {
@@ -64,7 +64,11 @@ fn print_escaped(out: &mut Vec<u8>, byte: u8) -> Result<(), NoMemory>
 }
 
 /// Takes off again what stands behind the first `len` bytes, where it couldn't be printed whole.
-fn restore(out: &mut Vec<u8>, len: usize, printed: Result<(), NoMemory>) -> Result<(), NoMemory>
+pub(crate) fn restore(
+    out: &mut Vec<u8>,
+    len: usize,
+    printed: Result<(), NoMemory>,
+) -> Result<(), NoMemory>
     ensures same { result ≡ printed }
     ensures ok { OnOk result (out.new.items ≡ out.old.items) }
     ensures err { OnErr result (out.new.items ≡ take len out.old.items) }
@@ -166,7 +170,7 @@ fn append_handle(
 }
 
 /// Appends a handle of a kind.
-fn print_handle(
+pub(crate) fn print_handle(
     out: &mut Vec<u8>,
     kind: &[u8],
     handle: &Handle,
@@ -180,29 +184,4 @@ fn print_handle(
     let len = out.len();
     let printed = append_handle(out, kind, handle, names);
     restore(out, len, printed)
-}
-
-impl Plain {
-    /// Appends its text: `unit`, `true`, `-5`, `"text"`, `<label>`, `power<formula>`,
-    /// `ref#3<label>` and so on.
-    pub fn print_to(&self, out: &mut Vec<u8>, names: &Names) -> Result<(), NoMemory>
-        requires { IsPlainNamed names.now self.now }
-        ensures ok { OnOk result (out.new.items ≡ out.old.items ++ plain_text names.now self.now) }
-        ensures err { OnErr result (out.new.items ≡ out.old.items) }
-    {
-        match self {
-            Plain::Unit => out.extend_from_slice(b"unit")?,
-            Plain::Flag(true) => out.extend_from_slice(b"true")?,
-            Plain::Flag(false) => out.extend_from_slice(b"false")?,
-            Plain::Whole(number) => print_whole(out, *number)?,
-            Plain::Bytes(text) => print_quoted(out, text.bytes())?,
-            Plain::Lab(label) => print_label(out, label, names)?,
-            Plain::Power(privilege) => print_power(out, privilege, names)?,
-            Plain::RefOf(handle) => print_handle(out, b"ref#", handle, names)?,
-            Plain::VarOf(handle) => print_handle(out, b"var#", handle, names)?,
-            Plain::ResultOf(handle) => print_handle(out, b"result#", handle, names)?,
-            Plain::ChanOf(handle) => print_handle(out, b"chan#", handle, names)?,
-        }
-        Ok(())
-    }
 }

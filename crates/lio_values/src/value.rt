@@ -3,6 +3,7 @@ ghost use Rattle.std.specs.Prelude.{◌≡◌, IfOk};
 
 use crate::fault::Fault;
 use crate::held::Held;
+use crate::items::Items;
 use crate::list::List;
 use crate::text::Text;
 use lio_clauses::NoMemory;
@@ -17,6 +18,7 @@ pub struct Handle {
 }
 
 /// A value without a label of its own.
+#[cycle(value)]
 #[derive(PartialEq, Eq, Drop)]
 pub enum Plain {
     /// The value that says nothing.
@@ -39,9 +41,12 @@ pub enum Plain {
     ResultOf(Handle),
     /// A channel.
     ChanOf(Handle),
+    /// A list of values.
+    Items(Items),
 }
 
 /// What a labelled value or a result holds.
+#[cycle(value)]
 #[derive(PartialEq, Eq, Drop)]
 pub enum Content {
     /// A plain value.
@@ -53,6 +58,7 @@ pub enum Content {
 }
 
 /// A value: bare, or sealed under a label. Source: the labelled values of LIO, ICFP 2012.
+#[cycle(value)]
 #[derive(PartialEq, Eq, Drop)]
 pub enum Value {
     /// A plain value.
@@ -78,6 +84,7 @@ impl Handle {
 
 impl Plain {
     /// An equal value.
+    #[cycle(copy)]
     pub fn copy(&self, alloc: Global) -> Result<Plain, NoMemory>
         ensures { IfOk result (λ plain. plain ≡ self.now) }
     {
@@ -92,12 +99,14 @@ impl Plain {
             Plain::VarOf(handle) => Ok(Plain::VarOf(handle.copy(alloc)?)),
             Plain::ResultOf(handle) => Ok(Plain::ResultOf(handle.copy(alloc)?)),
             Plain::ChanOf(handle) => Ok(Plain::ChanOf(handle.copy(alloc)?)),
+            Plain::Items(items) => Ok(Plain::Items(items.copy(alloc)?)),
         }
     }
 }
 
 impl Content {
     /// An equal content.
+    #[cycle(copy)]
     pub fn copy(&self, alloc: Global) -> Result<Content, NoMemory>
         ensures { IfOk result (λ content. content ≡ self.now) }
     {
@@ -111,6 +120,7 @@ impl Content {
 
 impl Held<Content> {
     /// An equal content.
+    #[cycle(copy)]
     pub fn copy(&self, alloc: Global) -> Result<Held<Content>, NoMemory>
         ensures { IfOk result (λ held. held ≡ self.now) }
     {
@@ -120,6 +130,7 @@ impl Held<Content> {
 
 impl Value {
     /// An equal value.
+    #[cycle(copy)]
     pub fn copy(&self, alloc: Global) -> Result<Value, NoMemory>
         ensures { IfOk result (λ value. value ≡ self.now) }
     {

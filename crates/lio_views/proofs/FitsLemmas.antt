@@ -1,5 +1,5 @@
 -- The entries of a view are over the names where those of the journal are.
-use Rattle.std.proofs.Common.{◌≡◌, refl, sym, ap, subst, ℕ, suc, ◌+◌, ◌<◌, ◌≤◌, ◌^◌, Bool, true, false, List, [], ◌∷◌, length, length-append, All, Option, Some, None, map, cond, arith}
+use Rattle.std.proofs.Common.{◌≡◌, refl, sym, ap, subst, ℕ, suc, ◌+◌, ◌<◌, ◌≤◌, ◌^◌, Bool, true, false, List, [], ◌∷◌, length, length-append, All, Option, Some, None, map, cond, max, arith}
 use Rattle.std.specs.Option.{option_map}
 use Rattle.std.proofs.lemmas.List.Elements.{All-nil, All-cons, All-head, All-tail, All-map}
 use Rattle.lio_labels.specs.declared.label.Label.{Label}
@@ -14,12 +14,16 @@ use Rattle.lio_values.specs.declared.act.Birth.{Birth}
 use Rattle.lio_values.specs.declared.act.Reply.{Reply}
 use Rattle.lio_values.specs.declared.act.Reply.TheVariants.{Done, Got, Told, Refused}
 use Rattle.lio_values.specs.declared.entry.Entry.{Entry}
-use Rattle.lio_values.specs.Erasure.{erase_act, erase_birth, erase_content, erase_entry, erase_reply, erase_value}
+use Rattle.std.specs.Prelude.{if◌then◌else◌}
+use Rattle.lio_values.specs.Forest as forest
+use Rattle.lio_values.specs.Forest.{Tree, Inner, Item, Forest, Nothing, Then, tree_depth, item_depth, deepest}
+use Rattle.lio_values.specs.Views.{tree_of, tree_of-plain_of}
+use Rattle.lio_values.specs.Erasure.{erase_tree, erase_item, erase_forest, erase_act, erase_birth, erase_content, erase_entry, erase_reply, erase_value}
 use Rattle.lio_events.specs.JournalText.{entry_text, journal_text}
 use Rattle.lio_events.specs.Views.{view}
 use Rattle.lio_events.proofs.PrintableLemmas.{erased_is_printable}
 use Rattle.lio_events.proofs.ViewLemmas.{view-none, view-seen, view-unseen}
-use Rattle.lio_events_reading.specs.Fits.{ActFits, BirthFits, ContentFits, OptionFits, ReplyFits, ValueFits}
+use Rattle.lio_events_reading.specs.Fits.{ActFits, BirthFits, ContentFits, InnerFits, ItemFits, ItemsFit, OptionFits, ReplyFits, TreeFits, ValueFits}
 use Rattle.lio_events_reading.specs.Over.{IsEntryOver}
 use Rattle.lio_views.proofs.SeenLemmas.{over-ticket, seen-some}
 
@@ -31,8 +35,57 @@ content-fits : (observer label : Label) (content : Content) → ContentFits cont
 unfolding erase_content
 content-fits observer label content fits = shown-fits (flows label observer) content fits
 
+inner-fits : (visible : Bool) (inner : Inner) → InnerFits inner → InnerFits (if visible then inner else forest.Hidden)
+inner-fits true inner fits = fits
+inner-fits false inner fits = tt
+
+-- lists are as deep as before
+mutual
+  tree-deep : (observer : Label) (tree : Tree) → tree_depth (erase_tree observer tree) ≡ tree_depth tree
+  tree-deep observer (forest.Items items) = ap (λ n. n + 1) (items-deep observer items)
+  tree-deep observer forest.Unit = refl
+  tree-deep observer (forest.Flag flag) = refl
+  tree-deep observer (forest.Whole number) = refl
+  tree-deep observer (forest.Bytes text) = refl
+  tree-deep observer (forest.Lab label) = refl
+  tree-deep observer (forest.Power privilege) = refl
+  tree-deep observer (forest.RefOf handle) = refl
+  tree-deep observer (forest.VarOf handle) = refl
+  tree-deep observer (forest.ResultOf handle) = refl
+  tree-deep observer (forest.ChanOf handle) = refl
+
+  item-deep : (observer : Label) (item : Item) → item_depth (erase_item observer item) ≡ item_depth item
+  item-deep observer (forest.Bare tree) = tree-deep observer tree
+  item-deep observer (forest.Sealed label inner) = refl
+
+  items-deep : (observer : Label) (items : Forest) → deepest (erase_forest observer items) ≡ deepest items
+  items-deep observer Nothing = refl
+  items-deep observer (Then item items) = λ i. max (item-deep observer item i) (items-deep observer items i)
+
+mutual
+  tree-fits : (observer : Label) (tree : Tree) → TreeFits tree → TreeFits (erase_tree observer tree)
+  tree-fits observer (forest.Items items) fits = (subst (λ n. n < 8) (sym (items-deep observer items)) fits.0, items-fit observer items fits.1)
+  tree-fits observer forest.Unit fits = fits
+  tree-fits observer (forest.Flag flag) fits = fits
+  tree-fits observer (forest.Whole number) fits = fits
+  tree-fits observer (forest.Bytes text) fits = fits
+  tree-fits observer (forest.Lab label) fits = fits
+  tree-fits observer (forest.Power privilege) fits = fits
+  tree-fits observer (forest.RefOf handle) fits = fits
+  tree-fits observer (forest.VarOf handle) fits = fits
+  tree-fits observer (forest.ResultOf handle) fits = fits
+  tree-fits observer (forest.ChanOf handle) fits = fits
+
+  item-fits : (observer : Label) (item : Item) → ItemFits item → ItemFits (erase_item observer item)
+  item-fits observer (forest.Bare tree) fits = tree-fits observer tree fits
+  item-fits observer (forest.Sealed label inner) fits = (fits.0, inner-fits (flows label observer) inner fits.1)
+
+  items-fit : (observer : Label) (items : Forest) → ItemsFit items → ItemsFit (erase_forest observer items)
+  items-fit observer Nothing fits = tt
+  items-fit observer (Then item items) fits = (item-fits observer item fits.0, items-fit observer items fits.1)
+
 value-fits : (observer : Label) (value : Value) → ValueFits value → ValueFits (erase_value observer value)
-value-fits observer (Bare plain) fits = fits
+value-fits observer (Bare plain) fits = subst TreeFits (sym (tree_of-plain_of (erase_tree observer (tree_of plain)))) (tree-fits observer (tree_of plain) fits)
 value-fits observer (Sealed label content) fits = (fits.0, content-fits observer label content fits.1)
 
 option-fits : (observer : Label) (value : Option Value) → OptionFits value → OptionFits (option_map (erase_value observer) value)

@@ -12,3 +12,4 @@ pub mod FitsLemmas
 pub mod LackLemmas
 pub mod WalkLemmas
 pub mod RunViewLemmas
+pub mod AllLemmas

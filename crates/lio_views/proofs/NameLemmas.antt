@@ -4,18 +4,19 @@ use Rattle.std.proofs.lemmas.List.Elements.{All-cons, All-nil}
 use Rattle.lio_labels.specs.declared.label.Label.{Label}
 use Rattle.lio_values.specs.declared.value.Content.{Content}
 use Rattle.lio_values.specs.declared.entry.Entry.{Entry}
-use Rattle.lio_events.specs.Named.{IsContentNamed}
+use Rattle.lio_values.specs.Purity.{IsContentPure}
 use Rattle.lio_events.specs.Printable.{IsPrintable}
 use Rattle.lio_calculus.specs.Run.{LowRan, low_run}
 use Rattle.lio_calculus.specs.Step.{Configuration}
 use Rattle.lio_calculus_names.specs.Configuration.{NamesOnly}
+use Rattle.lio_calculus_names.specs.NameLaws.{IsContentPrintable}
 use Rattle.lio_calculus_names.proofs.LowTurns.{low_turn_names_only}
 use Rattle.lio_calculus_rounds.specs.LowRounds.{low_rounds}
 use Rattle.lio_views.specs.Rerun.{AreRoundsOf, CanBePrinted}
 use Rattle.lio_views.proofs.LowRunLemmas.{low-first, low_run-nothing}
 
 pub low_run-printable : (names : List (List ℕ)) (observer : Label) (ticket : ℕ) (c : Configuration) (ks : List ℕ) (contents : List Content) (ran : LowRan)
-    → NamesOnly names c → All (IsContentNamed names) contents → low_run observer ticket c ks contents ≡ Some ran → All (IsPrintable names) ran.entries
+    → NamesOnly names c → All (IsContentPrintable names) contents → low_run observer ticket c ks contents ≡ Some ran → All (IsPrintable names) ran.entries
 low_run-printable names observer ticket c [] contents ran named all is =
     let none : LowRan = record { entries = []; last = c; left = contents } in
     let begun : Some none ≡ Some ran = sym (low_run-nothing observer ticket c contents) ∙ is in
@@ -27,6 +28,6 @@ low_run-printable names observer ticket c (k ∷ ks) contents ran named all is =
     subst (λ (r : LowRan). All (IsPrintable names) r.entries) (sym f.is_run)
     (All-cons (IsPrintable names) f.turn.entry f.rest.entries taken.entry (low_run-printable names observer (ticket + 1) f.turn.next ks f.turn.left f.rest taken.next taken.left f.is_rest))
 
-pub rounds-printable : (observer : Label) (c : Configuration) (contents : List Content) (entries : List Entry) (left : List Content) → AreRoundsOf observer c contents entries left → CanBePrinted c contents entries
-rounds-printable observer c contents entries left r names named all =
-    low_run-printable names observer 0 c (low_rounds observer c contents) contents (record { entries = entries; last = r.last; left = left }) named all r.is_run
+pub rounds-printable : (observer : Label) (c : Configuration) (contents : List Content) (entries : List Entry) (left : List Content) → AreRoundsOf observer c contents entries left → All IsContentPure contents → CanBePrinted c contents entries
+rounds-printable observer c contents entries left r pure names named all =
+    low_run-printable names observer 0 c (low_rounds observer c contents) contents (record { entries = entries; last = r.last; left = left }) named (λ place d within. (all place d within, pure place d within)) r.is_run

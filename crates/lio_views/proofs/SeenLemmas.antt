@@ -23,7 +23,7 @@ use Rattle.lio_views.specs.View.{BeginsSeenTurn, IsSeenTurn, SeenStops}
 -- an entry with another ticket is over the names, and has the same text without it
 pub over-ticket : (names : List (List ℕ)) (entry : Entry) (ticket : ℕ) → ticket < 2 ^ 64 → IsEntryOver names entry → IsEntryOver names (record entry { ticket = ticket })
 over-ticket names entry ticket wide over = record {
-  printable = record { at = over.printable.at; act = over.printable.act; raise = over.printable.raise; reply = over.printable.reply };
+  printable = record { at = over.printable.at; act = over.printable.act; raise = over.printable.raise; reply = over.printable.reply; pure = over.printable.pure };
   fits = record { ticket = wide; actor = over.fits.actor; target = over.fits.target; at = over.fits.at; act = over.fits.act; reply = over.fits.reply };
 }
 

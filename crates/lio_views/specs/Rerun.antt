@@ -3,7 +3,7 @@ use Rattle.std.specs.Prelude.{◌≡◌, ℕ, List, [], ◌∷◌, ◌++◌, All
 use Rattle.lio_labels.specs.declared.label.Label.{Label}
 use Rattle.lio_values.specs.declared.value.Content.{Content}
 use Rattle.lio_values.specs.declared.entry.Entry.{Entry}
-use Rattle.lio_events.specs.Named.{IsContentNamed}
+use Rattle.lio_values.specs.Named.{IsContentNamed}
 use Rattle.lio_events.specs.Printable.{IsPrintable}
 use Rattle.lio_calculus.specs.Run.{LowRan, low_run}
 use Rattle.lio_calculus.specs.Step.{Configuration}

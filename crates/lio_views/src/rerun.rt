@@ -1,6 +1,7 @@
 //! The view of a run by rounds, which an observer computes from what it is told.
 ghost use Rattle.std.specs.Prelude.{◌≡◌, ◌++◌, ◌<◌, ◌^◌, IfErr, IfOk, List as list_of, OnOk};
-ghost use Rattle.std.specs.Prelude.{is_some, length, ℕ};
+ghost use Rattle.std.specs.Prelude.{All, is_some, length, ℕ};
+ghost use Rattle.lio_values.specs.Purity.{IsContentPure};
 ghost use Rattle.lio_syntax.specs.Statements.{Procedure};
 ghost use Rattle.lio_calculus_rounds.specs.Rounds.{tasks};
 ghost use Rattle.lio_erasure.specs.Low.{IsSeenOfSound, LeavesOutBlanks, low_cell_of};
@@ -40,15 +41,18 @@ struct Rerun {
 }
 
 impl Rerun {
-    ghost use Rattle.std.specs.Prelude.{◌≡◌, IfErr, IfOk, OnOk, [], false, length};
+    ghost use Rattle.std.specs.Prelude.{◌≡◌, All, IfErr, IfOk, OnOk, [], false, length};
+    ghost use Rattle.lio_values.specs.Purity.{IsContentPure};
     ghost use Rattle.lio_events.specs.Tickets.{AreBelow};
     ghost use Rattle.lio_views.specs.Asking.{HasAsked, HasCome, Lacks, RoundsSay, rerun_of};
 
     /// Takes the turn of task `k`, if it can take one, and tells whether it did.
     fn ask(&mut self, alloc: Global, k: u32) -> Result<bool, RerunFault>
-        requires { AreBelow (length self.old.journal) self.old.journal }
+        requires below { AreBelow (length self.old.journal) self.old.journal }
+        requires pure { All IsContentPure self.old.releases }
         ensures ok { IfOk result (HasAsked (rerun_of self.old) (rerun_of self.new) k) }
         ensures below { OnOk result (AreBelow (length self.new.journal) self.new.journal) }
+        ensures pure { All IsContentPure self.new.releases }
         ensures err { IfErr result (Lacks (rerun_of self.old) k) }
     {
         let mut entry = match self.low.turn(alloc, k, &mut self.releases) {
@@ -66,10 +70,12 @@ impl Rerun {
 
     /// Lets each task of the order, as it stands, take a turn if it can, and tells whether one did.
     fn round(&mut self, alloc: Global) -> Result<bool, RerunFault>
-        requires { AreBelow (length self.old.journal) self.old.journal }
+        requires below { AreBelow (length self.old.journal) self.old.journal }
+        requires pure { All IsContentPure self.old.releases }
         ensures ok { IfOk result
             (λ moved. HasCome (rerun_of self.old) (rerun_of self.new) moved []) }
         ensures below { OnOk result (AreBelow (length self.new.journal) self.new.journal) }
+        ensures pure { All IsContentPure self.new.releases }
         ensures err { IfErr result (RoundsSay (rerun_of self.old)) }
     {
         let count = self.order.len();
@@ -83,7 +89,8 @@ impl Rerun {
 
     /// Rounds until one moves nothing.
     fn run(&mut self, alloc: Global) -> Result<(), RerunFault>
-        requires { AreBelow (length self.old.journal) self.old.journal }
+        requires below { AreBelow (length self.old.journal) self.old.journal }
+        requires pure { All IsContentPure self.old.releases }
         ensures ok { OnOk result (HasCome (rerun_of self.old) (rerun_of self.new) false []) }
         ensures err { IfErr result (RoundsSay (rerun_of self.old)) }
     {
@@ -130,6 +137,7 @@ pub fn rerun_view(
 ) -> Result<(Journal, Contents), RerunFault>
     requires seen { IsSeenOfSound observer.now (low_configuration_of script.now longest start) }
     requires kept { LeavesOutBlanks start }
+    requires pure { All IsContentPure releases }
     ensures ok { IfOk result (λ it. AreRoundsOf observer.now
         (low_configuration_of script.now longest start) releases it.0 it.1) }
     ensures printable { IfOk result (λ it. CanBePrinted

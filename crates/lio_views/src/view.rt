@@ -19,7 +19,7 @@ use lio_events::{Contents, Journal, releases};
 use lio_events_reading::{EntryFault, read_seen};
 use lio_labels::Label;
 use lio_syntax::Script;
-use lio_values::{Content, Entry};
+use lio_values::{Content, Entry, FaultKind};
 use std::alloc::Global;
 
 /// Whether no task can take a turn of the erased calculus.
@@ -36,13 +36,28 @@ fn is_complete(low: &Low) -> bool
     true
 }
 
-/// Whether none of the contents is hidden.
+/// Whether a content isn't hidden, and what it keeps is pure.
+fn is_shown(content: &Content) -> bool
+    ensures yes { result ≡ true → IsShownContent content.now }
+    ensures no { result ≡ false → IsShownContent content.now → ⊥ }
+{
+    match content {
+        Content::Kept(plain) => plain.is_pure(),
+        Content::Faulted(fault) => match &fault.get().kind {
+            FaultKind::User(plain) => plain.is_pure(),
+            _ => true,
+        },
+        Content::Hidden => false,
+    }
+}
+
+/// Whether none of the contents is hidden, and what they keep is pure.
 fn are_shown(contents: &[Content]) -> bool
     ensures yes { result ≡ true → All IsShownContent contents.now }
     ensures no { result ≡ false → All IsShownContent contents.now → ⊥ }
 {
     for content in contents {
-        if matches!(content, Content::Hidden) {
+        if !is_shown(content) {
             return false;
         }
     }

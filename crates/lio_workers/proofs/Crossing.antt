@@ -2,7 +2,7 @@
 use denote.Param.Send.{IsSend, IsSync, sendable}
 use denote.Param.SendFields.{declared_send, declared_sync, as_row_send, as_row_sync}
 use Rattle.std.proofs.Crossing.{crosses}
-use Rattle.lio_values.proofs.entry.Entry.TheSendSync as entry
+use Rattle.lio_cells.proofs.ValueCrossing.{entry-send}
 use Rattle.lio_runq.specs.declared.rule.Bound.{Ghosts}
 use Rattle.lio_runq.proofs.passes.RunPass.TheSendSync as pass
 use Rattle.lio_runq.proofs.queue.RunQueue.TheSendSync as queue
@@ -20,7 +20,7 @@ worker-send B bound send = declared_send (Worker.the_type B bound) (
   search (sendable, crosses, seat-send) depth 100 fits 20000,
   (
     search (sendable, crosses, as_row_send, pass.the_send, send) depth 100 fits 20000,
-    (search (sendable, crosses, as_row_send, entry.the_send) depth 100 fits 20000, (search (sendable, crosses, as_row_send), (search (sendable, crosses, as_row_send), tt))),
+    (search (sendable, crosses, as_row_send, entry-send) depth 100 fits 20000, (search (sendable, crosses, as_row_send), (search (sendable, crosses, as_row_send), tt))),
   ),
 )
 

@@ -35,26 +35,49 @@ fn no_such(
     ))
 }
 
+/// What is wrong with an argument, or with one in it, where the whole has this number in its task.
+#[cycle(arguments)]
+fn named_mistake(alloc: Global, draft: &Draft, number: usize, argument: &ArgDraft) -> Found {
+    let inputs = draft.inputs.as_slice();
+    let channels = draft.channels.as_slice();
+    match argument {
+        ArgDraft::Input(name) => no_such(
+            alloc,
+            number,
+            "input",
+            name,
+            inputs,
+            channels,
+            "a channel",
+        ),
+        ArgDraft::Channel(name) => {
+            no_such(alloc, number, "channel", name, channels, inputs, "an input")
+        }
+        ArgDraft::Items(arguments) => items_mistake(alloc, draft, number, arguments.as_slice()),
+        _ => Ok(None),
+    }
+}
+
+/// What is wrong with the arguments in the one that has this number in its task.
+#[cycle(arguments)]
+fn items_mistake(alloc: Global, draft: &Draft, number: usize, arguments: &[ArgDraft]) -> Found {
+    for argument in arguments {
+        if let Some(mistake) = named_mistake(alloc, draft, number, argument)? {
+            return Ok(Some(mistake));
+        }
+    }
+    Ok(None)
+}
+
 /// What is wrong with a task's arguments.
 pub(crate) fn argument_mistake(alloc: Global, draft: &Draft, entry: u32) -> Found {
     let Entry::Task(_, task) = entry_of(draft, entry) else {
         return Ok(None);
     };
-    let inputs = draft.inputs.as_slice();
-    let channels = draft.channels.as_slice();
     for (place, argument) in task.args.as_slice().iter().enumerate() {
         let number = place.saturating_add(1);
-        let found = match argument {
-            ArgDraft::Input(name) => {
-                no_such(alloc, number, "input", name, inputs, channels, "a channel")?
-            }
-            ArgDraft::Channel(name) => {
-                no_such(alloc, number, "channel", name, channels, inputs, "an input")?
-            }
-            _ => None,
-        };
-        if found.is_some() {
-            return Ok(found);
+        if let Some(mistake) = named_mistake(alloc, draft, number, argument)? {
+            return Ok(Some(mistake));
         }
     }
     Ok(None)

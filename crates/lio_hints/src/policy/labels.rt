@@ -40,9 +40,9 @@ fn label_at(alloc: Global, names: &Names, key: &str, text: &Text) -> Found {
     at_key(alloc, key, found)
 }
 
-/// What is wrong with an argument, which has a place in its list.
-fn argument_label(alloc: Global, names: &Names, argument: &ArgDraft, place: usize) -> Found {
-    let number = place.saturating_add(1);
+/// What is wrong with an argument, or with one in it, where the whole has this number in its task.
+#[cycle(labels)]
+fn argument_label(alloc: Global, names: &Names, argument: &ArgDraft, number: usize) -> Found {
     let key = format!(in alloc; "argument {number}")?;
     match argument {
         ArgDraft::Label(text) => label_at(alloc, names, key.as_str(), text),
@@ -50,8 +50,22 @@ fn argument_label(alloc: Global, names: &Names, argument: &ArgDraft, place: usiz
             let found = formula_text_mistake(alloc, names, 0, text.bytes())?;
             at_key(alloc, key.as_str(), found)
         }
+        ArgDraft::Items(arguments) => {
+            argument_labels(alloc, names, arguments.as_slice(), number)
+        }
         _ => Ok(None),
     }
+}
+
+/// What is wrong with the arguments in the one that has this number in its task.
+#[cycle(labels)]
+fn argument_labels(alloc: Global, names: &Names, arguments: &[ArgDraft], number: usize) -> Found {
+    for argument in arguments {
+        if let Some(mistake) = argument_label(alloc, names, argument, number)? {
+            return Ok(Some(mistake));
+        }
+    }
+    Ok(None)
 }
 
 /// What is wrong with the labels of a task.
@@ -63,7 +77,7 @@ fn task_labels(alloc: Global, names: &Names, task: &TaskDraft) -> Found {
         return Ok(Some(mistake));
     }
     for (place, argument) in task.args.as_slice().iter().enumerate() {
-        if let Some(mistake) = argument_label(alloc, names, argument, place)? {
+        if let Some(mistake) = argument_label(alloc, names, argument, place.saturating_add(1))? {
             return Ok(Some(mistake));
         }
     }

@@ -2,31 +2,32 @@
 
 use crate::policy::entry::{Entry, entry_of};
 use crate::policy::{Found, told};
-use lio_policy_draft::{ArgDraft, Draft, TaskDraft};
+use lio_policy_draft::{ArgDraft, Draft, Limits, TaskDraft, limits_of};
 use std::alloc::Global;
-
-const MOST_ENTRIES: usize = 256;
-
-const MOST_LONGEST: u64 = 65_536;
-
-const MOST_TURNS: u64 = 1_048_576;
-
-const MOST_CELLS: u64 = 65_536;
 
 const MOST_WORK: u64 = 1_073_741_824;
 
 const MOST_ARGUMENTS: usize = 8;
 
+const MOST_DEPTH: usize = 8;
+
+const MOST_INPUTS: usize = 4;
+
 /// What is wrong with the version.
 pub(crate) fn version_mistake(alloc: Global, draft: &Draft) -> Found {
     match draft.version {
         Some(version) => told(format!(in alloc;
-            "\"version\" is {version}; this host reads policies of version 1"
+            "\"version\" is {version}; this host reads policies of versions 1 and 2"
         )),
         None => told(format!(in alloc;
-            "\"version\" is negative; this host reads policies of version 1"
+            "\"version\" is negative; this host reads policies of versions 1 and 2"
         )),
     }
+}
+
+/// The limits of a draft's version.
+fn limits_in(draft: &Draft) -> Limits {
+    limits_of(draft.version.unwrap_or(0))
 }
 
 /// The turns and the cells of so many tasks.
@@ -43,11 +44,12 @@ fn sums(tasks: &[TaskDraft], count: usize) -> (u64, u64) {
 /// What is wrong with the numbers of the document.
 fn document_limits(alloc: Global, draft: &Draft) -> Found {
     let tasks = draft.tasks.as_slice();
+    let most = limits_in(draft).longest;
     let Some(longest) = draft.longest else {
-        return told(format!(in alloc; "\"longest\" is negative; it is 1 to {MOST_LONGEST}"));
+        return told(format!(in alloc; "\"longest\" is negative; it is 1 to {most}"));
     };
-    if longest < 1 || longest > MOST_LONGEST {
-        return told(format!(in alloc; "\"longest\" is {longest}; it is 1 to {MOST_LONGEST}"));
+    if longest < 1 || longest > most {
+        return told(format!(in alloc; "\"longest\" is {longest}; it is 1 to {most}"));
     }
     let (turns, _) = sums(tasks, tasks.len());
     let work = longest.saturating_mul(turns);
@@ -70,19 +72,19 @@ fn long_text(task: &TaskDraft, longest: u64) -> Option<(usize, usize)> {
 
 /// What is wrong with the numbers of a task, which has a place among the tasks.
 fn task_limits(alloc: Global, draft: &Draft, place: usize, task: &TaskDraft) -> Found {
-    if place >= MOST_ENTRIES {
-        return told(format!(in alloc; "there are at most {MOST_ENTRIES} tasks"));
+    let limits = limits_in(draft);
+    let most = limits.entries;
+    if place >= most {
+        return told(format!(in alloc; "there are at most {most} tasks"));
     }
     let (turns, cells) = sums(draft.tasks.as_slice(), place.saturating_add(1));
-    if turns > MOST_TURNS {
-        return told(format!(in alloc;
-            "with it the tasks have {turns} turns, more than {MOST_TURNS}"
-        ));
+    if turns > limits.turns {
+        let most = limits.turns;
+        return told(format!(in alloc; "with it the tasks have {turns} turns, more than {most}"));
     }
-    if cells > MOST_CELLS {
-        return told(format!(in alloc;
-            "with it the tasks have {cells} cells, more than {MOST_CELLS}"
-        ));
+    if cells > limits.cells {
+        let most = limits.cells;
+        return told(format!(in alloc; "with it the tasks have {cells} cells, more than {most}"));
     }
     let count = task.args.as_slice().len();
     if count > MOST_ARGUMENTS {
@@ -95,19 +97,30 @@ fn task_limits(alloc: Global, draft: &Draft, place: usize, task: &TaskDraft) -> 
         Some((number, bytes)) => told(format!(in alloc;
             "argument {number} has {bytes} bytes, and \"longest\" is {longest}"
         )),
-        None => Ok(None),
+        None => list_limits(alloc, task, longest),
     }
+}
+
+/// What is wrong with a list among a task's arguments.
+fn list_limits(alloc: Global, task: &TaskDraft, longest: u64) -> Found {
+    for argument in task.args.as_slice() {
+        if let ArgDraft::Items(_) = argument {
+            return told(format!(in alloc;
+                "it has a list that is more than {MOST_DEPTH} deep, larger than \"longest\", which is {longest}, or has more than {MOST_INPUTS} inputs"
+            ));
+        }
+    }
+    Ok(None)
 }
 
 /// What is wrong with the numbers of an entry.
 pub(crate) fn limit_mistake(alloc: Global, draft: &Draft, entry: u32) -> Found {
+    let most = limits_in(draft).entries;
     match entry_of(draft, entry) {
         Entry::Document => document_limits(alloc, draft),
         Entry::Principal(_, _) => Ok(None),
-        Entry::Channel(_, _) => {
-            told(format!(in alloc; "there are at most {MOST_ENTRIES} channels"))
-        }
-        Entry::Input(_, _) => told(format!(in alloc; "there are at most {MOST_ENTRIES} inputs")),
+        Entry::Channel(_, _) => told(format!(in alloc; "there are at most {most} channels")),
+        Entry::Input(_, _) => told(format!(in alloc; "there are at most {most} inputs")),
         Entry::Task(place, task) => task_limits(alloc, draft, place, task),
     }
 }

@@ -218,8 +218,29 @@ fn unknown(alloc: Global, name: &str, lacked: Option<Key>) -> Found {
     }
 }
 
-/// What is wrong with an argument, which has a place in its list.
-fn argument_mistake(alloc: Global, value: &Value, place: usize) -> Found {
+/// The key of an argument that is a list, in policies of version 2.
+const ITEMS: Key = Key {
+    name: "items",
+    kind: Kind::List,
+};
+
+/// The key of an argument with a name, if there is one; `lists` is whether an argument may be a
+/// list.
+fn argument_key(lists: bool, name: &str) -> Option<Key> {
+    if lists && name == ITEMS.name {
+        return Some(ITEMS);
+    }
+    key_named(&ARGUMENT, name)
+}
+
+/// Whether an argument of a document may be a list.
+fn has_lists(document: &Value) -> bool {
+    document.get("version").and_then(Value::as_u64) == Some(2)
+}
+
+/// What is wrong with an argument, which has a place in its list; `lists` is whether it may be a
+/// list. What stands in a list isn't looked at.
+fn argument_mistake(alloc: Global, lists: bool, value: &Value, place: usize) -> Found {
     let number = place.saturating_add(1);
     let Some(members) = value.as_object() else {
         let is = what_is(value);
@@ -233,9 +254,14 @@ fn argument_mistake(alloc: Global, value: &Value, place: usize) -> Found {
     }
     for (name, found) in members {
         let shown = Bytes(name.as_str().as_bytes());
-        let Some(key) = key_named(&ARGUMENT, name.as_str()) else {
+        let Some(key) = argument_key(lists, name.as_str()) else {
+            let last = if lists {
+                ", unit and items"
+            } else {
+                " and unit"
+            };
             return told(format!(in alloc;
-                "argument {number}: \"{shown}\" is no key here; there are input, channel, label, power, text, whole, flag and unit"
+                "argument {number}: \"{shown}\" is no key here; there are input, channel, label, power, text, whole, flag{last}"
             ));
         };
         if !is_of(found, key.kind) {
@@ -249,13 +275,13 @@ fn argument_mistake(alloc: Global, value: &Value, place: usize) -> Found {
     Ok(None)
 }
 
-/// What is wrong with a task's arguments.
-fn arguments_mistake(alloc: Global, task: &Value) -> Found {
+/// What is wrong with a task's arguments, which stand in no list.
+fn arguments_mistake(alloc: Global, lists: bool, task: &Value) -> Found {
     let Some(arguments) = task.get("args").and_then(Value::as_array) else {
         return Ok(None);
     };
     for (place, argument) in arguments.iter().enumerate() {
-        if let Some(mistake) = argument_mistake(alloc, argument, place)? {
+        if let Some(mistake) = argument_mistake(alloc, lists, argument, place)? {
             return Ok(Some(mistake));
         }
     }
@@ -263,10 +289,10 @@ fn arguments_mistake(alloc: Global, task: &Value) -> Found {
 }
 
 /// What is wrong with a task.
-fn task_mistake(alloc: Global, task: &Value) -> Found {
+fn task_mistake(alloc: Global, lists: bool, task: &Value) -> Found {
     match keys_mistake(alloc, task, &TASK)? {
         Some(mistake) => Ok(Some(mistake)),
-        None => arguments_mistake(alloc, task),
+        None => arguments_mistake(alloc, lists, task),
     }
 }
 
@@ -305,7 +331,7 @@ fn item_mistake(alloc: Global, document: &Value, place: usize) -> Found {
     }
     let place = place.saturating_sub(inputs.len());
     match items(document, "tasks").get(place) {
-        Some(item) => task_mistake(alloc, item),
+        Some(item) => task_mistake(alloc, has_lists(document), item),
         None => Ok(None),
     }
 }

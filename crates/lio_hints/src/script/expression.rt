@@ -206,7 +206,7 @@ fn binary_mistake(
             format!(in alloc; "there is no \"{shown}\"; {mend}")
         }
         None => format!(in alloc;
-            "\"{shown}\" is no operator on two values; there are + - * / % == != < <= and or join meet flows from upto find"
+            "\"{shown}\" is no operator on two values; there are + - * / % == != < <= and or join meet flows from upto find push at"
         ),
     };
     found(op.place, text)

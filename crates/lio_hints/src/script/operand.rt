@@ -79,6 +79,12 @@ pub(crate) fn operand_mistake(alloc: Global, names: &Names, word: Word<'_>) -> F
             format!(in alloc; "the operator \"{shown}\" stands where a value is wanted"),
         ),
         [b'0'..=b'9' | b'-' | b'+', ..] => number_mistake(alloc, word),
+        [b'[', ..] => found(
+            place,
+            format!(in alloc;
+                "a list begins as [] and gets its items by push, each on a line of its own: let X = X push A"
+            ),
+        ),
         [b'(', ..] => found(
             place,
             format!(in alloc;

@@ -10,6 +10,6 @@ returns-clause-finds c =
 
 pub returns-clause-over : goal.returns-clause-over
 returns-clause-over c = record {
-  printable = record { at = c.in_ok-at.ensures.over.0; act = c.in_ok-act.ensures.over.0.0; raise = c.in_ok-act.ensures.over.0.1; reply = c.in_ok-act.ensures.over.1.0 };
-  fits = record { ticket = search rules; actor = search rules; target = search rules; at = c.in_ok-at.ensures.over.1; act = c.in_ok-act.ensures.over.0.2; reply = c.in_ok-act.ensures.over.1.1 };
+  printable = record { at = c.in_ok-at.ensures.over.0; act = c.in_ok-act.ensures.over.0.0; raise = c.in_ok-act.ensures.over.0.1; reply = c.in_ok-act.ensures.over.1.0; pure = (c.in_ok-act.ensures.over.0.3, c.in_ok-act.ensures.over.1.2) };
+  fits = record { ticket = search rules; actor = search rules; target = c.target-target.ensures.fits; at = c.in_ok-at.ensures.over.1; act = c.in_ok-act.ensures.over.0.2; reply = c.in_ok-act.ensures.over.1.1 };
 }

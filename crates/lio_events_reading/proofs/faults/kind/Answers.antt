@@ -2,7 +2,7 @@ use Rattle.std.proofs.Common.{sym}
 use Rattle.std.proofs.lemmas.Result.{IfOk-weaker}
 use Rattle.lio_events_reading.specs.Reading.{Finds}
 use Rattle.lio_values.specs.declared.fault.FaultKind.{FaultKind}
-use Rattle.lio_events.specs.ValueText.{kind_text}
+use Rattle.lio_values.specs.ValueText.{kind_text}
 use Rattle.lio_events_reading.specs.Over.{IsKindOver}
 use Rattle.lio_events_reading.proofs.ReadingLemmas.{finds_by_word, finds_no_word}
 use Rattle.lio_events_reading.proofs.KindLemmas.{kind_begins}

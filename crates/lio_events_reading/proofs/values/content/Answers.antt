@@ -4,7 +4,7 @@ use Rattle.lio_events_reading.specs.declared.start.Start.TheVariants as start
 use Rattle.lio_events_reading.specs.Start.{start_of}
 use Rattle.lio_events_reading.specs.Reading.{Finds}
 use Rattle.lio_values.specs.declared.value.Content.{Content}
-use Rattle.lio_events.specs.ValueText.{content_text}
+use Rattle.lio_values.specs.ValueText.{content_text}
 use Rattle.lio_events_reading.specs.Over.{IsContentOver}
 use Rattle.lio_events_reading.proofs.ValueLemmas.{finds_fault_content, finds_hidden}
 use Rattle.lio_events_reading.proofs.values.content.Goals as goal

@@ -1,8 +1,13 @@
-use Rattle.std.proofs.Common.{◌≡◌, ◌∙◌, ap, subst, ◌<◌, List, length, get_or}
+use Rattle.std.proofs.Common.{◌≡◌, ◌∙◌, ap, subst, arith, ◌<◌, List, length, get_or}
 use Rattle.lio_policy.specs.declared.policy.FileEntry.{FileEntry}
 use Rattle.lio_policy.specs.declared.policy.Policy.{Policy}
+use Rattle.lio_policy.proofs.PolicyLemmas.{limits_are_small}
 use Rattle.lio_front.proofs.SumLemmas.{lines-push}
 use Rattle.lio_front.proofs.summing.print_channels.Goals as goal
+
+pub overflow_cast-number : goal.overflow_cast-number
+overflow_cast-number c =
+    omega (arith, c.loop-number-test.true, c.policy.invariant.limits.channels, (limits_are_small c.policy.inside.version).entries, ap (length {A = FileEntry}) c.as_slice-channel-items.ensures)
 
 pub loop-number-preserved : goal.loop-number-preserved
 loop-number-preserved c =

@@ -2,8 +2,13 @@ use Rattle.std.proofs.Common.{◌≡◌, ◌∙◌, ap, subst, arith, ◌<◌, L
 use Rattle.std.proofs.lemmas.Result.{err_from_is_err_and}
 use Rattle.lio_policy.specs.declared.policy.FileEntry.{FileEntry}
 use Rattle.lio_policy.specs.declared.policy.Policy.{Policy}
+use Rattle.lio_policy.proofs.PolicyLemmas.{limits_are_small}
 use Rattle.lio_front.proofs.WriteLemmas.{kept-next, out-says}
 use Rattle.lio_front.proofs.write.keep_channels.Goals as goal
+
+pub overflow_cast-number : goal.overflow_cast-number
+overflow_cast-number g c =
+    omega (arith, c.loop-number-test.true, c.policy.invariant.limits.channels, (limits_are_small c.policy.inside.version).entries, ap (length {A = FileEntry}) c.as_slice-channel-items.ensures)
 
 pub returns-in_err-keep_channel-clause-err : goal.returns-in_err-keep_channel-clause-err
 returns-in_err-keep_channel-clause-err g c =

@@ -1,7 +1,7 @@
 use denote.Exit.{yes}
 use denote.Param.Send.{arg_send, arg_sync, param_send, param_sync, shr_sync}
 use Rattle.std.proofs.Crossing.{sync}
-use Rattle.lio_syntax.proofs.script.Script.TheSendSync as script
+use Rattle.lio_table.proofs.ScriptCrossing.{script-sync}
 use Rattle.lio_table.proofs.Crossing.{seat-send, table-sync}
 use Rattle.lio_host.proofs.Crossing.{captures-sync}
 use Rattle.lio_host.proofs.tables.take_turns_beside.Goals as goal
@@ -15,4 +15,4 @@ for_each_mut-requires-sync-F g c κs within =
     (shr_sync _ _ _ c.type_bounds.sync-R)
     (shr_sync _ _ _ sync)
     (shr_sync _ _ _ table-sync)
-    (shr_sync _ _ _ script.the_sync)))
+    (shr_sync _ _ _ script-sync)))

@@ -53,7 +53,7 @@ returns-in_err-tasks-clause-fault c =
     let ni = seen_none file_of (1 + length parts.principals.now + length parts.channels.now) parts.inputs.now c.in_ok-inputs.ensures.0 in
     let p = err_from_is_err_and c.from_residual-in_err-tasks.result c.from_residual-in_err-tasks.ensures.1 in
     let fault = c.in_err-tasks.field-0.0 in
-    let h = seen_blames task_of SHAPE (1 + length parts.principals.now + length parts.channels.now + length parts.inputs.now) parts.tasks.now fault c.in_err-tasks.ensures in
+    let h = seen_blames (task_of parts.version) SHAPE (1 + length parts.principals.now + length parts.channels.now + length parts.inputs.now) parts.tasks.now fault c.in_err-tasks.ensures in
     rw (p.1, p.2) (drafted_fault seen fault (fault_in_tasks SHAPE _ _ _ (shape_fails seen) fault lens refl np nc ni h))
 
 pub returns-clause-ok : goal.returns-clause-ok
@@ -64,8 +64,8 @@ returns-clause-ok c =
     let np = seen_none as_str 1 parts.principals.now c.in_ok-principals.ensures.0 in
     let nc = seen_none file_of (1 + length parts.principals.now) parts.channels.now c.in_ok-channels.ensures.0 in
     let ni = seen_none file_of (1 + length parts.principals.now + length parts.channels.now) parts.inputs.now c.in_ok-inputs.ensures.0 in
-    let nt = seen_none task_of (1 + length parts.principals.now + length parts.channels.now + length parts.inputs.now) parts.tasks.now c.in_ok-tasks.ensures.0 in
+    let nt = seen_none (task_of parts.version) (1 + length parts.principals.now + length parts.channels.now + length parts.inputs.now) parts.tasks.now c.in_ok-tasks.ensures.0 in
     drafted_ok seen c.in_ok-principals.principals c.in_ok-channels.channels c.in_ok-inputs.inputs c.in_ok-tasks.tasks
     (none_in_all _ _ _ (shape_fails seen) lens refl np nc ni nt)
     (seen_made as_str parts.principals.now _ c.in_ok-principals.ensures.1) (seen_made file_of parts.channels.now _ c.in_ok-channels.ensures.1)
-    (seen_made file_of parts.inputs.now _ c.in_ok-inputs.ensures.1) (seen_made task_of parts.tasks.now _ c.in_ok-tasks.ensures.1)
+    (seen_made file_of parts.inputs.now _ c.in_ok-inputs.ensures.1) (seen_made (task_of parts.version) parts.tasks.now _ c.in_ok-tasks.ensures.1)

@@ -1,5 +1,5 @@
 use Rattle.std.proofs.Common.{◌∙◌, sym, subst, All}
-use Rattle.lio_events.specs.Named.{IsContentNamed}
+use Rattle.lio_calculus_names.specs.NameLaws.{IsContentPrintable}
 use Rattle.lio_policy.specs.Policy.{PolicyParts}
 use Rattle.lio_calculus_names.specs.Configuration.{NamesOnly}
 use Rattle.lio_erasure.specs.LowParts.{low_of}
@@ -11,4 +11,7 @@ turns-text-requires-clause-named c =
 
 pub turns-text-requires-clause-contents : goal.turns-text-requires-clause-contents
 turns-text-requires-clause-contents c =
-    subst (λ (p : PolicyParts). All (IsContentNamed p.names) c.args.contents.now) (sym (c.policy.view_is ∙ c.policy-policy.ensures.policy)) c.requires
+    subst (λ (p : PolicyParts). All (IsContentPrintable p.names) c.args.contents.now) (sym (c.policy.view_is ∙ c.policy-policy.ensures.policy)) c.requires
+
+pub cells-text-requires : goal.cells-text-requires
+cells-text-requires c = λ place d within. (c.requires place d within).1

@@ -2,6 +2,9 @@ use Rattle.lio_erasure.specs.LowParts.{low_of}
 use Rattle.lio_rows.proofs.LowNames.{IsTakenNamed, taken_is_named}
 use Rattle.lio_rows.proofs.low.turn.Goals as goal
 
+pub turn-requires : goal.turn-requires
+turn-requires c = λ place d within. (c.requires.contents place d within).1
+
 pub returns : goal.returns
 returns c =
     let taken : IsTakenNamed c.args.names.now (low_of c.turn.new.self) c.turn.new.releases c.turn.result =

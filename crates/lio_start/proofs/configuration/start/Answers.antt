@@ -1,17 +1,35 @@
-use Rattle.std.proofs.Common.{◌≡◌, ◌∙◌, ◌+◌, List, [], ℕ, length, ap, sym, subst}
+use Rattle.std.proofs.Common.{◌≡◌, ◌∙◌, ◌+◌, List, [], ℕ, length, ap, sym, subst, arith}
 use Rattle.std.proofs.lemmas.List.Elements.{All-nil}
+use Rattle.lio_values.specs.declared.value.Value.{Value}
 use Rattle.lio_syntax.specs.Statements.{Procedure}
 use Rattle.lio_config.specs.declared.config.Holder.{Holder}
 use Rattle.lio_config.specs.Logs.{HaveNoLogs}
 use Rattle.lio_calculus_rounds.specs.WellFormed.{IsWellFormed}
 use Rattle.lio_policy.specs.Policy.{PolicyParts}
 use Rattle.lio_policy.specs.declared.policy.FileEntry.{FileEntry}
+use Rattle.lio_policy.specs.declared.policy.TaskEntry.{TaskEntry}
+use Rattle.lio_policy.proofs.PolicyLemmas.{limits_are_small}
 use Rattle.lio_start.specs.Job.{IsJob, JobParts}
 use Rattle.lio_start.specs.Making.{Adds, CanBeginAll}
-use Rattle.lio_start.specs.Start.{channel_cell, job_cells, sealed_inputs}
+use Rattle.lio_start.specs.Start.{cells_in_all, channel_cell, job_cells, sealed_inputs}
 use Rattle.lio_start.proofs.LawLemmas.{start_is_well_formed}
 use Rattle.lio_start.proofs.MakingLemmas.{all-begin, started}
 use Rattle.lio_start.proofs.configuration.start.Goals as goal
+
+pub overflow_cast-first : goal.overflow_cast-first
+overflow_cast-first c =
+    omega (
+      arith,
+      c.policy.invariant.limits.channels,
+      c.policy.invariant.limits.tasks,
+      (limits_are_small c.policy.inside.version).entries,
+      ap (length {A = FileEntry}) c.as_slice-channels.ensures,
+      ap (length {A = TaskEntry}) c.as_slice-tasks.ensures,
+    )
+
+pub cells_in_all-requires : goal.cells_in_all-requires
+cells_in_all-requires c =
+    omega (arith, c.policy.invariant.limits.cells, (limits_are_small c.policy.inside.version).cells, ap cells_in_all c.as_slice-tasks.ensures)
 
 pub add_jobs-requires : goal.add_jobs-requires
 add_jobs-requires c =
@@ -20,10 +38,17 @@ add_jobs-requires c =
     let policy_is = c.policy.view_is ∙ c.policy-policy.ensures.policy in
     let channels = c.as_slice-channels.result.now in
     let tasks = c.as_slice-tasks.result.now in
-    subst (λ (script : List Procedure). CanBeginAll script (length channels + length tasks) tasks) (sym c.script-script.ensures.script)
-    (all-begin job.policy job.script channels tasks is.policy is.fits
+    let longest = c.policy.inside.longest in
+    let inputs =
+    c.in_ok-inputs.ensures
+    ∙ ap (λ (inputs : List FileEntry). sealed_inputs longest inputs c.inputs.result.now) c.as_slice.ensures
+    ∙ ap (λ (texts : List (List ℕ)). sealed_inputs longest c.policy.inside.inputs texts) c.inputs.ensures.inputs
+    ∙ ap (λ (p : PolicyParts). sealed_inputs p.longest p.inputs job.inputs) policy_is in
+    subst (λ (script : List Procedure). CanBeginAll script c.in_ok-inputs.inputs (length channels + length tasks) tasks) (sym c.script-script.ensures.script)
+    (subst (λ (values : List Value). CanBeginAll job.script values (length channels + length tasks) tasks) (sym inputs)
+    (all-begin job.policy job.script job.inputs channels tasks is.policy is.fits
     (c.as_slice-channels.ensures ∙ ap (λ (p : PolicyParts). p.channels) policy_is)
-    (c.as_slice-tasks.ensures ∙ ap (λ (p : PolicyParts). p.tasks) policy_is))
+    (c.as_slice-tasks.ensures ∙ ap (λ (p : PolicyParts). p.tasks) policy_is)))
 
 pub returns : goal.returns
 returns c =

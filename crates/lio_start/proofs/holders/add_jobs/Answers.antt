@@ -6,13 +6,13 @@ use Rattle.lio_start.proofs.MakingLemmas.{begins-here, begins-next, jobs-next, j
 use Rattle.lio_start.proofs.holders.add_jobs.Goals as goal
 
 pub job-requires : goal.job-requires
-job-requires c = begins-here c.args.script.now c.loop-entry.next c.loop-entry.entry-index c.args.tasks.now c.entry-item.result c.loop-entry-test.true c.entry-item.is c.loop-entry.invariant.can
+job-requires c = begins-here c.args.script.now c.args.inputs.now c.loop-entry.next c.loop-entry.entry-index c.args.tasks.now c.entry-item.result c.loop-entry-test.true c.entry-item.is c.loop-entry.invariant.can
 
 pub loop-entry-preserved : goal.loop-entry-preserved
 loop-entry-preserved c =
     let whole = map (cell_of c.args.script.now) c.args.holders.now.items ++ job_cells c.args.script.now c.args.inputs.now c.args.first c.args.tasks.now in
     record {
-      can = begins-next c.args.script.now c.loop-entry.next c.loop-entry.entry-index c.args.tasks.now c.entry-item.result c.loop-entry-test.true c.entry-item.is c.loop-entry.invariant.can;
+      can = begins-next c.args.script.now c.args.inputs.now c.loop-entry.next c.loop-entry.entry-index c.args.tasks.now c.entry-item.result c.loop-entry-test.true c.entry-item.is c.loop-entry.invariant.can;
       adds = subst (λ (after : List Holder). map (cell_of c.args.script.now) after
           ++ job_cells c.args.script.now c.args.inputs.now (c.loop-entry.next + c.entry-item.result.cells) (drop (c.loop-entry.entry-index + 1) c.args.tasks.now) ≡ whole) (sym {A = List Holder} c.in_ok-push.ensures.items)
           (jobs-next c.args.script.now c.args.inputs.now c.loop-entry.holders.items whole c.loop-entry.next c.loop-entry.entry-index c.args.tasks.now c.entry-item.result c.in_ok-job.field-0

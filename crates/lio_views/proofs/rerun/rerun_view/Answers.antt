@@ -21,7 +21,7 @@ returns-in-Ok-clause-printable c =
     let begun : Rerun = record { low = c.in_ok-low.low; releases = c.args.releases; journal = c.new.result; order = c.in_ok-order.order } in
     rounds-printable c.args.observer.now here c.args.releases c.run.new.self.journal c.run.new.self.releases
     (come-rounds c.args.observer.now here c.args.releases (rerun_of begun) (rerun_of c.run.new.self) c.in-Ok.ensures.ok (ap (λ (s : ErasedState). s.observer) c.in_ok-low.ensures) (ap (λ (s : ErasedState). s.configuration) c.in_ok-low.ensures) refl
-    c.new.ensures (c.in_ok-order.ensures c.args.script.now c.args.longest))
+    c.new.ensures (c.in_ok-order.ensures c.args.script.now c.args.longest)) c.requires.pure
 
 pub returns-in-Err-clause-err : goal.returns-in-Err-clause-err
 returns-in-Err-clause-err c =

@@ -1,10 +1,17 @@
 use Rattle.std.proofs.Common.{◌≡◌, ◌∙◌, sym, subst, rules, true, All}
 use Rattle.lio_calculus.specs.Laws.{IsShownContent}
+use Rattle.lio_calculus.proofs.PurityLemmas.{open-inner}
 use Rattle.lio_erasure.specs.LowParts.{ErasedState, low_of}
 use Rattle.lio_erasure.specs.Turn.{Stays}
 use Rattle.lio_erasure.specs.declared.low.LowFault.TheVariants.{Still}
 use Rattle.lio_views.proofs.SeenLemmas.{follows-took, not-followed, still-low}
 use Rattle.lio_views.proofs.view.follow.Goals as goal
+
+pub turn-requires : goal.turn-requires
+turn-requires c =
+    let holds : c.are_shown.result ≡ true = search rules in
+    let shown : All IsShownContent c.args.released.now = subst (All IsShownContent) c.as_slice.ensures (c.are_shown.ensures.yes holds) in
+    λ k d within. open-inner _ (shown k d within)
 
 pub returns-in-Ok : goal.returns-in-Ok
 returns-in-Ok c =

@@ -1,7 +1,7 @@
 use denote.Exit.{yes}
 use denote.Param.Send.{arg_send, arg_sync, param_send, param_sync, shr_sync}
 use Rattle.std.proofs.Crossing.{sync}
-use Rattle.lio_syntax.proofs.script.Script.TheSendSync as script
+use Rattle.lio_table.proofs.ScriptCrossing.{script-sync}
 use Rattle.lio_workers.proofs.Crossing.{captures-sync, shared-sync, worker-send}
 use Rattle.lio_workers.proofs.run.let_work.Goals as goal
 
@@ -14,5 +14,5 @@ for_each_mut-requires-sync-F g c κs within =
     (shr_sync _ _ _ c.type_bounds.sync-R)
     (shr_sync _ _ _ sync)
     (shr_sync _ _ _ (shared-sync _ _ c.type_bounds.send-B c.type_bounds.sync-B))
-    (shr_sync _ _ _ script.the_sync)
+    (shr_sync _ _ _ script-sync)
     (shr_sync _ _ _ c.type_bounds.sync-G)))

@@ -17,7 +17,7 @@ shown-requires-clause-there c = ap (λ (task : Option Task). is_some task) c.req
 pub shown-requires-clause-seen : goal.shown-requires-clause-seen
 shown-requires-clause-seen c =
     let inside : LowParts = record { script = c.self.inside.script; longest = c.self.inside.longest; observer = c.self.inside.observer; holders = c.self.inside.config } in
-    (visit-acts c.args.self.now c.args.k c.args.n c.args.act Done (erased-now inside c.args.self.now c.self.view_is c.self.invariant.0) c.requires.visits refl).acts.seen
+    (visit-acts c.args.self.now c.args.k c.args.n c.args.act Done (erased-now inside c.args.self.now c.self.view_is c.self.invariant.0) c.requires.visits refl tt).acts.seen
 
 pub same-self : goal.same-self
 same-self c = refl
@@ -45,7 +45,7 @@ pub turn_placing-requires-clause-advances : goal.turn_placing-requires-clause-ad
 turn_placing-requires-clause-advances c =
     let inside : LowParts = record { script = c.self.inside.script; longest = c.self.inside.longest; observer = c.self.inside.observer; holders = c.self.inside.config } in
     can-go inside c.args.self.now c.args.k (Some c.args.n) c.args.act Done c.in_ok-entry.entry c.self.view_is
-    (visit-acts c.args.self.now c.args.k c.args.n c.args.act Done (erased-now inside c.args.self.now c.self.view_is c.self.invariant.0) c.requires.visits refl) c.in_ok-entry.ensures
+    (visit-acts c.args.self.now c.args.k c.args.n c.args.act Done (erased-now inside c.args.self.now c.self.view_is c.self.invariant.0) c.requires.visits refl tt) c.in_ok-entry.ensures
 
 pub turn_placing-requires-clause-there : goal.turn_placing-requires-clause-there
 turn_placing-requires-clause-there c =

@@ -21,14 +21,17 @@ returns-in_default-clause-fault c =
           (task-low parts.script parts.longest parts.holders c.args.k None (sym (c.in_default.ensures ∙ ap (λ (p : LowParts). low_task_in p.holders c.args.k) c.self.view_is))),
     )
 
-pub release-requires : goal.release-requires
-release-requires c =
+pub release-requires-clause-plans : goal.release-requires-clause-plans
+release-requires-clause-plans c =
     let parts = c.args.self.now in
     let task = c.in-Some.task.now in
     let is : next_by (plan (program_of parts.script parts.longest) (state_in parts.script task)) ≡ next.Own c.in-Own.act c.in-Own.reply =
     sym (c.in_ok-next.ensures ∙ ap (λ (p : LowParts). next_by (plan (program_of p.script p.longest) (state_in p.script task))) c.self.view_is) ∙ c.in-Own.is in
     let (onward, plans) = next-own (plan (program_of parts.script parts.longest) (state_in parts.script task)) c.in-Own.act c.in-Own.reply is in
     record { task = task; is = sym (c.in-Some.ensures ∙ ap (λ (p : LowParts). low_task_in p.holders c.args.k) c.self.view_is); onward = onward; plans = plans }
+
+pub release-requires-clause-pure : goal.release-requires-clause-pure
+release-requires-clause-pure c = c.requires
 
 pub visit-requires : goal.visit-requires
 visit-requires c =
