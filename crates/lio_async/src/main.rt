@@ -11,20 +11,10 @@ ghost use Rattle.lio_host_words.specs.Sorted.{bytes_of_words};
 ghost use Rattle.lio_async_main.specs.Status.{host_of};
 ghost use Rattle.lio_async_main.specs.Words.{host_words};
 
-#[cfg(test)]
-mod cases;
-#[cfg(test)]
-mod polled;
-mod refusal;
-#[cfg(test)]
-mod rows;
-#[cfg(test)]
-mod tests;
-
-use crate::refusal::print_refusal;
 use lio_async_main::{CoopOutcome, CoopStatus, coop_main};
 use lio_clauses::NoMemory;
 use lio_host_main::HostStatus;
+use lio_messages_refusals::futures::print_refusal;
 use lio_outside::{Say, Store};
 use lio_system::{RealSay, RealStore};
 use std::fs::Files;

@@ -9,42 +9,11 @@ ghost use Rattle.lio_host_main.specs.ExitStatus.{exit_status as status_number};
 ghost use Rattle.lio_host_main.specs.Answers.{EndsWith};
 ghost use Rattle.lio_host_words.specs.Sorted.{bytes_of_words};
 
-#[cfg(test)]
-mod cases;
-#[cfg(test)]
-mod checked;
-#[cfg(test)]
-mod cut;
-#[cfg(test)]
-mod examples;
-#[cfg(test)]
-mod examples_of_tasks;
-#[cfg(test)]
-mod limits;
-#[cfg(test)]
-mod noted;
-#[cfg(test)]
-mod outputs;
-#[cfg(test)]
-mod rows;
-#[cfg(test)]
-mod seats;
-#[cfg(test)]
-mod tables;
-#[cfg(test)]
-mod tests;
-#[cfg(test)]
-mod threads;
-#[cfg(test)]
-mod worked;
-#[cfg(test)]
-mod workers;
-
 use lio_clauses::NoMemory;
 use lio_events::Journal;
 use lio_host_main::{HostStatus, Outcome, host_main};
-use lio_host_notes::{Source, notes_text, troubles_of};
-use lio_host_refusals::{print_refusal, refusal_detail, script_name, script_text};
+use lio_messages_notes::{Source, notes_text, troubles_of};
+use lio_messages_refusals::{print_refusal, refusal_detail, script_name, script_text};
 use lio_outside::{Say, Store};
 use lio_start::Job;
 use lio_system::{RealSay, RealStore};

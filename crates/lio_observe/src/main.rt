@@ -8,22 +8,8 @@ ghost use Rattle.lio_host_words.specs.Sorted.{bytes_of_words};
 ghost use Rattle.lio_observe_main.specs.Answers.{EndsWith};
 ghost use Rattle.lio_observe_main.specs.ExitStatus.{exit_status as status_number};
 
-#[cfg(test)]
-mod cases;
-mod detail;
-mod policy;
-mod refusal;
-#[cfg(test)]
-mod rows;
-mod script;
-#[cfg(test)]
-mod tests;
-mod usage;
-mod view;
-
-use crate::detail::refusal_detail;
-use crate::refusal::print_refusal;
 use lio_clauses::NoMemory;
+use lio_messages_refusals::observer::{print_refusal, refusal_detail};
 use lio_observe_main::{ObserveStatus, observe_main};
 use lio_outside::{Say, Store};
 use lio_system::{RealSay, RealStore};

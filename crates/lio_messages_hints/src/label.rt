@@ -1,0 +1,114 @@
+//! What is wrong with the text of a label or of a formula.
+use crate::message::{Message, Piece};
+use crate::mistake::{Found, Mistake, told, told_one};
+use lio_clauses::{Formula, Names, NoMemory, TextFault};
+use lio_labels::Label;
+use std::alloc::Global;
+
+/// What is wrong with a label's text, which stands at a place of the line.
+pub(crate) fn label_text_mistake(alloc: Global, names: &Names, place: usize, text: &[u8]) -> Found {
+    if !text.contains(&b'%') {
+        let text = "a label has two parts, with %% between them: who may learn, and who vouches; \"True\" is no restriction";
+        return told(alloc, place, text);
+    }
+    match Label::read(alloc, text, names) {
+        Ok(_) => Ok(None),
+        Err(fault) => fault_told(alloc, names, place, text, fault),
+    }
+}
+
+/// What is wrong with the text of a formula, which stands at a place.
+pub(crate) fn formula_text_mistake(
+    alloc: Global,
+    names: &Names,
+    place: usize,
+    text: &[u8],
+) -> Found {
+    match Formula::read(alloc, text, names) {
+        Ok(_) => Ok(None),
+        Err(fault) => fault_told(alloc, names, place, text, fault),
+    }
+}
+
+/// The fault of a text, which stands at a place.
+fn fault_told(
+    alloc: Global,
+    names: &Names,
+    place: usize,
+    text: &[u8],
+    fault: TextFault,
+) -> Found {
+    match fault {
+        TextFault::NoMemory => Err(NoMemory),
+        TextFault::Wide => told(alloc, place, "more than 64 clauses stand here"),
+        TextFault::Unknown(at) => {
+            let at = at as usize;
+            no_principal(alloc, names, place, token_at(text, at), at)
+        }
+        TextFault::BadText(at) => {
+            let at = at as usize;
+            no_token(alloc, place, token_at(text, at), at)
+        }
+    }
+}
+
+/// Whether a byte belongs to a name or a constant.
+fn is_of_word(byte: u8) -> bool {
+    byte.is_ascii_alphanumeric() || byte == b'_'
+}
+
+/// The name or the sign that begins at a place of a label's text.
+fn token_at(text: &[u8], at: usize) -> &[u8] {
+    let rest = text.get(at..).unwrap_or(b"");
+    let mut len = 0;
+    for byte in rest {
+        if !is_of_word(*byte) {
+            break;
+        }
+        len += 1;
+    }
+    match rest {
+        [b'/', b'\\', ..] | [b'\\', b'/', ..] | [b'%', b'%', ..] => &rest[..2],
+        _ => rest.get(..len.max(1)).unwrap_or(rest),
+    }
+}
+
+/// A name of no principal.
+fn no_principal(alloc: Global, names: &Names, place: usize, token: &[u8], at: usize) -> Found {
+    let mut message = Message::new(alloc);
+    let token = Piece::Shown(token);
+    message.fill("\"{}\" is no principal of the policy", token, Piece::Nothing, Piece::Nothing);
+    for number in 0..names.len() {
+        message.words(if number == 0 { " (" } else { ", " });
+        message.bytes(names.name(number));
+    }
+    message.words(if names.is_empty() {
+        ", which has none"
+    } else {
+        ")"
+    });
+    let text = message.finish()?;
+    let place = place.saturating_add(at);
+    Ok(Some(Mistake { place, text }))
+}
+
+/// A token that may not stand at its place.
+fn no_token(alloc: Global, place: usize, token: &[u8], at: usize) -> Found {
+    let template = match token {
+        [] => "the label ends too early; a principal, \"True\" or \"False\" is missing",
+        [b'\\', b'/'] => {
+            "\"\\/\" stands between principals in parentheses alone, as in (alice \\/ bob)"
+        }
+        [b'%', b'%'] => "\"%%\" stands once in a label, between its two parts",
+        [b'&' | b'|' | b'!', ..] => {
+            "\"{}\" is no sign of labels; \"/\\\" is and, \"\\/\" in parentheses is or"
+        }
+        [b'A'..=b'Z', ..] => {
+            "\"{}\" can't stand here; names of principals have no upper-case letters"
+        }
+        _ => {
+            "\"{}\" can't stand here; principals are joined by \"/\\\", and by \"\\/\" in parentheses"
+        }
+    };
+    told_one(alloc, place.saturating_add(at), template, Piece::Shown(token))
+}

@@ -1,0 +1,11 @@
+use Rattle.lio_calculus.specs.Sound.{IsSound}
+use Rattle.lio_config.specs.Configuration.{configuration_of}
+use Rattle.lio_config.specs.Logs.{IsLaterThanLogs}
+use Rattle.lio_messages_notes.proofs.replay.take_turns.Given as goal
+
+-- the configuration is sound, and the next ticket is greater than all in its logs
+abbrev pub invariant-loop-place : goal.invariant-loop-place
+invariant-loop-place l = record {
+  sound : IsSound (configuration_of l.script l.config);
+  later : IsLaterThanLogs l.config l.place;
+}

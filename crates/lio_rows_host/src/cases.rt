@@ -1,0 +1,187 @@
+//! The cases of a text.
+
+use lio_clauses::NoMemory;
+use std::alloc::{AllocError, Global};
+
+/// A part of a case: its word, what it is about, and its text.
+#[derive(Drop)]
+pub(crate) struct Part<'t> {
+    pub word: &'t str,
+    pub about: &'t str,
+    pub text: String,
+}
+
+/// A case: its name and its parts.
+#[derive(Drop)]
+pub(crate) struct Case<'t> {
+    pub name: &'t str,
+    pub parts: Vec<Part<'t>>,
+}
+
+impl<'t> Case<'t> {
+    /// The first part with this word, if there is one.
+    pub fn part(&self, word: &str) -> Option<&Part<'t>> {
+        for part in &self.parts {
+            if part.word == word {
+                return Some(part);
+            }
+        }
+        None
+    }
+
+    /// The text of the part with this word, if there is one.
+    pub fn text(&self, word: &str) -> Option<&str> {
+        match self.part(word) {
+            Some(part) => Some(part.text.as_str()),
+            None => None,
+        }
+    }
+
+    /// The number that the part with this word is about, if there is one.
+    pub fn number(&self, word: &str) -> Option<u64> {
+        match self.part(word) {
+            Some(part) => part.about.parse::<u64>().ok(),
+            None => None,
+        }
+    }
+}
+
+/// A line that is no case's, or a case.
+#[derive(Drop)]
+pub(crate) enum Block<'t> {
+    /// A line that is printed as it is.
+    Line(&'t str),
+    Case(Case<'t>),
+}
+
+/// The program that a case is of.
+#[derive(Clone, Copy, PartialEq, Eq)]
+pub(crate) enum Program {
+    /// The host.
+    Host,
+    /// The host over futures.
+    Futures,
+    /// The observer's check.
+    Observer,
+    /// The future of rounds, or the stream of a view, polled by hand.
+    Polls,
+    /// A table of nodes with two seats.
+    Seats,
+    /// A table of nodes with two threads.
+    Table,
+}
+
+/// What a case shares with those before it: its program, its policy and its script.
+#[derive(Clone, Copy)]
+pub(crate) struct Setting<'c> {
+    pub program: Program,
+    pub policy: &'c str,
+    pub script: &'c str,
+}
+
+impl<'c> Setting<'c> {
+    /// What the first case has.
+    pub fn new() -> Setting<'c> {
+        Setting {
+            program: Program::Host,
+            policy: "",
+            script: "",
+        }
+    }
+
+    /// What a case has, which says some of it.
+    pub fn with(self, case: &'c Case<'_>) -> Setting<'c> {
+        let mut setting = self;
+        for part in &case.parts {
+            match part.word {
+                "program" => setting.program = program_named(part.about),
+                "policy" => setting.policy = part.text.as_str(),
+                "script" => setting.script = part.text.as_str(),
+                _ => {}
+            }
+        }
+        setting
+    }
+}
+
+/// The program with a name: the host, where it is none of the others.
+fn program_named(name: &str) -> Program {
+    match name {
+        "futures" => Program::Futures,
+        "observer" => Program::Observer,
+        "polls" => Program::Polls,
+        "seats" => Program::Seats,
+        "table" => Program::Table,
+        _ => Program::Host,
+    }
+}
+
+/// Appends a line, with its line end: none where it ends with `~`, and a carriage return before it
+/// where it ends with `^`.
+fn append_line(text: &mut String, line: &str) -> Result<(), AllocError> {
+    if let Some(line) = line.strip_suffix("~") {
+        return text.push_str(line);
+    }
+    if let Some(line) = line.strip_suffix("^") {
+        text.push_str(line)?;
+        return text.push_str("\r\n");
+    }
+    text.push_str(line)?;
+    text.push_str("\n")
+}
+
+/// Appends a line to the text of the last part, if there is one.
+fn append_text(blocks: &mut Vec<Block<'_>>, line: &str) -> Result<(), AllocError> {
+    match blocks.last_mut() {
+        Some(Block::Case(case)) => match case.parts.last_mut() {
+            Some(part) => append_line(&mut part.text, line),
+            None => Ok(()),
+        },
+        _ => Ok(()),
+    }
+}
+
+/// Begins a part of the last case, if there is one.
+fn begin_part<'t>(
+    alloc: Global,
+    blocks: &mut Vec<Block<'t>>,
+    word: &'t str,
+    about: &'t str,
+) -> Result<(), NoMemory> {
+    if let Some(Block::Case(case)) = blocks.last_mut() {
+        let text = String::new(alloc);
+        case.parts.push(Part { word, about, text })?;
+    }
+    Ok(())
+}
+
+/// Adds a line that belongs to no text.
+fn add_line<'t>(
+    alloc: Global,
+    blocks: &mut Vec<Block<'t>>,
+    line: &'t str,
+) -> Result<(), NoMemory> {
+    if line.is_empty() || line.starts_with("#") {
+        blocks.push(Block::Line(line))?;
+        return Ok(());
+    }
+    let (word, about) = line.split_once(' ').unwrap_or((line, ""));
+    if word == "case" {
+        let parts = Vec::new(alloc);
+        blocks.push(Block::Case(Case { name: about, parts }))?;
+        return Ok(());
+    }
+    begin_part(alloc, blocks, word, about)
+}
+
+/// The cases of a text, and the lines between them that are printed as they are.
+pub(crate) fn read_blocks(alloc: Global, rows: &str) -> Result<Vec<Block<'_>>, NoMemory> {
+    let mut blocks = Vec::new(alloc);
+    for line in rows.lines() {
+        match line.strip_prefix("|") {
+            Some(text) => append_text(&mut blocks, text)?,
+            None => add_line(alloc, &mut blocks, line)?,
+        }
+    }
+    Ok(blocks)
+}

@@ -1,0 +1,139 @@
+//! Cases of the host over futures, each beside what the host does by the words that ask it for the
+//! same.
+
+use crate::cases::{Case, Setting};
+use crate::found::Found;
+use crate::store::{say_of, store_of};
+use lio_async_main::{CoopOutcome, coop_main};
+use lio_clauses::NoMemory;
+use lio_events::Journal;
+use lio_host_main::{HostStatus, Outcome, host_main};
+use lio_messages_refusals::futures::{host_words, refusal_text};
+use lio_messages_refusals::{Texts, detail_of};
+use lio_outside::{MemSay, MemStore};
+use lio_workers::OpenGate;
+use std::alloc::Global;
+use std::random::RandomSource;
+use std::sync::Wait;
+use std::thread::Threads;
+
+/// What is printed of an answer.
+fn says(
+    alloc: Global,
+    status: &HostStatus,
+    words: &[String],
+    setting: Setting<'_>,
+) -> Result<String, NoMemory> {
+    let texts = Texts {
+        policy: setting.policy.as_bytes(),
+        script: setting.script.as_bytes(),
+        history: &None,
+        job: &None,
+    };
+    let detail = detail_of(alloc, status, None, texts)?;
+    let says = refusal_text(alloc, status, words, &detail);
+    drop(detail);
+    Ok(says?)
+}
+
+/// The words with which the host does the same, and writes the history where a case speaks of the
+/// journal.
+fn words_of_host(
+    alloc: Global,
+    case: &Case<'_>,
+    words: &[String],
+) -> Result<Vec<String>, NoMemory> {
+    let mut host = host_words(alloc, words)?;
+    if case.part("journal").is_some() {
+        host.push(String::from_str(alloc, "--history")?)?;
+        host.push(String::from_str(alloc, "h")?)?;
+    }
+    Ok(host)
+}
+
+/// What the host answers, where it isn't this answer with this journal.
+fn otherwise(
+    alloc: Global,
+    status: &HostStatus,
+    journal: &Journal,
+    outcome: &Outcome,
+) -> Result<Option<String>, NoMemory> {
+    let answer = &outcome.status;
+    if answer == status && outcome.journal.entries() == journal.entries() {
+        return Ok(None);
+    }
+    Ok(Some(format!(in alloc; "{answer}")?))
+}
+
+/// Adds what the host does by the words that ask it for the same, beside an answer and a journal;
+/// nothing where the words give no command.
+fn add_host<R: AllocGlobal + Threads + Wait + Sync>(
+    rt: &R,
+    case: &Case<'_>,
+    setting: Setting<'_>,
+    words: &[String],
+    status: &HostStatus,
+    journal: &Journal,
+    found: &mut Found,
+) -> Result<(), NoMemory> {
+    if let HostStatus::BadWords = status {
+        return Ok(());
+    }
+    let alloc = rt.alloc();
+    let host = words_of_host(alloc, case, words)?;
+    let mut say = say_of(alloc, case)?;
+    let mut store = store_of(alloc, case, setting)?;
+    let outcome = host_main(rt, alloc, host.as_slice(), &mut store, &mut say, &OpenGate);
+    drop(say);
+    let otherwise = otherwise(alloc, status, journal, &outcome);
+    drop(outcome);
+    let history = Vec::from_slice(alloc, store.get(b"h").unwrap_or(b""));
+    drop(store);
+    found.host = otherwise?;
+    found.journal = history?;
+    Ok(())
+}
+
+/// What an answer and a journal come to, beside what was said.
+fn found_of(
+    alloc: Global,
+    status: &HostStatus,
+    journal: &Journal,
+    words: &[String],
+    setting: Setting<'_>,
+    say: &MemSay,
+) -> Result<Found, NoMemory> {
+    let mut found = Found::new(alloc, format!(in alloc; "{status}")?, status.number());
+    found.says = says(alloc, status, words, setting)?;
+    found.said = Vec::from_slice(alloc, say.said())?;
+    found.may_say = matches!(status, HostStatus::Done);
+    found.entries = journal.entries().len() as u64;
+    Ok(found)
+}
+
+/// What the host over futures does with a case over a store.
+pub(crate) fn run<R>(
+    rt: &R,
+    case: &Case<'_>,
+    setting: Setting<'_>,
+    words: &[String],
+    store: &mut MemStore,
+) -> Result<Found, NoMemory>
+where
+    R: AllocGlobal + RandomSource + Threads + Wait + Sync,
+{
+    let alloc = rt.alloc();
+    let mut say = say_of(alloc, case)?;
+    let CoopOutcome { status, journal } = coop_main(rt, alloc, words, store, &mut say);
+    let status = HostStatus::from(status);
+    let mut found = found_of(alloc, &status, &journal, words, setting, &say);
+    drop(say);
+    let added = match &mut found {
+        Ok(found) => add_host(rt, case, setting, words, &status, &journal, found),
+        Err(NoMemory) => Err(NoMemory),
+    };
+    drop(journal);
+    drop(status);
+    added?;
+    found
+}

@@ -1,0 +1,194 @@
+//! Cases of the host.
+
+use crate::cases::{Case, Setting};
+use crate::found::{Found, GateTold};
+use crate::gate::NotingGate;
+use crate::store::{lines_of, say_of};
+use lio_clauses::NoMemory;
+use lio_events::Journal;
+use lio_host_main::{HostStatus, Outcome, host_main};
+use lio_messages_notes::{Source, notes_text, troubles_of};
+use lio_messages_refusals::{Texts, detail_of, refusal_text, trouble_text};
+use lio_outside::{MemSay, MemStore, Trouble};
+use lio_start::Job;
+use lio_workers::OpenGate;
+use std::alloc::{AllocError, Global};
+use std::io;
+use std::sync::Wait;
+use std::thread::Threads;
+
+/// Why a call of the store failed, where a case says it.
+fn why(alloc: Global, case: &Case<'_>) -> Result<Option<String>, AllocError> {
+    if let Some(part) = case.part("trouble") {
+        let number = part.about.parse::<i32>().unwrap_or(0);
+        let error = io::Error::from_raw_os_error(number);
+        return Ok(Some(trouble_text(alloc, Trouble::System(error))?));
+    }
+    match case.part("same") {
+        Some(part) => {
+            let trouble = Trouble::SameFile(part.about.as_bytes());
+            Ok(Some(trouble_text(alloc, trouble)?))
+        }
+        None => Ok(None),
+    }
+}
+
+/// What is printed of an answer.
+fn says(
+    alloc: Global,
+    case: &Case<'_>,
+    status: &HostStatus,
+    words: &[String],
+    texts: Texts<'_>,
+) -> Result<String, NoMemory> {
+    let why = why(alloc, case)?;
+    let detail = detail_of(alloc, status, why, texts)?;
+    let says = refusal_text(alloc, status, words, &detail);
+    drop(detail);
+    Ok(says?)
+}
+
+/// The notes on a run.
+fn notes(
+    alloc: Global,
+    job: &Option<Job>,
+    journal: &Journal,
+    script: &[u8],
+) -> Result<String, NoMemory> {
+    let Some(job) = job else {
+        return Ok(String::new(alloc));
+    };
+    let troubles = troubles_of(alloc, job, journal)?;
+    let source = Source {
+        name: "s.lio",
+        text: script,
+    };
+    notes_text(alloc, job, journal, &troubles, source)
+}
+
+/// The bytes of the history that is in a store, if it is there.
+fn history_of(alloc: Global, store: &MemStore) -> Result<Option<Vec<u8>>, NoMemory> {
+    match store.get(b"h") {
+        Some(bytes) => Ok(Some(Vec::from_slice(alloc, bytes)?)),
+        None => Ok(None),
+    }
+}
+
+/// What an outcome comes to, beside what was said.
+fn found_of(
+    alloc: Global,
+    case: &Case<'_>,
+    outcome: &Outcome,
+    words: &[String],
+    texts: Texts<'_>,
+    say: &MemSay,
+) -> Result<Found, NoMemory> {
+    let status = &outcome.status;
+    let mut found = Found::new(alloc, format!(in alloc; "{status}")?, status.number());
+    found.says = says(alloc, case, status, words, texts)?;
+    found.said = Vec::from_slice(alloc, say.said())?;
+    found.entries = outcome.journal.entries().len() as u64;
+    if let HostStatus::Done = status {
+        found.may_say = true;
+        if case.part("notes").is_some() {
+            found.notes = notes(alloc, &outcome.job, &outcome.journal, texts.script)?;
+        }
+    }
+    Ok(found)
+}
+
+/// What a gate was told.
+fn told_of(alloc: Global, gate: &NotingGate) -> Result<GateTold, NoMemory> {
+    let turns = gate.turns();
+    let once = if gate.has_each() {
+        ""
+    } else {
+        ", not each once"
+    };
+    let mut tasks = String::new(alloc);
+    for k in 0..64 {
+        if gate.has_task(k) {
+            let blank = if tasks.is_empty() { "" } else { " " };
+            tasks.push_str(format!(in alloc; "{blank}{k}")?.as_str())?;
+        }
+    }
+    Ok(GateTold {
+        turns: format!(in alloc; "{turns}{once}")?,
+        tasks,
+        comes: if gate.gave_up() { "no" } else { "yes" },
+    })
+}
+
+/// What else a second call says than the first one said, if it says something else.
+fn otherwise(
+    alloc: Global,
+    outcome: &Outcome,
+    say: &MemSay,
+    said: &[u8],
+) -> Result<Option<String>, NoMemory> {
+    let status = &outcome.status;
+    match status {
+        HostStatus::Done if say.said() == said => Ok(None),
+        HostStatus::Done => Ok(Some(String::from_str(alloc, "another summary")?)),
+        _ => Ok(Some(format!(in alloc; "{status}")?)),
+    }
+}
+
+/// What else than this a second call says, with these words over the same store.
+fn again<R: AllocGlobal + Threads + Wait + Sync>(
+    rt: &R,
+    words: &str,
+    store: &mut MemStore,
+    said: &[u8],
+) -> Result<Option<String>, NoMemory> {
+    let alloc = rt.alloc();
+    let words = lines_of(alloc, words)?;
+    let mut say = MemSay::new(alloc, Vec::new(alloc));
+    let outcome = host_main(rt, alloc, words.as_slice(), store, &mut say, &OpenGate);
+    let otherwise = otherwise(alloc, &outcome, &say, said);
+    drop(outcome);
+    drop(say);
+    otherwise
+}
+
+/// What the first call of the host does with a case over a store.
+fn run_once<R: AllocGlobal + Threads + Wait + Sync>(
+    rt: &R,
+    case: &Case<'_>,
+    setting: Setting<'_>,
+    words: &[String],
+    store: &mut MemStore,
+) -> Result<Found, NoMemory> {
+    let alloc = rt.alloc();
+    let history = history_of(alloc, store)?;
+    let mut say = say_of(alloc, case)?;
+    let gate = NotingGate::new(case.number("held").unwrap_or(0));
+    let outcome = host_main(rt, alloc, words, store, &mut say, &gate);
+    let texts = Texts {
+        policy: setting.policy.as_bytes(),
+        script: setting.script.as_bytes(),
+        history: &history,
+        job: &outcome.job,
+    };
+    let found = found_of(alloc, case, &outcome, words, texts, &say);
+    drop(outcome);
+    drop(say);
+    let mut found = found?;
+    found.gate = told_of(alloc, &gate)?;
+    Ok(found)
+}
+
+/// What the host does with a case over a store.
+pub(crate) fn run<R: AllocGlobal + Threads + Wait + Sync>(
+    rt: &R,
+    case: &Case<'_>,
+    setting: Setting<'_>,
+    words: &[String],
+    store: &mut MemStore,
+) -> Result<Found, NoMemory> {
+    let mut found = run_once(rt, case, setting, words, store)?;
+    if let Some(words) = case.text("again") {
+        found.again = again(rt, words, store, found.said.as_slice())?;
+    }
+    Ok(found)
+}

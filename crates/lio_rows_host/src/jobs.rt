@@ -1,0 +1,42 @@
+//! The jobs that words name.
+
+use lio_host_main::{HostStatus, Loaded, Order, prepare_order};
+use lio_host_words::read_command;
+use lio_outside::MemStore;
+use std::alloc::Global;
+
+/// The job of an order, and its observer.
+fn loaded(order: Order<'_>) -> Loaded {
+    let Order {
+        job,
+        observer,
+        way,
+        ..
+    } = order;
+    drop(way);
+    Loaded { job, observer }
+}
+
+/// The job that words of the host name over a store, or the answer where there is none.
+pub(crate) fn host_job(
+    alloc: Global,
+    words: &[String],
+    store: &mut MemStore,
+) -> Result<Loaded, HostStatus> {
+    match read_command(words) {
+        Some(command) => Ok(loaded(prepare_order(alloc, store, command)?)),
+        None => Err(HostStatus::BadWords),
+    }
+}
+
+/// The same, by words of the host over futures.
+pub(crate) fn futures_job(
+    alloc: Global,
+    words: &[String],
+    store: &mut MemStore,
+) -> Result<Loaded, HostStatus> {
+    match lio_async_main::read_words(words) {
+        Some(command) => Ok(loaded(prepare_order(alloc, store, command)?)),
+        None => Err(HostStatus::BadWords),
+    }
+}
