@@ -278,7 +278,6 @@ where
     let entries = case.number("entries")?.unwrap_or(0);
     let mut say = MemSay::new(alloc, failing(alloc, case, "failsay")?);
     let CoopOutcome { status, journal } = coop_main(rt, alloc, words, store, &mut say);
-    let status = HostStatus::from(status);
     let said = was_said(case, &status, say.said());
     drop(say);
     let counted = journal.entries().len() as u64 == entries;

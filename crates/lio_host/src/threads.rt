@@ -1,8 +1,8 @@
 //! That workers take turns in threads of their own, and that what they did is a run.
 
 use lio_events::print_journal;
+use lio_front::read_command;
 use lio_host_main::{HostStatus, Order, Outcome, host_main, prepare_order};
-use lio_host_words::read_command;
 use lio_outside::{MemSay, MemStore};
 use lio_rounds::{Ran, Scheduled, run_by_schedule};
 use lio_start::Job;
