@@ -6,9 +6,9 @@ ghost use Rattle.std.specs.Prelude.{◌≡◌, ◌≤◌, List};
 ghost use Rattle.std.specs.Process.{exit_status};
 ghost use Rattle.lio_values.specs.declared.entry.Entry.{Entry};
 ghost use Rattle.lio_host_main.specs.Answers.{EndsWith};
-ghost use Rattle.lio_host_main.specs.ExitStatus.{exit_status as status_number};
-ghost use Rattle.lio_host_words.specs.Sorted.{bytes_of_words};
-ghost use Rattle.lio_async_main.specs.Status.{host_of};
+ghost use Rattle.lio_outside.specs.Call.{outside};
+ghost use Rattle.lio_front.specs.Status.{exit_status as status_number};
+ghost use Rattle.lio_front.specs.Sorted.{bytes_of_words};
 ghost use Rattle.lio_async_main.specs.Words.{host_words};
 
 use lio_async_main::{CoopOutcome, CoopStatus, coop_main};
@@ -35,7 +35,7 @@ fn words(rt: &HostRuntime) -> Result<Vec<String>, NoMemory> {
 
 /// The exit status of an answer.
 fn exit_code(status: &CoopStatus) -> ExitCode
-    ensures { exit_status result ≡ status_number (host_of status.now) }
+    ensures { exit_status result ≡ status_number status.now }
 {
     ExitCode::from(status.number())
 }
@@ -47,18 +47,8 @@ where
     R: AllocGlobal + Files + Eprint + RandomSource + Threads + Wait + Sync,
     ensures { EndsWith (λ (journal : List Entry). record {
       words = host_words (bytes_of_words words.now);
-      before = record {
-        told = S.holds store.old;
-        faults = S.faults store.old;
-        said = W.said say.old;
-        say_faults = W.faults say.old;
-      };
-      after = record {
-        told = S.holds store.new;
-        faults = S.faults store.new;
-        said = W.said say.new;
-        say_faults = W.faults say.new;
-      };
+      before = outside S.holds S.faults W.said W.faults store.old say.old;
+      after = outside S.holds S.faults W.said W.faults store.new say.new;
       journal = journal;
     }) (exit_status result) }
 {
@@ -66,7 +56,7 @@ where
     // Giving back a long journal piece by piece would take a good part of the run.
     mem::forget(journal);
     let exit = exit_code(&status);
-    print_refusal(rt, words, store, HostStatus::from(status));
+    print_refusal(rt, words, store, status);
     exit
 }
 

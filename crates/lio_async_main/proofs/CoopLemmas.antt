@@ -1,26 +1,22 @@
 -- What the run of an order in rounds says, and what its answers say.
 use Rattle.std.proofs.Common.{◌≡◌, ◌∙◌, ap, refl, sym, subst, ℕ, Bool, true, false, ◌&&◌, List, [], ◌∷◌, Option, None, Some, Result, Ok, Err, inl, inr}
 use Rattle.lio_outside.specs.FileMap.{FileMap}
-use Rattle.lio_outside.specs.Asking.{Cause, Give, IsNever, Refuse}
+use Rattle.lio_outside.specs.Asking.{Give}
 use Rattle.lio_calculus.specs.Run.{Ran, run}
 use Rattle.lio_calculus.specs.Step.{Configuration}
 use Rattle.lio_start.specs.Job.{IsJob, JobParts, first_of}
 use Rattle.lio_rounds.specs.Headline.{IsRunOf}
 use Rattle.lio_rounds.specs.Runs.{IsByRounds, RunsRounds}
 use Rattle.lio_rounds.proofs.RunLemmas.{run-by_rounds, run-of_job}
-use Rattle.lio_host_words.specs.Command.{Command, Files, Made, Mode, Rounds, Source, command_by, command_of, is_name}
-use Rattle.lio_host_main.specs.Answers.{Call, Ends, Finishes, Outside, RanAs, RanBy, Says}
+use Rattle.lio_front.specs.Command.{Command, Files, Made, Mode, Rounds, Source, command_by, command_of, is_name}
+use Rattle.lio_host_main.specs.Answers.{Call, Ends, RanAs, RanBy, Says, StopsBy}
 use Rattle.lio_host_main.specs.Order.{InRounds, Order, Way}
-use Rattle.lio_host_main.specs.StatusOf.{cause_of}
-use Rattle.lio_host_main.specs.Verdict.{AreGiven, IsRefusedBy, IsVerdict, loading, of_source, ordering, told_of}
-use Rattle.lio_host_main.specs.declared.status.HostStatus.{HostStatus}
-use Rattle.lio_host_main.specs.declared.status.HostStatus.TheVariants as host
+use Rattle.lio_host_main.specs.Verdict.{AreGiven, ordering}
 use Rattle.lio_host_main.proofs.Says.{bad_words}
 use Rattle.lio_async_main.specs.Answers.{GivesRounds, RanByRounds}
-use Rattle.lio_async_main.specs.Status.{IsOfRounds, host_of}
 use Rattle.lio_async_main.specs.Words.{host_words}
-use Rattle.lio_async_main.specs.declared.status.CoopStatus.{CoopStatus}
-use Rattle.lio_async_main.specs.declared.status.CoopStatus.TheVariants.{Done, BadWords, Missing, ReadFault, BadPolicy, BadScript, BadStart, WriteFault, SayFault, NoMemory, Clash}
+use Rattle.lio_front.specs.declared.status.Status.{Status}
+use Rattle.lio_front.specs.declared.status.Status.TheVariants.{Done, BadWords, NotARun, SayFault, WriteFault}
 use Rattle.lio_async_main.proofs.WordLemmas.{command-of_four, command-of_two, first-of_both, none-of_four, none-of_two, second-of_both, some-of_four, some-of_two}
 
 -- an order whose command asks for rounds runs in rounds
@@ -37,44 +33,6 @@ ran-as told order ran given rounds runs =
 
 pub run-of : (job : JobParts) (ran : Ran) → IsJob job → RunsRounds (first_of job) ran → IsRunOf job ran
 run-of job ran is runs = run-of_job job ran is runs
-
--- the steps before a run don't say that a history is none
-never : (command : Command) (told : Option FileMap) (before after line : ℕ) → IsRefusedBy command told before after (host.NotARun line) → ⊥
-never command told before after line (inl says) = by command.source says
-  where
-    by : (source : Source) → Refuse (of_source source IsNever) (told_of command.source told) (loading command) before after (host.NotARun line) → ⊥
-    by (Files policy script) says = says
-    by (Made size) says = says
-never command told before after line (inr (loaded, gave, says)) = says
-
-pub refused-of_rounds : (command : Command) (told : Option FileMap) (before after : ℕ) (status : HostStatus) → IsRefusedBy command told before after status → IsOfRounds status
-refused-of_rounds command told before after host.Done says = tt
-refused-of_rounds command told before after host.BadWords says = tt
-refused-of_rounds command told before after (host.Missing name) says = tt
-refused-of_rounds command told before after (host.ReadFault name) says = tt
-refused-of_rounds command told before after (host.BadPolicy rule entry) says = tt
-refused-of_rounds command told before after (host.BadScript line rule) says = tt
-refused-of_rounds command told before after (host.BadStart place cause) says = tt
-refused-of_rounds command told before after (host.WriteFault name) says = tt
-refused-of_rounds command told before after host.SayFault says = tt
-refused-of_rounds command told before after host.NoMemory says = tt
-refused-of_rounds command told before after (host.NotARun line) says = absurd (never command told before after line says)
-refused-of_rounds command told before after (host.Clash name) says = tt
-
--- nor do those behind it
-pub finished-of_rounds : (order : Order) (ran : Ran) (before after : Outside) (status : HostStatus) → Finishes order ran before after status → IsOfRounds status
-finished-of_rounds order ran before after host.Done says = tt
-finished-of_rounds order ran before after host.BadWords says = tt
-finished-of_rounds order ran before after (host.Missing name) says = tt
-finished-of_rounds order ran before after (host.ReadFault name) says = tt
-finished-of_rounds order ran before after (host.BadPolicy rule entry) says = tt
-finished-of_rounds order ran before after (host.BadScript line rule) says = tt
-finished-of_rounds order ran before after (host.BadStart place cause) says = tt
-finished-of_rounds order ran before after (host.WriteFault name) says = tt
-finished-of_rounds order ran before after host.SayFault says = tt
-finished-of_rounds order ran before after host.NoMemory says = tt
-finished-of_rounds order ran before after (host.NotARun line) says = absurd says
-finished-of_rounds order ran before after (host.Clash name) says = tt
 
 -- no words give no command
 no-command : command_of [] ≡ None
@@ -117,7 +75,7 @@ in-rounds (policy ∷ script ∷ file ∷ label ∷ []) command is = by (is_name
 in-rounds (a ∷ b ∷ c ∷ d ∷ e ∷ rest) command is = rounds-none command is
 
 -- so what was run by them was run by rounds, to the end
-ran-by : (call : Call) (words : List (List ℕ)) (status : HostStatus) → call.words ≡ host_words words → Ends call call.journal status → RanByRounds call
+ran-by : (call : Call) (words : List (List ℕ)) (status : Status) → call.words ≡ host_words words → Ends call call.journal status → RanByRounds call
 ran-by call words status are ends =
     let ran : Ran = record { entries = call.journal; last = ends.last } in
     let rounds : ends.order.command.mode ≡ Rounds = in-rounds words ends.order.command (ap command_of (sym are) ∙ ends.ran.verdict.command) in
@@ -135,32 +93,19 @@ ran-by call words status are ends =
       };
     }
 
-pub gives-rounds : (call : Call) (words : List (List ℕ)) (status : CoopStatus) → call.words ≡ host_words words → Says call (host_of status) → GivesRounds call status
-gives-rounds call words Done are says = ran-by call words host.Done are says.ends
-gives-rounds call words BadWords are says = tt
-gives-rounds call words (Missing name) are says = tt
-gives-rounds call words (ReadFault name) are says = tt
-gives-rounds call words (BadPolicy rule entry) are says = tt
-gives-rounds call words (BadScript line rule) are says = tt
-gives-rounds call words (BadStart place cause) are says = tt
-gives-rounds call words (WriteFault name) are says = ran-by call words (host.WriteFault name) are says
-gives-rounds call words SayFault are says = ran-by call words host.SayFault are says
-gives-rounds call words NoMemory are says = tt
-gives-rounds call words (Clash name) are says = tt
+-- no history is taken again
+no-history : (call : Call) (words : List (List ℕ)) (line : ℕ) → call.words ≡ host_words words → Says call (NotARun line) → ⊥
+no-history call words line are says =
+    let rounds : says.order.command.mode ≡ Rounds = in-rounds words says.order.command (ap command_of (sym are) ∙ says.verdict.command) in
+    subst (λ (way : Way). StopsBy way says.order line) (way-in_rounds call.before.told says.order says.verdict.given rounds) says.stops
+
+pub gives-rounds : (call : Call) (words : List (List ℕ)) (status : Status) → call.words ≡ host_words words → Says call status → GivesRounds call status
+gives-rounds call words Done are says = ran-by call words Done are says.ends
+gives-rounds call words (WriteFault name) are says = ran-by call words (WriteFault name) are says
+gives-rounds call words SayFault are says = ran-by call words SayFault are says
+gives-rounds call words (NotARun line) are says = no-history call words line are says
+gives-rounds call words other are says = tt
 
 -- words that ask for nothing are answered so
-only-bad_words : (status : CoopStatus) → host_of status ≡ host.BadWords → status ≡ BadWords
-only-bad_words Done is = absurd (cc)
-only-bad_words BadWords is = refl
-only-bad_words (Missing name) is = absurd (cc)
-only-bad_words (ReadFault name) is = absurd (cc)
-only-bad_words (BadPolicy rule entry) is = absurd (cc)
-only-bad_words (BadScript line rule) is = absurd (cc)
-only-bad_words (BadStart place cause) is = absurd (cc)
-only-bad_words (WriteFault name) is = absurd (cc)
-only-bad_words SayFault is = absurd (cc)
-only-bad_words NoMemory is = absurd (cc)
-only-bad_words (Clash name) is = absurd (cc)
-
-pub bad-words : (call : Call) (status : CoopStatus) → Says call (host_of status) → call.words ≡ [] → status ≡ BadWords
-bad-words call status says none = only-bad_words status (bad_words call (host_of status) says (none-commanded call.words none))
+pub bad-words : (call : Call) (status : Status) → Says call status → call.words ≡ [] → status ≡ BadWords
+bad-words call status says none = bad_words call status says (none-commanded call.words none)

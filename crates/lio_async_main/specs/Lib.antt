@@ -1,3 +1,2 @@
-pub mod Status
 pub mod Words
 pub mod Answers

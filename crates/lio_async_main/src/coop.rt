@@ -1,17 +1,17 @@
 //! The top call over futures: words, policy, script, inputs, run, view, files, summary.
 
 ghost use Rattle.std.specs.Prelude.{◌≡◌, ◌≤◌, [], IfOk, IfSome};
-ghost use Rattle.lio_host_words.specs.Sorted.{bytes_of_words};
+ghost use Rattle.lio_front.specs.Sorted.{bytes_of_words};
+ghost use Rattle.lio_outside.specs.Call.{outside};
 ghost use Rattle.lio_start.specs.Job.{IsJob, first_of};
 ghost use Rattle.lio_rounds.specs.Runs.{RunsRounds, ran_of};
 ghost use Rattle.lio_host_main.specs.Answers.{Follows, Says, journal_with};
 ghost use Rattle.lio_host_main.specs.Order.{seen_by};
 ghost use Rattle.lio_async_main.specs.Answers.{GivesRounds};
-ghost use Rattle.lio_async_main.specs.Status.{host_of};
 ghost use Rattle.lio_async_main.specs.Words.{host_words};
 
+use crate::CoopStatus;
 use crate::running::{run_polled, seen_polled};
-use crate::status::{CoopStatus, coop_status};
 use crate::words::read_words;
 use lio_clauses::NoMemory;
 use lio_events::Journal;
@@ -47,7 +47,7 @@ fn refused(alloc: Global, status: CoopStatus) -> CoopOutcome
 /// The outcome of a run whose files weren't all written, or whose summary wasn't said.
 fn unfinished(alloc: Global, status: CoopStatus, journal: Journal) -> CoopOutcome
     ensures status { result.status ≡ status }
-    ensures journal { result.journal ≡ journal_with (host_of status) journal }
+    ensures journal { result.journal ≡ journal_with status journal }
 {
     match status {
         CoopStatus::NoMemory => {
@@ -105,27 +105,17 @@ fn answer<R: Wait + RandomSource + AllocGlobal, S: Store, W: Say>(
     ensures say_count { W.faults say.old ≤ W.faults say.new }
     ensures says { Says (record {
       words = host_words (bytes_of_words words.now);
-      before = record {
-        told = S.holds store.old;
-        faults = S.faults store.old;
-        said = W.said say.old;
-        say_faults = W.faults say.old;
-      };
-      after = record {
-        told = S.holds store.new;
-        faults = S.faults store.new;
-        said = W.said say.new;
-        say_faults = W.faults say.new;
-      };
+      before = outside S.holds S.faults W.said W.faults store.old say.old;
+      after = outside S.holds S.faults W.said W.faults store.new say.new;
       journal = result.journal;
-    }) (host_of result.status) }
+    }) result.status }
 {
     let Some(command) = read_words(words) else {
         return refused(alloc, CoopStatus::BadWords);
     };
     let order = match prepare_order(alloc, store, command) {
         Ok(order) => order,
-        Err(status) => return refused(alloc, coop_status(status)),
+        Err(status) => return refused(alloc, status),
     };
     let (ran, seen) = match run_seen(rt, alloc, &order.job, &order.observer) {
         Ok(both) => both,
@@ -145,7 +135,7 @@ fn answer<R: Wait + RandomSource + AllocGlobal, S: Store, W: Say>(
             status: CoopStatus::Done,
             journal,
         },
-        Err(status) => unfinished(alloc, coop_status(status), journal),
+        Err(status) => unfinished(alloc, status, journal),
     }
 }
 
@@ -165,50 +155,20 @@ where
     ensures say_count { W.faults say.old ≤ W.faults say.new }
     ensures says { Says (record {
       words = host_words (bytes_of_words words.now);
-      before = record {
-        told = S.holds store.old;
-        faults = S.faults store.old;
-        said = W.said say.old;
-        say_faults = W.faults say.old;
-      };
-      after = record {
-        told = S.holds store.new;
-        faults = S.faults store.new;
-        said = W.said say.new;
-        say_faults = W.faults say.new;
-      };
+      before = outside S.holds S.faults W.said W.faults store.old say.old;
+      after = outside S.holds S.faults W.said W.faults store.new say.new;
       journal = result.journal;
-    }) (host_of result.status) }
+    }) result.status }
     ensures follows { IfSome (S.holds store.old) (Follows (record {
       words = host_words (bytes_of_words words.now);
-      before = record {
-        told = S.holds store.old;
-        faults = S.faults store.old;
-        said = W.said say.old;
-        say_faults = W.faults say.old;
-      };
-      after = record {
-        told = S.holds store.new;
-        faults = S.faults store.new;
-        said = W.said say.new;
-        say_faults = W.faults say.new;
-      };
+      before = outside S.holds S.faults W.said W.faults store.old say.old;
+      after = outside S.holds S.faults W.said W.faults store.new say.new;
       journal = result.journal;
-    }) (host_of result.status)) }
+    }) result.status) }
     ensures rounds { GivesRounds (record {
       words = host_words (bytes_of_words words.now);
-      before = record {
-        told = S.holds store.old;
-        faults = S.faults store.old;
-        said = W.said say.old;
-        say_faults = W.faults say.old;
-      };
-      after = record {
-        told = S.holds store.new;
-        faults = S.faults store.new;
-        said = W.said say.new;
-        say_faults = W.faults say.new;
-      };
+      before = outside S.holds S.faults W.said W.faults store.old say.old;
+      after = outside S.holds S.faults W.said W.faults store.new say.new;
       journal = result.journal;
     }) result.status }
     ensures bad_words { host_words (bytes_of_words words.now) ≡ []

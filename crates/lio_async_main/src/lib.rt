@@ -4,10 +4,9 @@
 
 mod coop;
 mod running;
-mod status;
 mod words;
 
 pub use coop::{CoopOutcome, coop_main};
+pub use lio_front::Status as CoopStatus;
 pub use running::first_machine;
-pub use status::CoopStatus;
 pub use words::read_words;

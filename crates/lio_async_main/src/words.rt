@@ -1,21 +1,11 @@
 //! What the words ask for.
 
 ghost use Rattle.std.specs.Prelude.{◌≡◌, ◌∷◌, [], Some, IfSome, MatchOption};
-ghost use Rattle.lio_host_words.specs.Command.{IsSized, Rounds, command_of, is_name};
-ghost use Rattle.lio_host_words.specs.Sorted.{bytes_of_words, mode_named, named, source_named};
+ghost use Rattle.lio_front.specs.Command.{IsSized, Rounds, command_of};
+ghost use Rattle.lio_front.specs.Sorted.{bytes_of_words, mode_named, named, source_named};
 ghost use Rattle.lio_async_main.specs.Words.{host_words};
 
-use lio_host_words::{Command, Mode, Source, Watch};
-
-/// Whether a word may be a name or a label: it isn't empty and doesn't begin with `-`.
-fn may_stand(word: &[u8]) -> bool
-    ensures { result ≡ is_name word.now }
-{
-    match word {
-        [] => false,
-        [first, ..] => *first != b'-',
-    }
-}
+use lio_front::{Command, Mode, Source, Watch, is_name};
 
 /// The command of two words, if they may stand.
 fn run_command<'a>(policy: &'a [u8], script: &'a [u8]) -> Option<Command<'a>>
@@ -24,7 +14,7 @@ fn run_command<'a>(policy: &'a [u8], script: &'a [u8]) -> Option<Command<'a>>
     ensures sized { IfSome result (λ c. IsSized (source_named c.source)) }
     ensures rounds { IfSome result (λ c. mode_named c.mode ≡ Rounds) }
 {
-    if may_stand(policy) && may_stand(script) {
+    if is_name(policy) && is_name(script) {
         Some(Command {
             source: Source::Files(policy, script),
             history: None,
@@ -50,7 +40,7 @@ fn view_command<'a>(
     ensures sized { IfSome result (λ c. IsSized (source_named c.source)) }
     ensures rounds { IfSome result (λ c. mode_named c.mode ≡ Rounds) }
 {
-    if may_stand(policy) && may_stand(script) && may_stand(file) && may_stand(label) {
+    if is_name(policy) && is_name(script) && is_name(file) && is_name(label) {
         Some(Command {
             source: Source::Files(policy, script),
             history: None,

@@ -7,9 +7,9 @@ use Rattle.lio_outside.specs.Steps.{Steps, Over, ◌>>=◌, asked}
 use Rattle.lio_outside.specs.Asking.{Cause, Give, Refuse}
 use Rattle.lio_outside.proofs.StepsLemmas.{give-then, refuse-behind, refuse-first}
 use Rattle.lio_policy.specs.declared.policy.FileEntry.{FileEntry}
-use Rattle.lio_front.specs.declared.fault.FrontFault.{FrontFault}
-use Rattle.lio_front.specs.declared.fault.FrontFault.TheVariants.{Missing}
-use Rattle.lio_front.specs.Causes.{Says, cause_of}
+use Rattle.lio_front.specs.declared.status.Status.{Status}
+use Rattle.lio_front.specs.declared.status.Status.TheVariants.{Missing}
+use Rattle.lio_front.specs.Status.{Says, cause_of}
 use Rattle.lio_front.specs.Loading.{texts}
 
 -- each of these inputs was given its text
@@ -33,7 +33,7 @@ EachGave-length told longest (i ∷ inputs) [] each = absurd each
 EachGave-length told longest (i ∷ inputs) (t ∷ texts) each = ap suc (EachGave-length told longest inputs texts each.1)
 
 -- the steps behind an input's text
-abbrev next : ℕ → List FileEntry → List ℕ → Steps (List (List ℕ)) FrontFault
+abbrev next : ℕ → List FileEntry → List ℕ → Steps (List (List ℕ)) Status
 next longest inputs text = texts longest inputs >>= λ others. Over (Ok (text ∷ others))
 
 -- all inputs are given
@@ -46,7 +46,7 @@ give-each told longest (i ∷ inputs) (t ∷ given) each =
     (give-then told (texts longest inputs) (λ others. Over (Ok (t ∷ others))) given (Ok (t ∷ given)) (give-each told longest inputs given each.1) refl)
 
 -- one isn't fetched, behind some that are given
-refuse-each : (cause : Cause) (told : Option FileMap) (longest : ℕ) (inputs : List FileEntry) (input : FileEntry) (after : List FileEntry) (given : List (List ℕ)) (begun middle ended : ℕ) (fault : FrontFault)
+refuse-each : (cause : Cause) (told : Option FileMap) (longest : ℕ) (inputs : List FileEntry) (input : FileEntry) (after : List FileEntry) (given : List (List ℕ)) (begun middle ended : ℕ) (fault : Status)
     → EachGave told longest inputs given → begun ≤ middle → middle ≤ ended → Refuse cause told (asked (Missing input.file) input.file longest) middle ended fault
     → Refuse cause told (texts longest (inputs ++ input ∷ after)) begun ended fault
 refuse-each cause told longest [] input after [] begun middle ended fault each below above says =
@@ -65,7 +65,7 @@ around entries i entry below is =
     sym (take-append-drop i entries)
     ∙ ap (λ (rest : List FileEntry). take i entries ++ rest) (drop-cons entries i entry below ∙ ap (λ (e : FileEntry). e ∷ drop (suc i) entries) (sym is) ∙ ap (λ (n : ℕ). entry ∷ drop n entries) (sym (add-one i)))
 
-pub says-input : (told : Option FileMap) (longest : ℕ) (inputs : List FileEntry) (i : ℕ) (input : FileEntry) (given : List (List ℕ)) (begun middle ended : ℕ) (fault : FrontFault)
+pub says-input : (told : Option FileMap) (longest : ℕ) (inputs : List FileEntry) (i : ℕ) (input : FileEntry) (given : List (List ℕ)) (begun middle ended : ℕ) (fault : Status)
     → i < length inputs → input ≡ get_or inputs i input → EachGave told longest (take i inputs) given → begun ≤ middle → middle ≤ ended → Says told (asked (Missing input.file) input.file longest) middle ended fault
     → Says told (texts longest inputs) begun ended fault
 says-input told longest inputs i input given begun middle ended fault below at each first second says =

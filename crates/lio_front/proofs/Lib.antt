@@ -3,3 +3,4 @@ mod InputLemmas
 mod TakenLemmas
 mod SumLemmas
 pub mod WriteLemmas
+mod WalkLemmas

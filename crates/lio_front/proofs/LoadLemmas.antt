@@ -21,11 +21,11 @@ use Rattle.lio_syntax.specs.Verdict.{IsScript, Place, parsed_lines, said}
 use Rattle.lio_start.specs.declared.fault.StartFault.{StartFault}
 use Rattle.lio_start.specs.declared.fault.StartFault.TheVariants as start_fault
 use Rattle.lio_start.specs.Fits.{fits}
-use Rattle.lio_front.specs.declared.fault.FrontFault.{FrontFault}
-use Rattle.lio_front.specs.declared.fault.FrontFault.TheVariants.{Missing, BadScript, NoMemory}
+use Rattle.lio_front.specs.declared.status.Status.{Status}
+use Rattle.lio_front.specs.declared.status.Status.TheVariants.{Missing, BadScript}
 use Rattle.lio_front.specs.declared.loading.Front.{Front}
-use Rattle.lio_front.specs.Causes.{Says, cause_of}
-use Rattle.lio_front.specs.Loading.{loading, of_policy, of_script, of_start, policy_from, policy_steps, script_from, script_steps, steps_under}
+use Rattle.lio_front.specs.Status.{Says, cause_of, of_policy, of_script, of_start}
+use Rattle.lio_front.specs.Loading.{loading, policy_from, policy_steps, script_from, script_steps, steps_under}
 
 -- a policy that was read
 pub policy_from-read : (text : List ℕ) (policy : Policy) → policy_of text ≡ Ok policy → policy_from text ≡ Ok policy
@@ -38,7 +38,7 @@ says-bad_policy told text before after (policy_fault.Bad rule entry) (inr is) = 
 says-bad_policy told text before after policy_fault.NoMemory says = tt
 
 -- the fault of a place
-abbrev bad : Place → FrontFault
+abbrev bad : Place → Status
 bad place = BadScript place.line place.rule
 
 -- a script that was read
@@ -64,10 +64,10 @@ says-bad_start told policy procedures before after (start_fault.NoProc place) is
 says-bad_start told policy procedures before after (start_fault.Arity place) is = rw is refl
 
 -- the steps behind the script's text, and behind the script
-abbrev behind_script : Policy → List Procedure → Steps (List Procedure) FrontFault
+abbrev behind_script : Policy → List Procedure → Steps (List Procedure) Status
 behind_script policy script = Over (unless of_start (fits policy.tasks script) script)
 
-abbrev behind_text : Policy → List ℕ → Steps (List Procedure) FrontFault
+abbrev behind_text : Policy → List ℕ → Steps (List Procedure) Status
 behind_text policy text = Over (script_from policy.names text) >>= behind_script policy
 
 -- the script is read, and each task can begin
@@ -78,7 +78,7 @@ give-script told policy file text script gave is fit =
     (give-then told (Over (script_from policy.names text)) (behind_script policy) script (Ok script) is (ap (λ (fault : Option StartFault). unless of_start fault script) fit))
 
 -- it isn't read
-pub refuse-script : (told : Option FileMap) (policy : Policy) (file text : List ℕ) (before after : ℕ) (fault : FrontFault) → before ≤ after → Give told (asked (Missing file) file 262144) (Ok text) → Says told (Over (script_from policy.names text)) after after fault
+pub refuse-script : (told : Option FileMap) (policy : Policy) (file text : List ℕ) (before after : ℕ) (fault : Status) → before ≤ after → Give told (asked (Missing file) file 262144) (Ok text) → Says told (Over (script_from policy.names text)) after after fault
     → Says told (script_steps policy file) before after fault
 refuse-script told policy file text before after fault below gave says =
     refuse-behind (cause_of fault) told (asked (Missing file) file 262144) (behind_text policy) text before after after fault below (omega arith) gave
@@ -92,7 +92,7 @@ refuse-start told policy file text script before after fault below gave is unfit
     (refuse-behind (cause_of (of_start fault)) told (Over (script_from policy.names text)) (behind_script policy) script after after after (of_start fault) (omega arith) (omega arith) is
     (says-bad_start told policy script after after fault unfit))
 
-abbrev behind_policy : List ℕ → Option (List ℕ) → Policy → Steps Front FrontFault
+abbrev behind_policy : List ℕ → Option (List ℕ) → Policy → Steps Front Status
 behind_policy script label policy = steps_under policy script label >>= λ under. Over (Ok (record { policy = policy; script = under.1; observer = under.0 }))
 
 -- all is read
@@ -103,7 +103,7 @@ give-load told policy script label read observer procedures first second =
     (give-then told (steps_under read script label) (λ under. Over (Ok (record { policy = read; script = under.1; observer = under.0 }))) (observer, procedures) (Ok (record { policy = read; script = procedures; observer = observer })) second refl)
 
 -- what is read under the policy is refused
-pub refuse-under : (told : Option FileMap) (policy script : List ℕ) (label : Option (List ℕ)) (read : Policy) (before middle after : ℕ) (fault : FrontFault) → before ≤ middle → middle ≤ after → Give told (policy_steps policy) (Ok read)
+pub refuse-under : (told : Option FileMap) (policy script : List ℕ) (label : Option (List ℕ)) (read : Policy) (before middle after : ℕ) (fault : Status) → before ≤ middle → middle ≤ after → Give told (policy_steps policy) (Ok read)
     → Says told (steps_under read script label) middle after fault → Says told (loading policy script label) before after fault
 refuse-under told policy script label read before middle after fault below above gave says =
     refuse-behind (cause_of fault) told (policy_steps policy) (behind_policy script label) read before middle after fault below above gave

@@ -1,6 +1,9 @@
+pub mod Walk
+pub mod Command
+pub mod Sorted
+pub mod Status
 pub mod Loading
 pub mod Clash
-pub mod Causes
 pub mod Outputs
 pub mod Laws
 pub mod Summary

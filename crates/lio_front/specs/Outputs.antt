@@ -8,8 +8,8 @@ use Rattle.lio_events.specs.ChannelBytes.{channel_bytes}
 use Rattle.lio_events.specs.JournalText.{journal_text}
 use Rattle.lio_policy.specs.declared.policy.Policy.{Policy}
 use Rattle.lio_policy.specs.declared.policy.FileEntry.{FileEntry}
-use Rattle.lio_front.specs.declared.fault.OutFault.{OutFault}
-use Rattle.lio_front.specs.declared.fault.OutFault.TheVariants.{WriteFault, NoMemory}
+use Rattle.lio_front.specs.declared.status.Status.{Status}
+use Rattle.lio_front.specs.declared.status.Status.TheVariants.{WriteFault, NoMemory}
 
 -- the file of the channel with a number: the texts that were sent to it, one after another
 abbrev pub output_of : List Entry → ℕ → FileEntry → Output
@@ -31,6 +31,7 @@ outputs policy journal history view seen =
     outputs_from journal 0 policy.channels ++ (journal_output policy.names true journal history ++ journal_output policy.names false seen view)
 
 -- why the files aren't all written, and what then holds
-abbrev pub OutSays : Option FileMap → Option FileMap → List Output → ℕ → ℕ → OutFault → Type 0
+abbrev pub OutSays : Option FileMap → Option FileMap → List Output → ℕ → ℕ → Status → Type 0
 OutSays told now files before after (WriteFault name) = StopsAt told now files name × Rose before after
 OutSays told now files before after NoMemory = KeepsFirst told now files
+OutSays told now files before after other = ⊥

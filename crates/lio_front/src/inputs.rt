@@ -2,11 +2,11 @@
 
 ghost use Rattle.std.specs.Prelude.{◌≡◌, ◌≤◌, Ok, IfOk, IfErr, length};
 ghost use Rattle.lio_outside.specs.Asking.{Give};
-ghost use Rattle.lio_front.specs.Causes.{Says};
+ghost use Rattle.lio_front.specs.Status.{Says};
 ghost use Rattle.lio_front.specs.Loading as spec;
 
-use crate::fault::FrontFault;
 use crate::loading::fetch;
+use crate::status::Status;
 use lio_outside::Store;
 use lio_policy::Policy;
 use lio_values::{List, Text};
@@ -18,7 +18,7 @@ pub fn load_inputs<S: Store>(
     alloc: Global,
     store: &mut S,
     policy: &Policy,
-) -> Result<List<Text>, FrontFault>
+) -> Result<List<Text>, Status>
     ensures files { S.holds store.new ≡ S.holds store.old }
     ensures count { S.faults store.old ≤ S.faults store.new }
     ensures ok { IfOk result (λ texts. Give (S.holds store.old)

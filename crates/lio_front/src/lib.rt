@@ -1,18 +1,22 @@
-//! The steps that the programs share: what is read before a script runs, and what is written after
-//! it.
+//! The steps that the programs share: the words, what is read before a script runs, and what is
+//! written after it; and the answers.
 #![tactic(auto)]
 
 mod clashes;
-mod fault;
 mod inputs;
 pub mod laws;
 mod loading;
+mod shown;
+mod status;
 mod summing;
+mod words;
 mod write;
 
 pub use clashes::clash;
-pub use fault::{FrontFault, OutFault};
 pub use inputs::load_inputs;
 pub use loading::{Front, MOST_POLICY_BYTES, MOST_SCRIPT_BYTES, fetch, load};
+pub use shown::Shown;
+pub use status::Status;
 pub use summing::summary;
+pub use words::{Command, Mode, Source, Watch, is_name, read_command};
 pub use write::write_out;

@@ -5,13 +5,13 @@ ghost use Rattle.std.specs.Option.{option_map};
 ghost use Rattle.lio_syntax.specs.Verdict.{IsOver};
 ghost use Rattle.lio_start.specs.Fits as start;
 ghost use Rattle.lio_outside.specs.Asking.{Give};
-ghost use Rattle.lio_front.specs.Causes.{Says};
+ghost use Rattle.lio_front.specs.Status.{Says};
 ghost use Rattle.lio_front.specs.Loading.{loading, observer_from, policy_steps};
 ghost use Rattle.lio_front.specs.Loading.{script_steps, steps_under};
 ghost use Rattle.lio_outside.specs.Steps.{asked};
-ghost use Rattle.lio_front.specs.declared.fault.FrontFault.TheVariants.{Missing as missing};
+ghost use Rattle.lio_front.specs.declared.status.Status.TheVariants.{Missing as missing};
 
-use crate::fault::FrontFault;
+use crate::status::Status;
 use lio_clauses::{Names, beside};
 use lio_labels::Label;
 use lio_outside::{FetchFault, Store};
@@ -41,7 +41,7 @@ pub fn fetch<S: Store>(
     store: &mut S,
     name: &[u8],
     limit: u32,
-) -> Result<Vec<u8>, FrontFault>
+) -> Result<Vec<u8>, Status>
     ensures files { S.holds store.new ≡ S.holds store.old }
     ensures count { S.faults store.old ≤ S.faults store.new }
     ensures ok { IfOk result (λ bytes. Give (S.holds store.old)
@@ -51,14 +51,14 @@ pub fn fetch<S: Store>(
 {
     match store.fetch(alloc, name, limit) {
         Ok(bytes) => Ok(bytes),
-        Err(FetchFault::Missing) => Err(FrontFault::Missing(Text::of(alloc, name)?)),
-        Err(FetchFault::Failed) => Err(FrontFault::ReadFault(Text::of(alloc, name)?)),
-        Err(FetchFault::NoMemory) => Err(FrontFault::NoMemory),
+        Err(FetchFault::Missing) => Err(Status::Missing(Text::of(alloc, name)?)),
+        Err(FetchFault::Failed) => Err(Status::ReadFault(Text::of(alloc, name)?)),
+        Err(FetchFault::NoMemory) => Err(Status::NoMemory),
     }
 }
 
 /// Fetches and reads the policy. The store's files stay.
-fn load_policy<S: Store>(alloc: Global, store: &mut S, policy: &[u8]) -> Result<Policy, FrontFault>
+fn load_policy<S: Store>(alloc: Global, store: &mut S, policy: &[u8]) -> Result<Policy, Status>
     ensures files { S.holds store.new ≡ S.holds store.old }
     ensures count { S.faults store.old ≤ S.faults store.new }
     ensures ok { IfOk result (λ read. Give (S.holds store.old) (policy_steps policy.now)
@@ -75,10 +75,10 @@ fn read_observer(
     alloc: Global,
     names: &Names,
     label: Option<&[u8]>,
-) -> Result<Option<Label>, FrontFault>
+) -> Result<Option<Label>, Status>
     ensures ok { IfOk result (λ observer.
         observer_from names.now (option_map (λ text. text.now) label.entry) ≡ Ok observer) }
-    ensures err { IfErr result (λ fault. (fault ≡ FrontFault.NoMemory)
+    ensures err { IfErr result (λ fault. (fault ≡ Status.NoMemory)
         ⊎ (observer_from names.now (option_map (λ text. text.now) label.entry) ≡ Err fault)) }
 {
     match label {
@@ -94,7 +94,7 @@ fn load_script<S: Store>(
     store: &mut S,
     policy: &Policy,
     script: &[u8],
-) -> Result<Script, FrontFault>
+) -> Result<Script, Status>
     ensures files { S.holds store.new ≡ S.holds store.old }
     ensures count { S.faults store.old ≤ S.faults store.new }
     ensures ok { IfOk result (λ procedures. Give (S.holds store.old)
@@ -108,7 +108,7 @@ fn load_script<S: Store>(
     let script = read_script(alloc, text.as_slice(), &policy.names)?;
     match fits(policy, &script) {
         None => Ok(script),
-        Some(fault) => Err(FrontFault::from(fault)),
+        Some(fault) => Err(Status::from(fault)),
     }
 }
 
@@ -120,7 +120,7 @@ fn load_under<S: Store>(
     policy: &Policy,
     script: &[u8],
     label: Option<&[u8]>,
-) -> Result<(Option<Label>, Script), FrontFault>
+) -> Result<(Option<Label>, Script), Status>
     ensures files { S.holds store.new ≡ S.holds store.old }
     ensures count { S.faults store.old ≤ S.faults store.new }
     ensures ok { IfOk result (λ read. Give (S.holds store.old)
@@ -144,7 +144,7 @@ pub fn load<S: Store>(
     policy: &[u8],
     script: &[u8],
     label: Option<&[u8]>,
-) -> Result<Front, FrontFault>
+) -> Result<Front, Status>
     ensures files { S.holds store.new ≡ S.holds store.old }
     ensures count { S.faults store.old ≤ S.faults store.new }
     ensures ok { IfOk result (λ front. Give (S.holds store.old)

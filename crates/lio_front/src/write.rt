@@ -7,7 +7,7 @@ ghost use Rattle.lio_outside.specs.Outputs.{kept};
 ghost use Rattle.lio_front.specs.Outputs.{journal_output, output_of, outputs, outputs_from};
 ghost use Rattle.lio_front.specs.Outputs.{OutSays};
 
-use crate::fault::OutFault;
+use crate::status::Status;
 use lio_clauses::Names;
 use lio_events::{Journal, channel_bytes, print_journal};
 use lio_outside::{KeepFault, Store};
@@ -16,7 +16,7 @@ use lio_values::Text;
 use std::alloc::Global;
 
 /// Writes a file, and names it where it can't be written.
-fn keep<S: Store>(alloc: Global, store: &mut S, file: &[u8], bytes: &[u8]) -> Result<(), OutFault>
+fn keep<S: Store>(alloc: Global, store: &mut S, file: &[u8], bytes: &[u8]) -> Result<(), Status>
     ensures count { S.faults store.old ≤ S.faults store.new }
     ensures ok { OnOk result (S.holds store.new ≡ kept (S.holds store.old)
         (record { name = file.now; bytes = bytes.now } ∷ [])) }
@@ -27,8 +27,8 @@ fn keep<S: Store>(alloc: Global, store: &mut S, file: &[u8], bytes: &[u8]) -> Re
     let name = Text::of(alloc, file)?;
     match store.keep(alloc, file, bytes) {
         Ok(()) => Ok(()),
-        Err(KeepFault::Failed) => Err(OutFault::WriteFault(name)),
-        Err(KeepFault::NoMemory) => Err(OutFault::NoMemory),
+        Err(KeepFault::Failed) => Err(Status::WriteFault(name)),
+        Err(KeepFault::NoMemory) => Err(Status::NoMemory),
     }
 }
 
@@ -39,7 +39,7 @@ fn keep_channel<S: Store>(
     channel: &FileEntry,
     number: u32,
     journal: &Journal,
-) -> Result<(), OutFault>
+) -> Result<(), Status>
     ensures count { S.faults store.old ≤ S.faults store.new }
     ensures ok { OnOk result (S.holds store.new
         ≡ kept (S.holds store.old) (output_of journal.now number channel.now ∷ [])) }
@@ -57,7 +57,7 @@ fn keep_channels<S: Store>(
     store: &mut S,
     policy: &Policy,
     journal: &Journal,
-) -> Result<(), OutFault>
+) -> Result<(), Status>
     ensures count { S.faults store.old ≤ S.faults store.new }
     ensures ok { OnOk result (S.holds store.new
         ≡ kept (S.holds store.old) (outputs_from journal.now 0 policy.now.channels)) }
@@ -79,7 +79,7 @@ fn keep_journal<S: Store>(
     ticket: bool,
     names: &Names,
     file: Option<&[u8]>,
-) -> Result<(), OutFault>
+) -> Result<(), Status>
     requires { All (IsPrintable names.now) journal.now }
     ensures count { S.faults store.old ≤ S.faults store.new }
     ensures ok { OnOk result (S.holds store.new ≡ kept (S.holds store.old)
@@ -107,7 +107,7 @@ pub fn write_out<S: Store>(
     history: Option<&[u8]>,
     view: Option<&[u8]>,
     seen: &Journal,
-) -> Result<(), OutFault>
+) -> Result<(), Status>
     requires journal { All (IsPrintable policy.now.names) journal.now }
     requires seen { All (IsPrintable policy.now.names) seen.now }
     ensures count { S.faults store.old ≤ S.faults store.new }

@@ -5,9 +5,10 @@
 ghost use Rattle.std.specs.Prelude.{◌≡◌, ◌≤◌, List};
 ghost use Rattle.std.specs.Process.{exit_status};
 ghost use Rattle.lio_values.specs.declared.entry.Entry.{Entry};
-ghost use Rattle.lio_host_main.specs.ExitStatus.{exit_status as status_number};
+ghost use Rattle.lio_outside.specs.Call.{outside};
+ghost use Rattle.lio_front.specs.Status.{exit_status as status_number};
 ghost use Rattle.lio_host_main.specs.Answers.{EndsWith};
-ghost use Rattle.lio_host_words.specs.Sorted.{bytes_of_words};
+ghost use Rattle.lio_front.specs.Sorted.{bytes_of_words};
 
 use lio_clauses::NoMemory;
 use lio_events::Journal;
@@ -121,18 +122,8 @@ where
     R: AllocGlobal + Files + Eprint + Threads + Wait + Sync,
     ensures { EndsWith (λ (journal : List Entry). record {
       words = bytes_of_words words.now;
-      before = record {
-        told = S.holds store.old;
-        faults = S.faults store.old;
-        said = W.said say.old;
-        say_faults = W.faults say.old;
-      };
-      after = record {
-        told = S.holds store.new;
-        faults = S.faults store.new;
-        said = W.said say.new;
-        say_faults = W.faults say.new;
-      };
+      before = outside S.holds S.faults W.said W.faults store.old say.old;
+      after = outside S.holds S.faults W.said W.faults store.new say.new;
       journal = journal;
     }) (exit_status result) }
 {

@@ -7,6 +7,7 @@ use Rattle.lio_values.specs.declared.entry.Entry.{Entry}
 use Rattle.lio_events.specs.Printable.{IsPrintable}
 use Rattle.lio_events.proofs.ViewLaws.{view_is_printable}
 use Rattle.lio_outside.specs.FileMap.{FileMap}
+use Rattle.lio_outside.specs.Call.{Outside}
 use Rattle.lio_outside.specs.Count.{Rose}
 use Rattle.lio_outside.proofs.CountLemmas.{Rose-in_part}
 use Rattle.lio_outside.specs.Said.{SaidPartly}
@@ -17,13 +18,11 @@ use Rattle.lio_calculus.specs.Run.{Ran}
 use Rattle.lio_policy.specs.Policy.{PolicyParts}
 use Rattle.lio_front.specs.Outputs.{OutSays, outputs}
 use Rattle.lio_front.specs.Summary.{summary_text}
-use Rattle.lio_front.specs.declared.fault.OutFault.{OutFault}
-use Rattle.lio_front.specs.declared.fault.OutFault.TheVariants as out_fault
-use Rattle.lio_host_main.specs.declared.status.HostStatus.{HostStatus}
-use Rattle.lio_host_main.specs.declared.status.HostStatus.TheVariants.{Done, BadWords, Missing, ReadFault, BadPolicy, BadScript, BadStart, WriteFault, SayFault, NoMemory, NotARun, Clash}
+use Rattle.lio_front.specs.declared.status.Status.{Status}
+use Rattle.lio_front.specs.declared.status.Status.TheVariants.{Done, WriteFault, SayFault, NoMemory}
+use Rattle.lio_front.specs.Status.{of_say}
 use Rattle.lio_host_main.specs.Order.{Order, seen_by, view_file, written}
-use Rattle.lio_host_main.specs.StatusOf.{status_of_out, status_of_say}
-use Rattle.lio_host_main.specs.Answers.{Outside, Finishes, summary_of}
+use Rattle.lio_host_main.specs.Answers.{Finishes, summary_of}
 
 -- what is seen of a journal that can be printed can be printed
 pub seen-printable : (names : List (List ℕ)) (observer : Option Label) (journal : List Entry) → All (IsPrintable names) journal → All (IsPrintable names) (seen_by observer journal)
@@ -35,15 +34,16 @@ pub finishes-nothing : (order : Order) (ran : Ran) (before after : Outside) → 
 finishes-nothing order ran before after told said = (record { before = []; after = written order ran.entries; files_are = refl; first = told }, said)
 
 -- the files aren't all written
-pub finishes-files : (order : Order) (ran : Ran) (before after : Outside) (fault : OutFault) → OutSays before.told after.told (written order ran.entries) before.faults after.faults fault → after.said ≡ before.said
-    → Finishes order ran before after (status_of_out fault)
-finishes-files order ran before after (out_fault.WriteFault name) says said = (says.0, says.1, said)
-finishes-files order ran before after out_fault.NoMemory says said = (says, said)
+pub finishes-files : (order : Order) (ran : Ran) (before after : Outside) (status : Status) → OutSays before.told after.told (written order ran.entries) before.faults after.faults status → after.said ≡ before.said
+    → Finishes order ran before after status
+finishes-files order ran before after (WriteFault name) says said = (says.0, says.1, said)
+finishes-files order ran before after NoMemory says said = (says, said)
+finishes-files order ran before after other says said = absurd says
 
 -- the files are written, and the summary isn't said
 pub finishes-unsaid : (order : Order) (ran : Ran) (before after : Outside) (fault : say.SayFault) → after.told ≡ kept before.told (written order ran.entries)
     → (fault ≡ say_fault.Failed → SaidPartly before.said after.said (summary_of order ran)) → (fault ≡ say_fault.Failed → Rose before.say_faults after.say_faults) → (fault ≡ say_fault.NoMemory → after.said ≡ before.said)
-    → Finishes order ran before after (status_of_say fault)
+    → Finishes order ran before after (of_say fault)
 finishes-unsaid order ran before after say_fault.Failed whole partly rose same = (whole, partly refl, rose refl)
 finishes-unsaid order ran before after say_fault.NoMemory whole partly rose same = (record { before = written order ran.entries; after = []; files_are = sym (append-nil (written order ran.entries)); first = whole }, same refl)
 
@@ -59,18 +59,11 @@ pub summary-is : (order : Order) (ran : Ran) (policy : PolicyParts) (text bytes 
 summary-is order ran policy text bytes first second third = third ∙ second ∙ ap (λ (p : PolicyParts). summary_text p ran.last ran.entries) first
 
 -- the steps before the run left the files, and their faults were counted
-pub finishes-from : (order : Order) (ran : Ran) (before after : Outside) (told : Option FileMap) (faults : ℕ) (status : HostStatus) → told ≡ before.told → before.faults ≤ faults → faults ≤ after.faults
+pub finishes-from : (order : Order) (ran : Ran) (before after : Outside) (told : Option FileMap) (faults : ℕ) (status : Status) → told ≡ before.told → before.faults ≤ faults → faults ≤ after.faults
     → Finishes order ran (record before { told = told; faults = faults }) after status → Finishes order ran before after status
 finishes-from order ran before after told faults Done same first second says = (subst (λ (t : Option FileMap). after.told ≡ kept t (written order ran.entries)) same says.0, says.1)
-finishes-from order ran before after told faults BadWords same first second says = absurd says
-finishes-from order ran before after told faults (Missing name) same first second says = absurd says
-finishes-from order ran before after told faults (ReadFault name) same first second says = absurd says
-finishes-from order ran before after told faults (BadPolicy rule entry) same first second says = absurd says
-finishes-from order ran before after told faults (BadScript line rule) same first second says = absurd says
-finishes-from order ran before after told faults (BadStart place cause) same first second says = absurd says
 finishes-from order ran before after told faults (WriteFault name) same first second says =
     (subst (λ (t : Option FileMap). StopsAt t after.told (written order ran.entries) name) same says.0, Rose-in_part before.faults faults after.faults after.faults first second (omega arith) says.1, says.2)
 finishes-from order ran before after told faults SayFault same first second says = (subst (λ (t : Option FileMap). after.told ≡ kept t (written order ran.entries)) same says.0, says.1, says.2)
 finishes-from order ran before after told faults NoMemory same first second says = (subst (λ (t : Option FileMap). KeepsFirst t after.told (written order ran.entries)) same says.0, says.1)
-finishes-from order ran before after told faults (NotARun line) same first second says = absurd says
-finishes-from order ran before after told faults (Clash name) same first second says = absurd says
+finishes-from order ran before after told faults other same first second says = absurd says

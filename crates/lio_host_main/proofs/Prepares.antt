@@ -3,44 +3,34 @@ use Rattle.std.proofs.Common.{◌≡◌, refl, sym, ap, subst, ℕ, ◌≤◌, a
 use Rattle.std.specs.Prelude.{IfOk, IfErr}
 use Rattle.lio_outside.specs.FileMap.{FileMap}
 use Rattle.lio_outside.specs.Count.{Rose}
-use Rattle.lio_outside.specs.Steps.{Steps, Over, Ask, ◌>>=◌, asked, steps_told_as, unless}
+use Rattle.lio_outside.specs.Steps.{Steps, Over, ◌>>=◌, asked, unless}
 use Rattle.lio_outside.specs.Asking.{Cause, IsNotThere, IsNotRead, IsWanting, IsSaid, IsNever, Give, Refuse}
-use Rattle.lio_outside.proofs.CountLemmas.{Rose-in_part, IsMissing-in_part}
-use Rattle.lio_outside.proofs.StepsLemmas.{give-refused, give-then, give-told, refuse-behind, refuse-first, refuse-told}
+use Rattle.lio_outside.proofs.StepsLemmas.{give-parts, give-refused, give-then, refuse-behind, refuse-first, refuse-in_part}
 use Rattle.lio_policy.specs.declared.policy.Policy.{Policy}
-use Rattle.lio_front.specs.declared.fault.FrontFault.{FrontFault}
-use Rattle.lio_front.specs.declared.fault.FrontFault.TheVariants as front_fault
+use Rattle.lio_front.specs.declared.status.Status.{Status}
+use Rattle.lio_front.specs.declared.status.Status.TheVariants.{Clash, Missing}
 use Rattle.lio_front.specs.declared.loading.Front.{Front}
-use Rattle.lio_front.specs.Causes.{Says}
+use Rattle.lio_front.specs.Status.{Says}
 use Rattle.lio_front.specs.Clash.{clash}
 use Rattle.lio_front.specs.Loading.{loading as front_loading, texts}
-use Rattle.lio_host_words.specs.Command.{Command, Mode, Replay, Source, Files, Made}
-use Rattle.lio_host_main.specs.declared.status.HostStatus.{HostStatus}
-use Rattle.lio_host_main.specs.declared.status.HostStatus.TheVariants.{Clash}
+use Rattle.lio_front.specs.Command.{Command, Mode, Replay, Source, Files, Made}
 use Rattle.lio_audit.specs.History.{most_history_bytes}
 use Rattle.lio_host_main.specs.declared.order.Loaded.{Loaded}
 use Rattle.lio_host_main.specs.Order.{Order, Way, AsTold, label_text, names_added, names_read}
-use Rattle.lio_host_main.specs.StatusOf.{cause_of, status_of}
-use Rattle.lio_host_main.specs.Verdict.{AreGiven, IsRefusedBy, loading, loading_from, of_source, ordering, policy_file, script_file, taking, told_of}
+use Rattle.lio_host_main.specs.Verdict.{AreGiven, IsRefusedBy, cause_of, loading, loading_from, of_source, ordering, policy_file, script_file, taking, told_of}
 use Rattle.lio_host_main.specs.Workload.{made_files, policy_name, script_name}
 
--- a step of the front is refused
-refuse-status : {A : Type 0} → (told : Option FileMap) (steps : Steps A FrontFault) (before after : ℕ) (fault : FrontFault) → Says told steps before after fault
-    → Refuse (cause_of (status_of fault)) told (steps_told_as status_of steps) before after (status_of fault)
-refuse-status told steps before after (front_fault.Missing name) says = refuse-told status_of (IsNotThere name) told steps before after (front_fault.Missing name) says
-refuse-status told steps before after (front_fault.ReadFault name) says = refuse-told status_of (IsNotRead name) told steps before after (front_fault.ReadFault name) says
-refuse-status told steps before after front_fault.BadLabel says = refuse-told status_of IsSaid told steps before after front_fault.BadLabel says
-refuse-status told steps before after (front_fault.BadPolicy rule entry) says = refuse-told status_of IsSaid told steps before after (front_fault.BadPolicy rule entry) says
-refuse-status told steps before after (front_fault.BadScript line rule) says = refuse-told status_of IsSaid told steps before after (front_fault.BadScript line rule) says
-refuse-status told steps before after (front_fault.BadStart place why) says = refuse-told status_of IsSaid told steps before after (front_fault.BadStart place why) says
-refuse-status told steps before after front_fault.NoMemory says = tt
+-- a step that reads is refused
+refuse-read : {A : Type 0} → (told : Option FileMap) (steps : Steps A Status) (before after : ℕ) (status : Status) → Says told steps before after status → Refuse (cause_of status) told steps before after status
+refuse-read told steps before after (Clash name) says = absurd says
+refuse-read told steps before after status says = says
 
 -- no file is taken
-abbrev free : Command → Policy → Steps Policy HostStatus
+abbrev free : Command → Policy → Steps Policy Status
 free command policy = Over (unless Clash (clash policy (names_added command) (names_read command)) policy)
 
-abbrev inputs_of : Policy → Steps (List (List ℕ)) HostStatus
-inputs_of policy = steps_told_as status_of (texts policy.longest policy.inputs)
+abbrev inputs_of : Policy → Steps (List (List ℕ)) Status
+inputs_of policy = texts policy.longest policy.inputs
 
 is-free : (told : Option FileMap) (command : Command) (policy : Policy) → clash policy (names_added command) (names_read command) ≡ None → Give told (free command policy) (Ok policy)
 is-free told command policy none = ap (λ (name : Option (List ℕ)). unless Clash name policy) none
@@ -49,7 +39,7 @@ is-free told command policy none = ap (λ (name : Option (List ℕ)). unless Cla
 pub give-taking : (told : Option FileMap) (command : Command) (policy : Policy) (inputs : List (List ℕ)) → clash policy (names_added command) (names_read command) ≡ None → Give told (texts policy.longest policy.inputs) (Ok inputs)
     → Give told (taking command policy) (Ok inputs)
 give-taking told command policy inputs none gave =
-    give-then told (free command policy) inputs_of policy (Ok inputs) (is-free told command policy none) (give-told status_of told (texts policy.longest policy.inputs) (Ok inputs) gave)
+    give-then told (free command policy) inputs_of policy (Ok inputs) (is-free told command policy none) gave
 
 -- a file that is written is taken
 pub give-clash : (told : Option FileMap) (command : Command) (policy : Policy) (name : List ℕ) → clash policy (names_added command) (names_read command) ≡ Some name → Give told (taking command policy) (Err (Clash name))
@@ -57,36 +47,35 @@ give-clash told command policy name taken =
     give-refused told (free command policy) inputs_of (Clash name) (ap (λ (n : Option (List ℕ)). unless Clash n policy) taken)
 
 -- an input isn't fetched
-pub refuse-input : (told : Option FileMap) (command : Command) (policy : Policy) (before after : ℕ) (fault : FrontFault) → clash policy (names_added command) (names_read command) ≡ None → before ≤ after
-    → Says told (texts policy.longest policy.inputs) before after fault → Refuse (cause_of (status_of fault)) told (taking command policy) before after (status_of fault)
-refuse-input told command policy before after fault none below says =
-    refuse-behind (cause_of (status_of fault)) told (free command policy) inputs_of policy before before after (status_of fault) (omega arith) below (is-free told command policy none)
-    (refuse-status told (texts policy.longest policy.inputs) before after fault says)
+pub refuse-input : (told : Option FileMap) (command : Command) (policy : Policy) (before after : ℕ) (status : Status) → clash policy (names_added command) (names_read command) ≡ None → before ≤ after
+    → Says told (texts policy.longest policy.inputs) before after status → Refuse (cause_of status) told (taking command policy) before after status
+refuse-input told command policy before after status none below says =
+    refuse-behind (cause_of status) told (free command policy) inputs_of policy before before after status (omega arith) below (is-free told command policy none)
+    (refuse-read told (texts policy.longest policy.inputs) before after status says)
 
 -- the steps behind the policy and the script
-abbrev loaded_from : Front → List (List ℕ) → Steps Loaded HostStatus
+abbrev loaded_from : Front → List (List ℕ) → Steps Loaded Status
 loaded_from front inputs = Over (Ok (record { job = record { policy = front.policy; script = front.script; inputs = inputs }; observer = front.observer }))
 
-abbrev behind_front : Command → Front → Steps Loaded HostStatus
+abbrev behind_front : Command → Front → Steps Loaded Status
 behind_front command front = taking command front.policy >>= loaded_from front
 
-abbrev front_steps : List ℕ → List ℕ → Command → Steps Front HostStatus
-front_steps policy script command = steps_told_as status_of (front_loading policy script (label_text command))
+abbrev front_steps : List ℕ → List ℕ → Command → Steps Front Status
+front_steps policy script command = front_loading policy script (label_text command)
 
 -- nothing is loaded
-pub refuse-load : (told : Option FileMap) (policy script : List ℕ) (command : Command) (before after : ℕ) (fault : FrontFault) → before ≤ after
-    → Says told (front_loading policy script (label_text command)) before after fault → Refuse (cause_of (status_of fault)) told (loading_from policy script command) before after (status_of fault)
-refuse-load told policy script command before after fault below says =
-    refuse-first (cause_of (status_of fault)) told (front_steps policy script command) (behind_front command) before after after (status_of fault) below (omega arith)
-    (refuse-status told (front_loading policy script (label_text command)) before after fault says)
+pub refuse-load : (told : Option FileMap) (policy script : List ℕ) (command : Command) (before after : ℕ) (status : Status) → before ≤ after
+    → Says told (front_loading policy script (label_text command)) before after status → Refuse (cause_of status) told (loading_from policy script command) before after status
+refuse-load told policy script command before after status below says =
+    refuse-first (cause_of status) told (front_steps policy script command) (behind_front command) before after after status below (omega arith)
+    (refuse-read told (front_loading policy script (label_text command)) before after status says)
 
 -- the inputs aren't there
-pub refuse-inputs : (told : Option FileMap) (policy script : List ℕ) (command : Command) (read : Front) (before middle after : ℕ) (status : HostStatus) → before ≤ middle → middle ≤ after
+pub refuse-inputs : (told : Option FileMap) (policy script : List ℕ) (command : Command) (read : Front) (before middle after : ℕ) (status : Status) → before ≤ middle → middle ≤ after
     → Give told (front_loading policy script (label_text command)) (Ok read) → Refuse (cause_of status) told (taking command read.policy) middle after status
     → Refuse (cause_of status) told (loading_from policy script command) before after status
 refuse-inputs told policy script command read before middle after status first second gave says =
-    refuse-behind (cause_of status) told (front_steps policy script command) (behind_front command) read before middle after status first second
-    (give-told status_of told (front_loading policy script (label_text command)) (Ok read) gave)
+    refuse-behind (cause_of status) told (front_steps policy script command) (behind_front command) read before middle after status first second gave
     (refuse-first (cause_of status) told (taking command read.policy) (loaded_from read) middle after after status second (omega arith) says)
 
 -- all is there
@@ -95,8 +84,7 @@ pub give-loaded : (told : Option FileMap) (policy script : List ℕ) (command : 
     → Give told (front_loading policy script (label_text command)) (Ok read) → Give told (taking command read.policy) (Ok inputs) → Give told (loading_from policy script command) (Ok loaded)
 give-loaded told policy script command read inputs loaded is gave taken =
     subst (λ (l : Loaded). Give told (loading_from policy script command) (Ok l)) (sym is)
-    (give-then told (front_steps policy script command) (behind_front command) read (Ok _)
-    (give-told status_of told (front_loading policy script (label_text command)) (Ok read) gave)
+    (give-then told (front_steps policy script command) (behind_front command) read (Ok _) gave
     (give-then told (taking command read.policy) (loaded_from read) inputs (Ok _) taken refl))
 
 -- what a store without faults refuses of a workload is refused whatever another one counts
@@ -111,13 +99,13 @@ refuse-sure IsSaid size files steps before after fault says = says
 refuse-sure IsNever size files steps before after fault says = absurd says
 
 -- what a command gives is what its source gives
-abbrev by_source : Source → Command → Steps Loaded HostStatus
+abbrev by_source : Source → Command → Steps Loaded Status
 by_source source command = loading_from (policy_file source) (script_file source) command
 
-pub give-source : (told : Option FileMap) (source : Source) (command : Command) (is : Result Loaded HostStatus) → command.source ≡ source → Give (told_of source told) (by_source source command) is → Give (told_of command.source told) (loading command) is
+pub give-source : (told : Option FileMap) (source : Source) (command : Command) (is : Result Loaded Status) → command.source ≡ source → Give (told_of source told) (by_source source command) is → Give (told_of command.source told) (loading command) is
 give-source told source command is same gave = subst (λ (s : Source). Give (told_of s told) (by_source s command) is) (sym same) gave
 
-pub refuse-source : (cause : Cause) (told : Option FileMap) (source : Source) (command : Command) (before after : ℕ) (status : HostStatus) → command.source ≡ source → Refuse (of_source source cause) (told_of source told) (by_source source command) before after status
+pub refuse-source : (cause : Cause) (told : Option FileMap) (source : Source) (command : Command) (before after : ℕ) (status : Status) → command.source ≡ source → Refuse (of_source source cause) (told_of source told) (by_source source command) before after status
     → Refuse (of_source command.source cause) (told_of command.source told) (loading command) before after status
 refuse-source cause told source command before after status same says = subst (λ (s : Source). Refuse (of_source s cause) (told_of s told) (by_source s command) before after status) (sym same) says
 
@@ -129,7 +117,7 @@ of-files policy script IsWanting = refl
 of-files policy script IsSaid = refl
 of-files policy script IsNever = refl
 
-pub refuse-files : (told : Option FileMap) (policy script : List ℕ) (command : Command) (before after : ℕ) (r : Result Loaded HostStatus) → command.source ≡ Files policy script
+pub refuse-files : (told : Option FileMap) (policy script : List ℕ) (command : Command) (before after : ℕ) (r : Result Loaded Status) → command.source ≡ Files policy script
     → IfErr r (λ status. Refuse (cause_of status) told (loading_from policy script command) before after status) → IfErr r (λ status. Refuse (of_source command.source (cause_of status)) (told_of command.source told) (loading command) before after status)
 refuse-files told policy script command before after (Ok loaded) same says = says
 refuse-files told policy script command before after (Err status) same says =
@@ -137,13 +125,13 @@ refuse-files told policy script command before after (Err status) same says =
     (subst (λ (cause : Cause). Refuse cause told (loading_from policy script command) before after status) (sym (of-files policy script (cause_of status))) says)
 
 -- a generated workload
-pub give-made : (told : Option FileMap) (size : ℕ) (files : FileMap) (command : Command) (r : Result Loaded HostStatus) → command.source ≡ Made size → files ≡ made_files size
+pub give-made : (told : Option FileMap) (size : ℕ) (files : FileMap) (command : Command) (r : Result Loaded Status) → command.source ≡ Made size → files ≡ made_files size
     → IfOk r (λ loaded. Give (Some files) (loading_from policy_name script_name command) (Ok loaded)) → IfOk r (λ loaded. Give (told_of command.source told) (loading command) (Ok loaded))
 give-made told size files command (Err status) same made gave = gave
 give-made told size files command (Ok loaded) same made gave =
     give-source told (Made size) command (Ok loaded) same (subst (λ (f : FileMap). Give (Some f) (loading_from policy_name script_name command) (Ok loaded)) made gave)
 
-pub refuse-made : (told : Option FileMap) (size : ℕ) (files : FileMap) (command : Command) (before after : ℕ) (r : Result Loaded HostStatus) → command.source ≡ Made size → files ≡ made_files size
+pub refuse-made : (told : Option FileMap) (size : ℕ) (files : FileMap) (command : Command) (before after : ℕ) (r : Result Loaded Status) → command.source ≡ Made size → files ≡ made_files size
     → IfErr r (λ status. Refuse (cause_of status) (Some files) (loading_from policy_name script_name command) 0 0 status) → IfErr r (λ status. Refuse (of_source command.source (cause_of status)) (told_of command.source told) (loading command) before after status)
 refuse-made told size files command before after (Ok loaded) same made says = says
 refuse-made told size files command before after (Err status) same made says =
@@ -152,39 +140,26 @@ refuse-made told size files command before after (Err status) same made says =
     (subst (λ (f : FileMap). Refuse (cause_of status) (Some f) (loading_from policy_name script_name command) 0 0 status) made says))
 
 -- a history isn't fetched
-pub refuse-history : (told : Option FileMap) (file : List ℕ) (before after : ℕ) (fault : FrontFault) → before ≤ after → Says told (asked (front_fault.Missing file) file most_history_bytes) before after fault
-    → Refuse (cause_of (status_of fault)) told (ordering (Replay file)) before after (status_of fault)
-refuse-history told file before after fault below says =
-    refuse-first (cause_of (status_of fault)) told (steps_told_as status_of (asked (front_fault.Missing file) file most_history_bytes)) told_as_way before after after (status_of fault) below (omega arith)
-    (refuse-status told (asked (front_fault.Missing file) file most_history_bytes) before after fault says)
+pub refuse-history : (told : Option FileMap) (file : List ℕ) (before after : ℕ) (status : Status) → before ≤ after → Says told (asked (Missing file) file most_history_bytes) before after status
+    → Refuse (cause_of status) told (ordering (Replay file)) before after status
+refuse-history told file before after status below says =
+    refuse-first (cause_of status) told (asked (Missing file) file most_history_bytes) told_as_way before after after status below (omega arith)
+    (refuse-read told (asked (Missing file) file most_history_bytes) before after status says)
   where
-    told_as_way : List ℕ → Steps Way HostStatus
+    told_as_way : List ℕ → Steps Way Status
     told_as_way bytes = Over (Ok (AsTold bytes))
 
 -- how the turns are taken isn't given, once what is run was
-refuse-later : {A E : Type 0} → (cause : Cause) (told : Option FileMap) (steps : Steps A E) (before middle after : ℕ) (fault : E) → before ≤ middle → middle ≤ after → Refuse cause told steps middle after fault → Refuse cause told steps before after fault
-refuse-later (IsNotThere name) told steps before middle after fault first second says = (says.0, IsMissing-in_part told name before middle after after first second (omega arith) says.1)
-refuse-later (IsNotRead name) told steps before middle after fault first second says = (says.0, Rose-in_part before middle after after first second (omega arith) says.1)
-refuse-later IsWanting told steps before middle after fault first second says = tt
-refuse-later IsSaid told steps before middle after fault first second says = says
-refuse-later IsNever told steps before middle after fault first second says = absurd says
-
-pub refused-way : (command : Command) (told : Option FileMap) (before middle after : ℕ) (loaded : Loaded) (status : HostStatus) → before ≤ middle → middle ≤ after → Give (told_of command.source told) (loading command) (Ok loaded)
+pub refused-way : (command : Command) (told : Option FileMap) (before middle after : ℕ) (loaded : Loaded) (status : Status) → before ≤ middle → middle ≤ after → Give (told_of command.source told) (loading command) (Ok loaded)
     → Refuse (cause_of status) told (ordering command.mode) middle after status → IsRefusedBy command told before after status
-refused-way command told before middle after loaded status first second gave says = inr (loaded, gave, refuse-later (cause_of status) told (ordering command.mode) before middle after status first second says)
-
--- what steps gave, part by part
-give-parts : {A B E : Type 0} → (told : Option FileMap) (first : Steps A E) (next : A → Steps B E) (b : B) → Give told (first >>= next) (Ok b) → (a : A) × Give told first (Ok a) × Give told (next a) (Ok b)
-give-parts told (Over (Ok a)) next b gave = (a, refl, gave)
-give-parts told (Over (Err fault)) next b gave = absurd (cc)
-give-parts told (Ask name limit go) next b (bytes, got, gave) = let parts = give-parts told (go bytes) next b gave in (parts.0, (bytes, got, parts.1), parts.2)
+refused-way command told before middle after loaded status first second gave says = inr (loaded, gave, refuse-in_part (cause_of status) told (ordering command.mode) before middle after after status first second (omega arith) says)
 
 -- no name is there
 pub no-name : (name : Option (List ℕ)) → ((file : List ℕ) → name ≡ Some file → ⊥) → name ≡ None
 no-name None never = refl
 no-name (Some file) never = absurd (never file refl)
 
-abbrev given : Loaded → Result Loaded HostStatus
+abbrev given : Loaded → Result Loaded Status
 given loaded = Ok loaded
 
 the-ok : (one two : Loaded) → given one ≡ given two → one ≡ two

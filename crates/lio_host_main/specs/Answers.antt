@@ -1,7 +1,8 @@
 -- What each answer of the host says.
-use Rattle.std.specs.Prelude.{◌≡◌, ℕ, List, [], Option, Some, None, Result, Ok, Err, ◌⊎◌}
+use Rattle.std.specs.Prelude.{◌≡◌, ℕ, List, [], Some, None, ◌⊎◌}
 use Rattle.lio_values.specs.declared.entry.Entry.{Entry}
 use Rattle.lio_outside.specs.FileMap.{FileMap}
+use Rattle.lio_outside.specs.Call.{Outside}
 use Rattle.lio_outside.specs.Count.{Rose}
 use Rattle.lio_outside.specs.Said.{said_with, SaidPartly}
 use Rattle.lio_outside.specs.Outputs.{kept, KeepsFirst, StopsAt}
@@ -12,23 +13,16 @@ use Rattle.lio_calculus.specs.Step.{Configuration}
 use Rattle.lio_start.specs.Job.{first_of}
 use Rattle.lio_rounds.specs.Headline.{IsRunOf}
 use Rattle.lio_rounds.specs.Runs.{IsByRounds}
-use Rattle.lio_host_words.specs.Command.{Command, command_of}
-use Rattle.lio_host_main.specs.declared.status.HostStatus.{HostStatus}
-use Rattle.lio_host_main.specs.declared.status.HostStatus.TheVariants.{Done, BadWords, Missing, ReadFault, BadPolicy, BadScript, BadStart, WriteFault, SayFault, NoMemory, NotARun, Clash}
-use Rattle.lio_host_main.specs.ExitStatus.{exit_status}
+use Rattle.lio_front.specs.Command.{Command, command_of}
+use Rattle.lio_front.specs.declared.status.Status.{Status}
+use Rattle.lio_front.specs.declared.status.Status.TheVariants.{Done, BadWords, Missing, ReadFault, BadPolicy, BadScript, BadStart, WriteFault, SayFault, NoMemory, NotARun, Clash}
+use Rattle.lio_front.specs.Status.{Failed, answer_of, exit_status}
 use Rattle.lio_audit.specs.History.{IsHistoryOf, Says as StopsRun}
 use Rattle.lio_audit.specs.declared.fault.AuditFault.{AuditFault}
 use Rattle.lio_audit.specs.declared.fault.AuditFault.TheVariants as audit_fault
 use Rattle.lio_host_main.specs.Order.{Order, Way, InRounds, ByWorkers, AsTold, seen_by, view_file, written}
 use Rattle.lio_host_main.specs.Verdict.{IsRefusedBy, IsVerdict, verdict}
 use Rattle.lio_host_main.specs.Observed.{IsRerunByEach, IsSeenByEach}
-
--- the outside at a moment: what the store tells of its files, what the output tells was said to it, and how many faults each had counted
-pub record Outside : Type 0 where
-  pub told : Option FileMap
-  pub faults : ℕ
-  pub said : Option (List ℕ)
-  pub say_faults : ℕ
 
 -- a call of the host: its words, the outside before and after it, and the journal of the answer
 pub record Call : Type 0 where
@@ -44,7 +38,7 @@ pub record NothingDone (call : Call) : Type 0 where
   pub journal : call.journal ≡ []
 
 -- the call was refused by the steps of its command, and nothing was done
-pub record Refused (call : Call) (status : HostStatus) : Type 0 where
+pub record Refused (call : Call) (status : Status) : Type 0 where
   pub command : Command
   pub words : command_of call.words ≡ Some command
   pub refuse : IsRefusedBy command call.before.told call.before.faults call.after.faults status
@@ -87,7 +81,7 @@ StopsBy (AsTold bytes) order line = StopsAtLine order.job.policy.names (first_of
 StopsBy other order line = ⊥
 
 -- why no run was made of an order: its history isn't that of one, or memory was wanting
-abbrev pub StopsTheRun : Order → HostStatus → Type 0
+abbrev pub StopsTheRun : Order → Status → Type 0
 StopsTheRun order (NotARun line) = StopsBy order.way order line
 StopsTheRun order NoMemory = Unit {0}
 StopsTheRun order other = ⊥
@@ -106,7 +100,7 @@ summary_of order ran = summary_text order.job.policy ran.last ran.entries
 -- What is written and said of a run. Done: all files are whole, and the summary was said. WriteFault: the files before the named one are whole, that one is as before or holds a first part of its bytes, all
 -- others are as before, the count of faults rose, and nothing was said. SayFault: all files are whole, a first part of the summary was said, and the count of the output's faults rose. NoMemory: a first part of the
 -- files is whole, none or all of them included, all others are as before, and nothing was said.
-abbrev pub Finishes : Order → Ran → Outside → Outside → HostStatus → Type 0
+abbrev pub Finishes : Order → Ran → Outside → Outside → Status → Type 0
 Finishes order ran before after Done = (after.told ≡ kept before.told (written order ran.entries)) × (after.said ≡ said_with before.said (summary_of order ran))
 Finishes order ran before after (WriteFault name) = StopsAt before.told after.told (written order ran.entries) name × Rose before.faults after.faults × (after.said ≡ before.said)
 Finishes order ran before after SayFault = (after.told ≡ kept before.told (written order ran.entries)) × SaidPartly before.said after.said (summary_of order ran) × Rose before.say_faults after.say_faults
@@ -114,14 +108,14 @@ Finishes order ran before after NoMemory = KeepsFirst before.told after.told (wr
 Finishes order ran before after other = ⊥
 
 -- a run was made, and its files and its summary were dealt with so
-pub record Ends (call : Call) (journal : List Entry) (status : HostStatus) : Type 0 where
+pub record Ends (call : Call) (journal : List Entry) (status : Status) : Type 0 where
   pub order : Order
   pub last : Configuration
   pub ran : RunsOrder call order (record { entries = journal; last = last })
   pub finishes : Finishes order (record { entries = journal; last = last }) call.before call.after status
 
 -- the journal that comes with an answer after a run: none where memory was wanting
-abbrev pub journal_with : HostStatus → List Entry → List Entry
+abbrev pub journal_with : Status → List Entry → List Entry
 journal_with NoMemory journal = []
 journal_with other journal = journal
 
@@ -139,8 +133,8 @@ pub record SaysNoMemory (call : Call) : Type 0 where
   pub done : NothingDone call ⊎ ((journal : List Entry) × Ends call journal NoMemory)
   pub journal : call.journal ≡ []
 
--- what each answer says of the call that gave it
-abbrev pub Says : Call → HostStatus → Type 0
+-- what each answer says of the call that gave it; other answers aren't given
+abbrev pub Says : Call → Status → Type 0
 Says call Done = SaysDone call
 Says call BadWords = SaysBadWords call
 Says call (Missing name) = Refused call (Missing name)
@@ -153,27 +147,20 @@ Says call SayFault = Ends call call.journal SayFault
 Says call NoMemory = SaysNoMemory call
 Says call (NotARun line) = SaysNotARun call line
 Says call (Clash name) = Refused call (Clash name)
-
--- the answer of a call whose verdict is this
-abbrev pub answer_of : Result Order HostStatus → HostStatus
-answer_of (Ok order) = Done
-answer_of (Err status) = status
+Says call other = ⊥
 
 -- an answer of a file or an output that failed, for which its count of faults rose, or of a history that isn't that of a run
-abbrev pub IsFault : Call → HostStatus → Type 0
-IsFault call (ReadFault name) = Rose call.before.faults call.after.faults
-IsFault call (WriteFault name) = Rose call.before.faults call.after.faults
-IsFault call SayFault = Rose call.before.say_faults call.after.say_faults
+abbrev pub IsFault : Call → Status → Type 0
 IsFault call (NotARun line) = SaysNotARun call line
-IsFault call other = ⊥
+IsFault call status = Failed call.before call.after status
 
 -- a call over these files is answered by its verdict, unless memory is wanting, a file or the output failed, or the history to be followed isn't that of a run
-pub record Follows (call : Call) (status : HostStatus) (files : FileMap) : Type 0 where
+pub record Follows (call : Call) (status : Status) (files : FileMap) : Type 0 where
   pub answer : (status ≡ answer_of (verdict files call.words)) ⊎ ((status ≡ NoMemory) ⊎ IsFault call status)
 
 -- a call ends the program with an exit status: that of an answer that says of the call, with some journal, what it is to say
 pub record EndsWith (call : List Entry → Call) (exit : ℕ) : Type 0 where
-  pub status : HostStatus
+  pub status : Status
   pub journal : List Entry
   pub says : Says (call journal) status
   pub exit_is : exit ≡ exit_status status

@@ -8,8 +8,8 @@ use Rattle.lio_outside.specs.Outputs.{Output}
 use Rattle.lio_front.specs.Laws.{name_list}
 use Rattle.lio_front.specs.Outputs.{outputs}
 use Rattle.lio_start.specs.declared.job.Job.{Job}
-use Rattle.lio_host_words.specs.Command.{Command, Mode, Rounds, Workers, Replay, Source, Files, Made}
-use Rattle.lio_host_words.specs.Sorted.{named}
+use Rattle.lio_front.specs.Command.{Command, Mode, Rounds, Workers, Replay, Source, Files, Made}
+use Rattle.lio_front.specs.Sorted.{named}
 use Rattle.lio_host_main.specs.declared.order.Order as declared
 use Rattle.lio_host_main.specs.declared.order.Way as declared_way
 use Rattle.lio_host_main.specs.declared.order.Way.TheVariants as way

@@ -2,19 +2,18 @@
 use Rattle.std.specs.Prelude.{◌≡◌, ℕ, List, Option, None, Some, Result, Ok, Err, ◌⊎◌}
 use Rattle.lio_outside.specs.FileMap.{FileMap}
 use Rattle.lio_outside.specs.Fetch.{given}
-use Rattle.lio_outside.specs.Steps.{Steps, Over, ◌>>=◌, asked, outcome, steps_told_as, unless}
-use Rattle.lio_outside.specs.Asking.{Cause, IsNotRead, IsNever, Give, Refuse}
+use Rattle.lio_outside.specs.Steps.{Steps, Over, ◌>>=◌, asked, outcome, unless}
+use Rattle.lio_outside.specs.Asking.{Cause, IsNotRead, IsSaid, IsNever, Give, Refuse}
 use Rattle.lio_audit.specs.History.{most_history_bytes}
 use Rattle.lio_policy.specs.declared.policy.Policy.{Policy}
-use Rattle.lio_front.specs.declared.fault.FrontFault.TheVariants as front_fault
+use Rattle.lio_front.specs.declared.status.Status.{Status}
+use Rattle.lio_front.specs.declared.status.Status.TheVariants.{BadWords, Clash, Missing}
 use Rattle.lio_front.specs.Loading.{loading as front_loading, texts}
 use Rattle.lio_front.specs.Clash.{clash}
-use Rattle.lio_host_words.specs.Command.{Command, Mode, Rounds, Workers, Replay, Source, Files, Made, command_of}
+use Rattle.lio_front.specs.Status as front
+use Rattle.lio_front.specs.Command.{Command, Mode, Rounds, Workers, Replay, Source, Files, Made, command_of}
 use Rattle.lio_host_main.specs.declared.order.Loaded.{Loaded}
-use Rattle.lio_host_main.specs.declared.status.HostStatus.{HostStatus}
-use Rattle.lio_host_main.specs.declared.status.HostStatus.TheVariants.{BadWords, Clash}
 use Rattle.lio_host_main.specs.Order.{Order, Way, InRounds, ByWorkers, AsTold, label_text, names_added, names_read}
-use Rattle.lio_host_main.specs.StatusOf.{cause_of, status_of}
 use Rattle.lio_host_main.specs.Workload.{made_files, policy_name, script_name}
 
 -- the names of the policy and of the script
@@ -37,44 +36,44 @@ told_of (Files policy script) told = told
 told_of (Made size) told = Some (made_files size)
 
 -- the inputs of a policy, where no file that is written is taken
-abbrev pub taking : Command → Policy → Steps (List (List ℕ)) HostStatus
+abbrev pub taking : Command → Policy → Steps (List (List ℕ)) Status
 taking command policy = do
   allowed ← Over (unless Clash (clash policy (names_added command) (names_read command)) policy)
-  steps_told_as status_of (texts allowed.longest allowed.inputs)
+  texts allowed.longest allowed.inputs
 
 -- what is run by a command, of a policy and a script with these names, or the refusal of the first step that is refused: the policy, the observer's label and the script, that no
 -- file that is written is taken, the inputs
-abbrev pub loading_from : List ℕ → List ℕ → Command → Steps Loaded HostStatus
+abbrev pub loading_from : List ℕ → List ℕ → Command → Steps Loaded Status
 loading_from policy script command = do
-  front ← steps_told_as status_of (front_loading policy script (label_text command))
+  front ← front_loading policy script (label_text command)
   inputs ← taking command front.policy
   Over (Ok (record { job = record { policy = front.policy; script = front.script; inputs = inputs }; observer = front.observer }))
 
 -- what is run by a command
-abbrev pub loading : Command → Steps Loaded HostStatus
+abbrev pub loading : Command → Steps Loaded Status
 loading command = loading_from (policy_file command.source) (script_file command.source) command
 
 -- how the turns are taken: a history that is taken again is fetched, at most one byte more than histories may have
-abbrev pub ordering : Mode → Steps Way HostStatus
+abbrev pub ordering : Mode → Steps Way Status
 ordering Rounds = Over (Ok InRounds)
 ordering (Workers count) = Over (Ok (ByWorkers count))
 ordering (Replay file) = do
-  bytes ← steps_told_as status_of (asked (front_fault.Missing file) file most_history_bytes)
+  bytes ← asked (Missing file) file most_history_bytes
   Over (Ok (AsTold bytes))
 
 -- an order of what is run and of how the turns are taken, or the first refusal
-abbrev pub order_by : Command → Result Loaded HostStatus → Result Way HostStatus → Result Order HostStatus
+abbrev pub order_by : Command → Result Loaded Status → Result Way Status → Result Order Status
 order_by command (Err status) way = Err status
 order_by command (Ok loaded) (Err status) = Err status
 order_by command (Ok loaded) (Ok way) = Ok (record { job = loaded.job; command = command; observer = loaded.observer; way = way })
 
 -- what a call is to do by its command, over files
-abbrev pub verdict_by : FileMap → Option Command → Result Order HostStatus
+abbrev pub verdict_by : FileMap → Option Command → Result Order Status
 verdict_by files None = Err BadWords
 verdict_by files (Some command) = order_by command (outcome (given (files_of command.source files)) (loading command)) (outcome (given files) (ordering command.mode))
 
 -- what a call with these words is to do, over files
-abbrev pub verdict : FileMap → List (List ℕ) → Result Order HostStatus
+abbrev pub verdict : FileMap → List (List ℕ) → Result Order Status
 verdict files words = verdict_by files (command_of words)
 
 -- what is run by an order, and how its turns are taken, were given, over what the store gave
@@ -87,13 +86,18 @@ pub record IsVerdict (told : Option FileMap) (words : List (List ℕ)) (order : 
   pub command : command_of words ≡ Some order.command
   pub given : AreGiven told order
 
+-- what has to hold for each answer of the steps before a run, of which some aren't: that a file is taken is said by the steps
+abbrev pub cause_of : Status → Cause
+cause_of (Clash name) = IsSaid
+cause_of status = front.cause_of status
+
 -- what has to hold for a refusal of what is run: of a generated workload no file is read
 abbrev pub of_source : Source → Cause → Cause
 of_source (Made size) (IsNotRead name) = IsNever
 of_source source cause = cause
 
 -- A command is refused with an answer: what is run isn't given, or it is, and how the turns are taken isn't.
-abbrev pub IsRefusedBy : Command → Option FileMap → ℕ → ℕ → HostStatus → Type 0
+abbrev pub IsRefusedBy : Command → Option FileMap → ℕ → ℕ → Status → Type 0
 IsRefusedBy command told before after status =
     Refuse (of_source command.source (cause_of status)) (told_of command.source told) (loading command) before after status
     ⊎ ((loaded : Loaded) × Give (told_of command.source told) (loading command) (Ok loaded) × Refuse (cause_of status) told (ordering command.mode) before after status)

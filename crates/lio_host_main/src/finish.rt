@@ -2,17 +2,17 @@
 
 ghost use Rattle.std.specs.Prelude.{◌≡◌, ◌≤◌, All, IfOk, IfErr, OnOk};
 ghost use Rattle.lio_events.specs.Printable.{IsPrintable};
+ghost use Rattle.lio_outside.specs.Call.{outside};
 ghost use Rattle.lio_rounds.specs.Runs.{ran_of};
 ghost use Rattle.lio_host_main.specs.Answers.{Finishes};
 ghost use Rattle.lio_host_main.specs.Order.{order_of, seen_by};
-ghost use Rattle.lio_host_main.specs.declared.status.HostStatus.TheVariants.{Done as done};
+ghost use Rattle.lio_front.specs.declared.status.Status.TheVariants.{Done as done};
 
 use crate::order::Order;
 use crate::prepare::view_of;
-use crate::status::HostStatus;
 use lio_clauses::NoMemory;
 use lio_events::{Journal, view};
-use lio_front::{summary, write_out};
+use lio_front::{Status, summary, write_out};
 use lio_labels::Label;
 use lio_outside::{Say, Store};
 use lio_rounds::Ran;
@@ -37,37 +37,17 @@ pub fn finish_seen<S: Store, W: Say>(
     order: &Order<'_>,
     ran: &Ran,
     seen: &Journal,
-) -> Result<(), HostStatus>
+) -> Result<(), Status>
     requires printable { All (IsPrintable order.now.job.policy.names) ran.now.journal }
     requires seen { seen.now ≡ seen_by order.now.observer ran.now.journal }
     ensures count { S.faults store.old ≤ S.faults store.new }
     ensures say_count { W.faults say.old ≤ W.faults say.new }
     ensures ok { OnOk result (Finishes (order_of order.now) (ran_of order.now.job.script ran.now)
-        (record {
-          told = S.holds store.old;
-          faults = S.faults store.old;
-          said = W.said say.old;
-          say_faults = W.faults say.old;
-        })
-        (record {
-          told = S.holds store.new;
-          faults = S.faults store.new;
-          said = W.said say.new;
-          say_faults = W.faults say.new;
-        }) done) }
+        (outside S.holds S.faults W.said W.faults store.old say.old)
+        (outside S.holds S.faults W.said W.faults store.new say.new) done) }
     ensures err { IfErr result (Finishes (order_of order.now) (ran_of order.now.job.script ran.now)
-        (record {
-          told = S.holds store.old;
-          faults = S.faults store.old;
-          said = W.said say.old;
-          say_faults = W.faults say.old;
-        })
-        (record {
-          told = S.holds store.new;
-          faults = S.faults store.new;
-          said = W.said say.new;
-          say_faults = W.faults say.new;
-        })) }
+        (outside S.holds S.faults W.said W.faults store.old say.old)
+        (outside S.holds S.faults W.said W.faults store.new say.new)) }
 {
     let policy = order.job.policy();
     let text = summary(alloc, policy, &ran.config, &ran.journal)?;
@@ -85,36 +65,16 @@ pub fn finish_run<S: Store, W: Say>(
     say: &mut W,
     order: &Order<'_>,
     ran: &Ran,
-) -> Result<(), HostStatus>
+) -> Result<(), Status>
     requires { All (IsPrintable order.now.job.policy.names) ran.now.journal }
     ensures count { S.faults store.old ≤ S.faults store.new }
     ensures say_count { W.faults say.old ≤ W.faults say.new }
     ensures ok { OnOk result (Finishes (order_of order.now) (ran_of order.now.job.script ran.now)
-        (record {
-          told = S.holds store.old;
-          faults = S.faults store.old;
-          said = W.said say.old;
-          say_faults = W.faults say.old;
-        })
-        (record {
-          told = S.holds store.new;
-          faults = S.faults store.new;
-          said = W.said say.new;
-          say_faults = W.faults say.new;
-        }) done) }
+        (outside S.holds S.faults W.said W.faults store.old say.old)
+        (outside S.holds S.faults W.said W.faults store.new say.new) done) }
     ensures err { IfErr result (Finishes (order_of order.now) (ran_of order.now.job.script ran.now)
-        (record {
-          told = S.holds store.old;
-          faults = S.faults store.old;
-          said = W.said say.old;
-          say_faults = W.faults say.old;
-        })
-        (record {
-          told = S.holds store.new;
-          faults = S.faults store.new;
-          said = W.said say.new;
-          say_faults = W.faults say.new;
-        })) }
+        (outside S.holds S.faults W.said W.faults store.old say.old)
+        (outside S.holds S.faults W.said W.faults store.new say.new)) }
 {
     let seen = seen(alloc, &ran.journal, &order.observer)?;
     let finished = finish_seen(alloc, store, say, order, ran, &seen);

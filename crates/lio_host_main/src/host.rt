@@ -1,18 +1,19 @@
 //! The top call: words, policy, script, inputs, run, files, summary.
 
 ghost use Rattle.std.specs.Prelude.{◌≡◌, ◌≤◌, [], None, IfSome};
-ghost use Rattle.lio_host_words.specs.Command.{command_of};
-ghost use Rattle.lio_host_words.specs.Sorted.{bytes_of_words};
+ghost use Rattle.lio_front.specs.Command.{command_of};
+ghost use Rattle.lio_front.specs.Sorted.{bytes_of_words};
+ghost use Rattle.lio_outside.specs.Call.{outside};
 ghost use Rattle.lio_host_main.specs.Answers.{Says, Follows, journal_with};
 
+use crate::HostStatus;
 use crate::finish::finish_run;
 use crate::order::Order;
 use crate::prepare::prepare_order;
 use crate::running::run_order;
-use crate::status::HostStatus;
 use lio_events::Journal;
 use lio_events_fits::journal_fits;
-use lio_host_words::read_command;
+use lio_front::read_command;
 use lio_outside::{Say, Store};
 use lio_rounds::Ran;
 use lio_start::Job;
@@ -93,18 +94,8 @@ fn answer<R: Threads + Wait + Sync, S: Store, W: Say, G: Gate + Sync>(
     ensures say_count { W.faults say.old ≤ W.faults say.new }
     ensures says { Says (record {
       words = bytes_of_words words.now;
-      before = record {
-        told = S.holds store.old;
-        faults = S.faults store.old;
-        said = W.said say.old;
-        say_faults = W.faults say.old;
-      };
-      after = record {
-        told = S.holds store.new;
-        faults = S.faults store.new;
-        said = W.said say.new;
-        say_faults = W.faults say.new;
-      };
+      before = outside S.holds S.faults W.said W.faults store.old say.old;
+      after = outside S.holds S.faults W.said W.faults store.new say.new;
       journal = result.journal;
     }) result.status }
 {

@@ -2,20 +2,17 @@
 //! summary.
 #![tactic(auto)]
 
-mod display;
 mod finish;
 mod host;
 pub mod laws;
 mod order;
 mod prepare;
 mod running;
-mod status;
 mod workload_files;
 
-pub use display::Shown;
 pub use finish::{finish_run, finish_seen};
 pub use host::{Outcome, host_main};
+pub use lio_front::{Shown, Status as HostStatus};
 pub use order::{Loaded, Order, Way};
 pub use prepare::prepare_order;
 pub use running::{begin, expected_line};
-pub use status::HostStatus;

@@ -1,6 +1,6 @@
 //! What a call is to run, and which files it writes.
 
-use lio_host_words::Command;
+use lio_front::Command;
 use lio_labels::Label;
 use lio_start::Job;
 

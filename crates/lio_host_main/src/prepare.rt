@@ -4,21 +4,18 @@ ghost use Rattle.std.specs.Prelude.{◌≡◌, ◌≤◌, ◌++◌, Ok, IfOk, If
 ghost use Rattle.std.specs.Option.{option_map};
 ghost use Rattle.lio_outside.specs.Asking.{Give, Refuse};
 ghost use Rattle.lio_front.specs.Laws.{name_list};
-ghost use Rattle.lio_host_words.specs.Command.{IsCounted, IsSized};
-ghost use Rattle.lio_host_words.specs.Sorted.{mode_named, named, source_named};
+ghost use Rattle.lio_front.specs.Command.{IsCounted, IsSized};
+ghost use Rattle.lio_front.specs.Sorted.{mode_named, named, source_named};
 ghost use Rattle.lio_host_main.specs.Order.{IsCountedWay, files_read, label_text, names_added};
 ghost use Rattle.lio_host_main.specs.Order.{names_read, order_of, replayed, view_file, way_of};
-ghost use Rattle.lio_host_main.specs.StatusOf.{cause_of};
-ghost use Rattle.lio_host_main.specs.Verdict.{AreGiven, IsRefusedBy, loading, loading_from};
+ghost use Rattle.lio_host_main.specs.Verdict.{AreGiven, IsRefusedBy, cause_of, loading, loading_from};
 ghost use Rattle.lio_host_main.specs.Verdict.{of_source, ordering, taking, told_of};
 
 use crate::order::{Loaded, Order, Way};
-use crate::status::HostStatus;
 use crate::workload_files::{POLICY, SCRIPT, workload};
 use lio_audit::MOST_HISTORY_BYTES;
 use lio_clauses::NoMemory;
-use lio_front::{clash, fetch, load, load_inputs};
-use lio_host_words::{Command, Mode, Source};
+use lio_front::{Command, Mode, Source, Status, clash, fetch, load, load_inputs};
 use lio_outside::Store;
 use lio_policy::Policy;
 use lio_start::Job;
@@ -106,7 +103,7 @@ fn take_inputs<S: Store>(
     store: &mut S,
     command: Command<'_>,
     policy: &Policy,
-) -> Result<List<Text>, HostStatus>
+) -> Result<List<Text>, Status>
     ensures files { S.holds store.new ≡ S.holds store.old }
     ensures count { S.faults store.old ≤ S.faults store.new }
     ensures ok { IfOk result (λ inputs. Give (S.holds store.old)
@@ -119,9 +116,9 @@ fn take_inputs<S: Store>(
     let added = added_names(alloc, command)?;
     let read = read_names(alloc, command)?;
     if let Some(name) = clash(alloc, policy, &added, &read)? {
-        return Err(HostStatus::Clash(name));
+        return Err(Status::Clash(name));
     }
-    Ok(load_inputs(alloc, store, policy)?)
+    load_inputs(alloc, store, policy)
 }
 
 /// Fetches and reads the policy and then the script with these names, sees that no file that is
@@ -132,7 +129,7 @@ fn load_from<S: Store>(
     policy: &[u8],
     script: &[u8],
     command: Command<'_>,
-) -> Result<Loaded, HostStatus>
+) -> Result<Loaded, Status>
     ensures files { S.holds store.new ≡ S.holds store.old }
     ensures count { S.faults store.old ≤ S.faults store.new }
     ensures ok { IfOk result (λ loaded. Give (S.holds store.old)
@@ -160,7 +157,7 @@ fn load_source<S: Store>(
     alloc: Global,
     store: &mut S,
     command: Command<'_>,
-) -> Result<Loaded, HostStatus>
+) -> Result<Loaded, Status>
     requires { IsSized (source_named command.source) }
     ensures files { S.holds store.new ≡ S.holds store.old }
     ensures count { S.faults store.old ≤ S.faults store.new }
@@ -182,7 +179,7 @@ fn load_source<S: Store>(
 }
 
 /// How the turns are taken; a history that is taken again is fetched. The store's files stay.
-fn load_way<S: Store>(alloc: Global, store: &mut S, mode: Mode<'_>) -> Result<Way, HostStatus>
+fn load_way<S: Store>(alloc: Global, store: &mut S, mode: Mode<'_>) -> Result<Way, Status>
     ensures files { S.holds store.new ≡ S.holds store.old }
     ensures count { S.faults store.old ≤ S.faults store.new }
     ensures counted { IsCounted (mode_named mode.entry) → IfOk result IsCountedWay }
@@ -203,7 +200,7 @@ pub fn prepare_order<'a, S: Store>(
     alloc: Global,
     store: &mut S,
     command: Command<'a>,
-) -> Result<Order<'a>, HostStatus>
+) -> Result<Order<'a>, Status>
     requires sized { IsSized (source_named command.source) }
     requires counted { IsCounted (mode_named command.mode) }
     ensures files { S.holds store.new ≡ S.holds store.old }

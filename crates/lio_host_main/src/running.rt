@@ -14,10 +14,10 @@ ghost use Rattle.lio_host_main.specs.Answers.{IsNone, RanAs, StopsTheRun};
 ghost use Rattle.lio_host_main.specs.Order.{IsCountedWay, order_of};
 
 use crate::order::{Order, Way};
-use crate::status::HostStatus;
 use lio_audit::{AuditFault, MOST_HISTORY_BYTES, check_journal};
 use lio_clauses::NoMemory;
 use lio_config::Config;
+use lio_front::Status;
 use lio_rounds::{Ran, run};
 use lio_start::{Job, start};
 use lio_workers::{Gate, run_by_workers};
@@ -80,7 +80,7 @@ pub(crate) fn run_order<R: Threads + Wait + Sync, G: Gate + Sync>(
     alloc: Global,
     order: &Order<'_>,
     gate: &G,
-) -> Result<Ran, HostStatus>
+) -> Result<Ran, Status>
     requires { IsCountedWay order.now.way }
     ensures run { IfOk result (λ ran. IsRunOf order.now.job (ran_of order.now.job.script ran)) }
     ensures ran_as { IfOk result
@@ -90,6 +90,10 @@ pub(crate) fn run_order<R: Threads + Wait + Sync, G: Gate + Sync>(
     match &order.way {
         Way::InRounds => Ok(run(alloc, &order.job)?),
         Way::ByWorkers(count) => Ok(run_by_workers(rt, alloc, &order.job, *count, gate)?),
-        Way::AsTold(history) => Ok(replay(alloc, &order.job, history.as_slice())?),
+        Way::AsTold(history) => match replay(alloc, &order.job, history.as_slice()) {
+            Ok(ran) => Ok(ran),
+            Err(AuditFault::NotARun(line)) => Err(Status::NotARun(line)),
+            Err(AuditFault::NoMemory) => Err(Status::NoMemory),
+        },
     }
 }

@@ -371,7 +371,7 @@ pub fn told_text(
 ) -> Result<String, AllocError> {
     let FileNames { policy, script } = file_names(words);
     match status {
-        HostStatus::Done => Ok(String::new(alloc)),
+        HostStatus::Done | HostStatus::NotAView(_) => Ok(String::new(alloc)),
         HostStatus::BadWords => words_text(alloc, words),
         HostStatus::Missing(name) => {
             let read = read_as(name, words);

@@ -1,6 +1,6 @@
 //! What is printed of words that give no command.
 
-use lio_host_words::{Command, Mode, Source, Watch, read_command};
+use lio_front::{Command, Mode, Source, Watch, read_command};
 use std::alloc::{AllocError, Global};
 use std::{fmt, str};
 

@@ -4,9 +4,10 @@
 
 ghost use Rattle.std.specs.Prelude.{◌≡◌, ◌≤◌};
 ghost use Rattle.std.specs.Process.{exit_status};
-ghost use Rattle.lio_host_words.specs.Sorted.{bytes_of_words};
+ghost use Rattle.lio_front.specs.Sorted.{bytes_of_words};
 ghost use Rattle.lio_observe_main.specs.Answers.{EndsWith};
-ghost use Rattle.lio_observe_main.specs.ExitStatus.{exit_status as status_number};
+ghost use Rattle.lio_outside.specs.Call.{outside};
+ghost use Rattle.lio_front.specs.Status.{exit_status as status_number};
 
 use lio_clauses::NoMemory;
 use lio_messages_refusals::observer::{print_refusal, refusal_detail};
@@ -63,18 +64,8 @@ fn respond<R: AllocGlobal + Files + Eprint, S: Store, W: Say>(
     ensures files { S.holds store.new ≡ S.holds store.old }
     ensures ends { EndsWith (record {
       words = bytes_of_words words.now;
-      before = record {
-        told = S.holds store.old;
-        faults = S.faults store.old;
-        said = W.said say.old;
-        say_faults = W.faults say.old;
-      };
-      after = record {
-        told = S.holds store.new;
-        faults = S.faults store.new;
-        said = W.said say.new;
-        say_faults = W.faults say.new;
-      };
+      before = outside S.holds S.faults W.said W.faults store.old say.old;
+      after = outside S.holds S.faults W.said W.faults store.new say.new;
     }) (exit_status result) }
 {
     let status = observe_main(rt.alloc(), words, store, say);

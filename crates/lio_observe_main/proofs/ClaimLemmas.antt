@@ -3,22 +3,18 @@ use Rattle.std.proofs.Common.{◌≡◌, ◌∙◌, refl, sym, ap, subst, ℕ, �
 use Rattle.std.specs.Option.{option_map}
 use Rattle.std.proofs.lemmas.List.{length-take, take_all}
 use Rattle.lio_outside.specs.FileMap.{FileMap, bytes_of}
-use Rattle.lio_outside.specs.Steps.{Steps, Over, Ask, ◌>>=◌, asked, or_refused, steps_told_as}
-use Rattle.lio_outside.specs.Asking.{IsNotThere, IsNotRead, IsSaid, Give, Refuse}
-use Rattle.lio_outside.proofs.StepsLemmas.{give-refused, give-then, give-told, refuse-behind, refuse-first, refuse-told}
+use Rattle.lio_outside.specs.Steps.{Steps, Over, ◌>>=◌, asked, or_refused}
+use Rattle.lio_outside.specs.Asking.{Give, Refuse}
+use Rattle.lio_outside.proofs.StepsLemmas.{give-parts, give-refused, give-then, refuse-behind, refuse-first}
 use Rattle.lio_audit.specs.History.{most_history_bytes}
 use Rattle.lio_labels.specs.declared.label.Label.{Label}
 use Rattle.lio_policy.specs.declared.policy.Policy.{Policy}
-use Rattle.lio_front.specs.declared.fault.FrontFault.{FrontFault}
-use Rattle.lio_front.specs.declared.fault.FrontFault.TheVariants as front_fault
+use Rattle.lio_front.specs.declared.status.Status.{Status}
+use Rattle.lio_front.specs.declared.status.Status.TheVariants.{BadWords, Missing}
 use Rattle.lio_front.specs.declared.loading.Front.{Front}
-use Rattle.lio_front.specs.Causes.{Says}
-use Rattle.lio_front.specs.Causes as front
+use Rattle.lio_front.specs.Status.{Says, cause_of}
 use Rattle.lio_front.specs.Loading.{loading}
-use Rattle.lio_observe_main.specs.declared.status.ObserveStatus.{ObserveStatus}
-use Rattle.lio_observe_main.specs.declared.status.ObserveStatus.TheVariants.{BadWords}
 use Rattle.lio_observe_main.specs.Claim.{Claim}
-use Rattle.lio_observe_main.specs.StatusOf.{cause_of, status_of}
 use Rattle.lio_observe_main.specs.Verdict.{claiming, holding, texts_seen}
 use Rattle.lio_observe_main.specs.Words.{Command}
 
@@ -26,13 +22,13 @@ abbrev Held : Type 0
 Held = List (List ℕ) × List ℕ
 
 -- the view, and the steps behind the texts
-abbrev view_of : List ℕ → Steps (List ℕ) FrontFault
-view_of view = asked (front_fault.Missing view) view most_history_bytes
+abbrev view_of : List ℕ → Steps (List ℕ) Status
+view_of view = asked (Missing view) view most_history_bytes
 
-abbrev with_view : List (List ℕ) → List ℕ → Steps Held FrontFault
+abbrev with_view : List (List ℕ) → List ℕ → Steps Held Status
 with_view texts bytes = Over (Ok (texts, bytes))
 
-abbrev behind_texts : List ℕ → List (List ℕ) → Steps Held FrontFault
+abbrev behind_texts : List ℕ → List (List ℕ) → Steps Held Status
 behind_texts view texts = view_of view >>= with_view texts
 
 -- the texts and the view are there
@@ -43,95 +39,68 @@ give-held told observer policy view texts bytes first second =
     (give-then told (view_of view) (with_view texts) bytes (Ok (texts, bytes)) second refl)
 
 -- a text isn't
-pub refuse-texts : (told : Option FileMap) (observer : Label) (policy : Policy) (view : List ℕ) (before after : ℕ) (fault : FrontFault) → before ≤ after → Says told (texts_seen observer policy.longest policy.inputs) before after fault
+pub refuse-texts : (told : Option FileMap) (observer : Label) (policy : Policy) (view : List ℕ) (before after : ℕ) (fault : Status) → before ≤ after → Says told (texts_seen observer policy.longest policy.inputs) before after fault
     → Says told (holding observer policy view) before after fault
 refuse-texts told observer policy view before after fault below says =
-    refuse-first (front.cause_of fault) told (texts_seen observer policy.longest policy.inputs) (behind_texts view) before after after fault below (omega arith) says
+    refuse-first (cause_of fault) told (texts_seen observer policy.longest policy.inputs) (behind_texts view) before after after fault below (omega arith) says
 
 -- the view isn't
-pub refuse-view : (told : Option FileMap) (observer : Label) (policy : Policy) (view : List ℕ) (texts : List (List ℕ)) (before middle after : ℕ) (fault : FrontFault) → before ≤ middle → middle ≤ after
+pub refuse-view : (told : Option FileMap) (observer : Label) (policy : Policy) (view : List ℕ) (texts : List (List ℕ)) (before middle after : ℕ) (fault : Status) → before ≤ middle → middle ≤ after
     → Give told (texts_seen observer policy.longest policy.inputs) (Ok texts) → Says told (view_of view) middle after fault → Says told (holding observer policy view) before after fault
 refuse-view told observer policy view texts before middle after fault first second gave says =
-    refuse-behind (front.cause_of fault) told (texts_seen observer policy.longest policy.inputs) (behind_texts view) texts before middle after fault first second gave
-    (refuse-first (front.cause_of fault) told (view_of view) (with_view texts) middle after after fault second (omega arith) says)
-
--- a step of the front is refused
-refuse-status : {A : Type 0} → (told : Option FileMap) (steps : Steps A FrontFault) (before after : ℕ) (fault : FrontFault) → Says told steps before after fault
-    → Refuse (cause_of (status_of fault)) told (steps_told_as status_of steps) before after (status_of fault)
-refuse-status told steps before after (front_fault.Missing name) says = refuse-told status_of (IsNotThere name) told steps before after (front_fault.Missing name) says
-refuse-status told steps before after (front_fault.ReadFault name) says = refuse-told status_of (IsNotRead name) told steps before after (front_fault.ReadFault name) says
-refuse-status told steps before after front_fault.BadLabel says = refuse-told status_of IsSaid told steps before after front_fault.BadLabel says
-refuse-status told steps before after (front_fault.BadPolicy rule entry) says = refuse-told status_of IsSaid told steps before after (front_fault.BadPolicy rule entry) says
-refuse-status told steps before after (front_fault.BadScript line rule) says = refuse-told status_of IsSaid told steps before after (front_fault.BadScript line rule) says
-refuse-status told steps before after (front_fault.BadStart place why) says = refuse-told status_of IsSaid told steps before after (front_fault.BadStart place why) says
-refuse-status told steps before after front_fault.NoMemory says = tt
+    refuse-behind (cause_of fault) told (texts_seen observer policy.longest policy.inputs) (behind_texts view) texts before middle after fault first second gave
+    (refuse-first (cause_of fault) told (view_of view) (with_view texts) middle after after fault second (omega arith) says)
 
 -- the steps of a command, and those behind its parts
-abbrev front_steps : Command → Steps Front ObserveStatus
-front_steps command = steps_told_as status_of (loading command.policy command.script (Some command.label))
+abbrev front_steps : Command → Steps Front Status
+front_steps command = loading command.policy command.script (Some command.label)
 
-abbrev held_steps : Command → Front → Label → Steps Held ObserveStatus
-held_steps command read observer = steps_told_as status_of (holding observer read.policy command.view)
+abbrev held_steps : Command → Front → Label → Steps Held Status
+held_steps command read observer = holding observer read.policy command.view
 
 abbrev claim_with : Front → Label → Held → Claim
 claim_with read observer held = record { job = record { policy = read.policy; script = read.script; inputs = held.0 }; observer = observer; view = held.1 }
 
-abbrev with_held : Front → Label → Held → Steps Claim ObserveStatus
+abbrev with_held : Front → Label → Held → Steps Claim Status
 with_held read observer held = Over (Ok (claim_with read observer held))
 
-abbrev behind_label : Command → Front → Label → Steps Claim ObserveStatus
+abbrev behind_label : Command → Front → Label → Steps Claim Status
 behind_label command read observer = held_steps command read observer >>= with_held read observer
 
-abbrev label_of : Front → Steps Label ObserveStatus
+abbrev label_of : Front → Steps Label Status
 label_of read = Over (or_refused BadWords read.observer)
 
-abbrev behind_front : Command → Front → Steps Claim ObserveStatus
+abbrev behind_front : Command → Front → Steps Claim Status
 behind_front command read = label_of read >>= behind_label command read
 
 -- the policy, the label or the script isn't read
-pub refuse-front : (told : Option FileMap) (command : Command) (before after : ℕ) (fault : FrontFault) → before ≤ after → Says told (loading command.policy command.script (Some command.label)) before after fault
-    → Refuse (cause_of (status_of fault)) told (claiming command) before after (status_of fault)
-refuse-front told command before after fault below says =
-    refuse-first (cause_of (status_of fault)) told (front_steps command) (behind_front command) before after after (status_of fault) below (omega arith)
-    (refuse-status told (loading command.policy command.script (Some command.label)) before after fault says)
+pub refuse-front : (told : Option FileMap) (command : Command) (before after : ℕ) (fault : Status) → before ≤ after → Says told (loading command.policy command.script (Some command.label)) before after fault
+    → Says told (claiming command) before after fault
+refuse-front told command before after fault below says = refuse-first (cause_of fault) told (front_steps command) (behind_front command) before after after fault below (omega arith) says
 
 -- there is no label
 pub give-unlabelled : (told : Option FileMap) (command : Command) (read : Front) → Give told (loading command.policy command.script (Some command.label)) (Ok read) → read.observer ≡ None → Give told (claiming command) (Err BadWords)
 give-unlabelled told command read gave none =
-    give-then told (front_steps command) (behind_front command) read (Err BadWords) (give-told status_of told (loading command.policy command.script (Some command.label)) (Ok read) gave)
+    give-then told (front_steps command) (behind_front command) read (Err BadWords) gave
     (give-refused told (label_of read) (behind_label command read) BadWords (ap (or_refused BadWords) none))
 
 -- a text or the view isn't there
-pub refuse-held : (told : Option FileMap) (command : Command) (read : Front) (observer : Label) (before middle after : ℕ) (fault : FrontFault) → before ≤ middle → middle ≤ after
+pub refuse-held : (told : Option FileMap) (command : Command) (read : Front) (observer : Label) (before middle after : ℕ) (fault : Status) → before ≤ middle → middle ≤ after
     → Give told (loading command.policy command.script (Some command.label)) (Ok read) → read.observer ≡ Some observer → Says told (holding observer read.policy command.view) middle after fault
-    → Refuse (cause_of (status_of fault)) told (claiming command) before after (status_of fault)
+    → Says told (claiming command) before after fault
 refuse-held told command read observer before middle after fault first second gave some says =
-    let cause = cause_of (status_of fault) in
-    refuse-behind cause told (front_steps command) (behind_front command) read before middle after (status_of fault) first second
-    (give-told status_of told (loading command.policy command.script (Some command.label)) (Ok read) gave)
-    (refuse-behind cause told (label_of read) (behind_label command read) observer middle middle after (status_of fault) (omega arith) second (ap (or_refused BadWords) some)
-    (refuse-first cause told (held_steps command read observer) (with_held read observer) middle after after (status_of fault) second (omega arith)
-    (refuse-status told (holding observer read.policy command.view) middle after fault says)))
+    let cause = cause_of fault in
+    refuse-behind cause told (front_steps command) (behind_front command) read before middle after fault first second gave
+    (refuse-behind cause told (label_of read) (behind_label command read) observer middle middle after fault (omega arith) second (ap (or_refused BadWords) some)
+    (refuse-first cause told (held_steps command read observer) (with_held read observer) middle after after fault second (omega arith) says))
 
 -- all is there
 pub give-claim : (told : Option FileMap) (command : Command) (read : Front) (observer : Label) (held : Held) → Give told (loading command.policy command.script (Some command.label)) (Ok read) → read.observer ≡ Some observer
     → Give told (holding observer read.policy command.view) (Ok held) → Give told (claiming command) (Ok (claim_with read observer held))
 give-claim told command read observer held gave some holds =
-    give-then told (front_steps command) (behind_front command) read (Ok (claim_with read observer held)) (give-told status_of told (loading command.policy command.script (Some command.label)) (Ok read) gave)
+    give-then told (front_steps command) (behind_front command) read (Ok (claim_with read observer held)) gave
     (give-then told (label_of read) (behind_label command read) observer (Ok (claim_with read observer held)) (ap (or_refused BadWords) some)
-    (give-then told (held_steps command read observer) (with_held read observer) held (Ok (claim_with read observer held)) (give-told status_of told (holding observer read.policy command.view) (Ok held) holds) refl))
-
--- what steps gave, part by part
-give-parts : {A B E : Type 0} → (told : Option FileMap) (first : Steps A E) (next : A → Steps B E) (b : B) → Give told (first >>= next) (Ok b) → (a : A) × Give told first (Ok a) × Give told (next a) (Ok b)
-give-parts told (Over (Ok a)) next b gave = (a, refl, gave)
-give-parts told (Over (Err fault)) next b gave = absurd (cc)
-give-parts told (Ask name limit go) next b (bytes, got, gave) = let parts = give-parts told (go bytes) next b gave in (parts.0, (bytes, got, parts.1), parts.2)
-
--- what steps gave whose faults are told in other words
-give-untold : {A E F : Type 0} → (words : E → F) (told : Option FileMap) (steps : Steps A E) (a : A) → Give told (steps_told_as words steps) (Ok a) → Give told steps (Ok a)
-give-untold words told (Over (Ok b)) a gave = let same : b ≡ a = cc in ap Ok same
-give-untold words told (Over (Err fault)) a gave = absurd (cc)
-give-untold words told (Ask name limit go) a (bytes, got, gave) = (bytes, got, give-untold words told (go bytes) a gave)
+    (give-then told (held_steps command read observer) (with_held read observer) held (Ok (claim_with read observer held)) holds refl))
 
 -- a file of which no more was given than the limit was given whole
 take-whole : (all : List ℕ) (limit : ℕ) (bytes : List ℕ) → take (limit + 1) all ≡ bytes → length bytes ≤ limit → all ≡ bytes
@@ -152,13 +121,13 @@ view-whole files view bytes (Some read, got, gave) few =
     whole-of (bytes_of files view) most_history_bytes bytes (got ∙ ap Some same) few
 
 -- what was given is one
-abbrev ok_held : Held → Result Held FrontFault
+abbrev ok_held : Held → Result Held Status
 ok_held held = Ok held
 
 the-held : (one two : Held) → ok_held one ≡ ok_held two → one ≡ two
 the-held one two same = cc
 
-abbrev ok_claim : Claim → Result Claim ObserveStatus
+abbrev ok_claim : Claim → Result Claim Status
 ok_claim claim = Ok claim
 
 pub the-claim : (one two : Claim) → ok_claim one ≡ ok_claim two → one ≡ two
@@ -176,8 +145,7 @@ claim-whole files command claim gave few =
     let read = give-parts told (front_steps command) (behind_front command) claim gave in
     let labelled = give-parts told (label_of read.0) (behind_label command read.0) claim read.2 in
     let held = give-parts told (held_steps command read.0 labelled.0) (with_held read.0 labelled.0) claim labelled.2 in
-    let there = give-untold status_of told (holding labelled.0 read.0.policy command.view) held.0 held.1 in
-    let texts = give-parts told (texts_seen labelled.0 read.0.policy.longest read.0.policy.inputs) (behind_texts command.view) held.0 there in
+    let texts = give-parts told (texts_seen labelled.0 read.0.policy.longest read.0.policy.inputs) (behind_texts command.view) held.0 held.1 in
     let viewed = give-parts told (view_of command.view) (with_view texts.0) held.0 texts.2 in
     let same : viewed.0 ≡ claim.view = the-view texts.0 viewed.0 held.0 read.0 labelled.0 claim viewed.2 held.2 in
     subst (λ (bytes : List ℕ). bytes_of files command.view ≡ Some bytes) same

@@ -9,9 +9,9 @@ use Rattle.lio_outside.proofs.StepsLemmas.{give-then, refuse-behind, refuse-firs
 use Rattle.lio_labels.specs.Flow.{flows}
 use Rattle.lio_labels.specs.declared.label.Label.{Label}
 use Rattle.lio_policy.specs.declared.policy.FileEntry.{FileEntry}
-use Rattle.lio_front.specs.declared.fault.FrontFault.{FrontFault}
-use Rattle.lio_front.specs.declared.fault.FrontFault.TheVariants.{Missing}
-use Rattle.lio_front.specs.Causes.{Says, cause_of}
+use Rattle.lio_front.specs.declared.status.Status.{Status}
+use Rattle.lio_front.specs.declared.status.Status.TheVariants.{Missing}
+use Rattle.lio_front.specs.Status.{Says, cause_of}
 use Rattle.lio_observe_main.specs.Verdict.{text_by, text_seen, texts_seen}
 
 -- an input that the observer doesn't see
@@ -23,7 +23,7 @@ pub give-seen : (told : Option FileMap) (observer : Label) (longest : ℕ) (inpu
     → Give told (text_seen observer longest input) (Ok text)
 give-seen told observer longest input text sees gave = subst (λ (b : Bool). Give told (text_by b longest input) (Ok text)) (sym sees) gave
 
-pub says-seen : (told : Option FileMap) (observer : Label) (longest : ℕ) (input : FileEntry) (before after : ℕ) (fault : FrontFault) → flows input.label observer ≡ true
+pub says-seen : (told : Option FileMap) (observer : Label) (longest : ℕ) (input : FileEntry) (before after : ℕ) (fault : Status) → flows input.label observer ≡ true
     → Says told (asked (Missing input.file) input.file longest) before after fault → Says told (text_seen observer longest input) before after fault
 says-seen told observer longest input before after fault sees says = subst (λ (b : Bool). Says told (text_by b longest input) before after fault) (sym sees) says
 
@@ -48,7 +48,7 @@ EachGave-length told observer longest (i ∷ inputs) [] each = absurd each
 EachGave-length told observer longest (i ∷ inputs) (t ∷ texts) each = ap suc (EachGave-length told observer longest inputs texts each.1)
 
 -- the steps behind an input's text
-abbrev next : Label → ℕ → List FileEntry → List ℕ → Steps (List (List ℕ)) FrontFault
+abbrev next : Label → ℕ → List FileEntry → List ℕ → Steps (List (List ℕ)) Status
 next observer longest inputs text = texts_seen observer longest inputs >>= λ others. Over (Ok (text ∷ others))
 
 -- all inputs are given
@@ -61,7 +61,7 @@ give-each told observer longest (i ∷ inputs) (t ∷ given) each =
     (give-then told (texts_seen observer longest inputs) (λ others. Over (Ok (t ∷ others))) given (Ok (t ∷ given)) (give-each told observer longest inputs given each.1) refl)
 
 -- one isn't fetched, behind some that are given
-refuse-each : (cause : Cause) (told : Option FileMap) (observer : Label) (longest : ℕ) (inputs : List FileEntry) (input : FileEntry) (after : List FileEntry) (given : List (List ℕ)) (begun middle ended : ℕ) (fault : FrontFault)
+refuse-each : (cause : Cause) (told : Option FileMap) (observer : Label) (longest : ℕ) (inputs : List FileEntry) (input : FileEntry) (after : List FileEntry) (given : List (List ℕ)) (begun middle ended : ℕ) (fault : Status)
     → EachGave told observer longest inputs given → begun ≤ middle → middle ≤ ended → Refuse cause told (text_seen observer longest input) middle ended fault
     → Refuse cause told (texts_seen observer longest (inputs ++ input ∷ after)) begun ended fault
 refuse-each cause told observer longest [] input after [] begun middle ended fault each below above says =
@@ -80,7 +80,7 @@ around entries i entry below is =
     sym (take-append-drop i entries)
     ∙ ap (λ (rest : List FileEntry). take i entries ++ rest) (drop-cons entries i entry below ∙ ap (λ (e : FileEntry). e ∷ drop (suc i) entries) (sym is) ∙ ap (λ (n : ℕ). entry ∷ drop n entries) (sym (add-one i)))
 
-pub says-input : (told : Option FileMap) (observer : Label) (longest : ℕ) (inputs : List FileEntry) (i : ℕ) (input : FileEntry) (given : List (List ℕ)) (begun middle ended : ℕ) (fault : FrontFault)
+pub says-input : (told : Option FileMap) (observer : Label) (longest : ℕ) (inputs : List FileEntry) (i : ℕ) (input : FileEntry) (given : List (List ℕ)) (begun middle ended : ℕ) (fault : Status)
     → i < length inputs → input ≡ get_or inputs i input → EachGave told observer longest (take i inputs) given → begun ≤ middle → middle ≤ ended → Says told (text_seen observer longest input) middle ended fault
     → Says told (texts_seen observer longest inputs) begun ended fault
 says-input told observer longest inputs i input given begun middle ended fault below at each first second says =

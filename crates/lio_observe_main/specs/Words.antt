@@ -1,6 +1,6 @@
 -- What the words of the observer's program name.
 use Rattle.std.specs.Prelude.{ℕ, ◌&&◌, List, [], ◌∷◌, Option, None, Some, if◌then◌else◌}
-use Rattle.lio_host_words.specs.Command.{is_name}
+use Rattle.lio_front.specs.Command.{is_name}
 use Rattle.lio_observe_main.specs.declared.words.Command as declared
 
 -- the files of the policy, of the script and of a view, and the text of the observer's label

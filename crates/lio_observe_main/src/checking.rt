@@ -5,12 +5,12 @@ ghost use Rattle.lio_observe_main.specs.Answers.{StopsTheCheck};
 ghost use Rattle.lio_observe_main.specs.Claim.{IsRight, claim_of};
 
 use crate::claim::Claim;
-use crate::status::ObserveStatus;
+use lio_front::Status;
 use lio_views::{ViewFault, check_view, low_start};
 use std::alloc::Global;
 
 /// Checks the view of a claim, and gives the number of its lines.
-pub(crate) fn check_claim(alloc: Global, claim: &Claim) -> Result<u32, ObserveStatus>
+pub(crate) fn check_claim(alloc: Global, claim: &Claim) -> Result<u32, Status>
     ensures ok { IfOk result (IsRight (claim_of claim.now)) }
     ensures err { IfErr result (StopsTheCheck (claim_of claim.now)) }
 {
@@ -28,7 +28,7 @@ pub(crate) fn check_claim(alloc: Global, claim: &Claim) -> Result<u32, ObserveSt
         &policy.names,
     ) {
         Ok(lines) => Ok(lines),
-        Err(ViewFault::NotAView(line)) => Err(ObserveStatus::NotAView(line)),
-        Err(ViewFault::NoMemory) => Err(ObserveStatus::NoMemory),
+        Err(ViewFault::NotAView(line)) => Err(Status::NotAView(line)),
+        Err(ViewFault::NoMemory) => Err(Status::NoMemory),
     }
 }

@@ -1,18 +1,16 @@
 //! What is checked: the policy, the script, the inputs that the observer sees, and its view.
 
 ghost use Rattle.std.specs.Prelude.{◌≡◌, ◌≤◌, Ok, IfOk, IfErr, length};
-ghost use Rattle.lio_outside.specs.Asking.{Give, Refuse};
-ghost use Rattle.lio_front.specs.Causes.{Says};
+ghost use Rattle.lio_outside.specs.Asking.{Give};
+ghost use Rattle.lio_front.specs.Status.{Says};
 ghost use Rattle.lio_observe_main.specs.Claim.{claim_of};
-ghost use Rattle.lio_observe_main.specs.StatusOf.{cause_of};
 ghost use Rattle.lio_observe_main.specs.Verdict.{claiming, holding};
 ghost use Rattle.lio_observe_main.specs.Words.{named};
 
 use crate::inputs::load_texts;
-use crate::status::ObserveStatus;
 use crate::words::Command;
 use lio_audit::MOST_HISTORY_BYTES;
-use lio_front::{Front, FrontFault, fetch, load};
+use lio_front::{Front, Status, fetch, load};
 use lio_labels::Label;
 use lio_outside::Store;
 use lio_policy::Policy;
@@ -39,7 +37,7 @@ fn load_held<S: Store>(
     observer: &Label,
     policy: &Policy,
     view: &[u8],
-) -> Result<(List<Text>, Vec<u8>), FrontFault>
+) -> Result<(List<Text>, Vec<u8>), Status>
     ensures files { S.holds store.new ≡ S.holds store.old }
     ensures count { S.faults store.old ≤ S.faults store.new }
     ensures ok { IfOk result (λ held. Give (S.holds store.old)
@@ -64,13 +62,13 @@ pub fn load_claim<S: Store>(
     alloc: Global,
     store: &mut S,
     command: Command<'_>,
-) -> Result<Claim, ObserveStatus>
+) -> Result<Claim, Status>
     ensures files { S.holds store.new ≡ S.holds store.old }
     ensures count { S.faults store.old ≤ S.faults store.new }
     ensures ok { IfOk result (λ claim. Give (S.holds store.old)
         (claiming (named command.entry)) (Ok (claim_of claim))) }
-    ensures err { IfErr result (λ status. Refuse (cause_of status) (S.holds store.old)
-        (claiming (named command.entry)) (S.faults store.old) (S.faults store.new) status) }
+    ensures err { IfErr result (Says (S.holds store.old)
+        (claiming (named command.entry)) (S.faults store.old) (S.faults store.new)) }
 {
     let label = Some(command.label);
     let Front {
@@ -81,7 +79,7 @@ pub fn load_claim<S: Store>(
     let Some(observer) = observer else {
         drop(policy);
         drop(script);
-        return Err(ObserveStatus::BadWords);
+        return Err(Status::BadWords);
     };
     match load_held(alloc, store, &observer, &policy, command.view) {
         Ok((texts, view)) => Ok(Claim {
@@ -93,7 +91,7 @@ pub fn load_claim<S: Store>(
             drop(policy);
             drop(script);
             drop(observer);
-            Err(ObserveStatus::from(fault))
+            Err(fault)
         }
     }
 }

@@ -2,10 +2,10 @@
 
 ghost use Rattle.std.specs.Prelude.{◌≡◌, ◌≤◌, Ok, IfOk, IfErr, length};
 ghost use Rattle.lio_outside.specs.Asking.{Give};
-ghost use Rattle.lio_front.specs.Causes.{Says};
+ghost use Rattle.lio_front.specs.Status.{Says};
 ghost use Rattle.lio_observe_main.specs.Verdict.{text_seen, texts_seen};
 
-use lio_front::{FrontFault, fetch};
+use lio_front::{Status, fetch};
 use lio_labels::Label;
 use lio_outside::Store;
 use lio_policy::{FileEntry, Policy};
@@ -20,7 +20,7 @@ fn load_text<S: Store>(
     observer: &Label,
     longest: u32,
     input: &FileEntry,
-) -> Result<Text, FrontFault>
+) -> Result<Text, Status>
     ensures files { S.holds store.new ≡ S.holds store.old }
     ensures count { S.faults store.old ≤ S.faults store.new }
     ensures ok { IfOk result (λ text. Give (S.holds store.old)
@@ -42,7 +42,7 @@ pub(crate) fn load_texts<S: Store>(
     store: &mut S,
     observer: &Label,
     policy: &Policy,
-) -> Result<List<Text>, FrontFault>
+) -> Result<List<Text>, Status>
     ensures files { S.holds store.new ≡ S.holds store.old }
     ensures count { S.faults store.old ≤ S.faults store.new }
     ensures ok { IfOk result (λ texts. Give (S.holds store.old)

@@ -4,16 +4,13 @@
 
 mod checking;
 mod claim;
-mod display;
 mod expected;
 mod inputs;
 mod observe;
-mod status;
 mod words;
 
 pub use claim::{Claim, load_claim};
-pub use display::Shown;
 pub use expected::expected_line;
+pub use lio_front::{Shown, Status as ObserveStatus};
 pub use observe::observe_main;
-pub use status::ObserveStatus;
 pub use words::{Command, read_words};

@@ -1,15 +1,16 @@
 //! The observer's call: words, policy, label, script, inputs, view, check.
 
 ghost use Rattle.std.specs.Prelude.{◌≡◌, ◌≤◌, None, IfOk, IfErr, IfSome, OnOk};
+ghost use Rattle.lio_outside.specs.Call.{outside};
 ghost use Rattle.lio_outside.specs.Said.{said_with};
-ghost use Rattle.lio_host_words.specs.Sorted.{bytes_of_words};
+ghost use Rattle.lio_front.specs.Sorted.{bytes_of_words};
 ghost use Rattle.lio_observe_main.specs.Answers.{Accepts, Completes, Follows, IsRefused, IsUnsaid};
 ghost use Rattle.lio_observe_main.specs.Answers.{Says, view_text};
 ghost use Rattle.lio_observe_main.specs.Words.{command_of};
 
+use crate::ObserveStatus;
 use crate::checking::check_claim;
 use crate::claim::load_claim;
-use crate::status::ObserveStatus;
 use crate::words::read_words;
 use lio_clauses::NoMemory;
 use lio_outside::{Say, Store};
@@ -72,18 +73,8 @@ fn answer<S: Store, W: Say>(
     ensures say_count { W.faults say.old ≤ W.faults say.new }
     ensures says { Says (record {
       words = bytes_of_words words.now;
-      before = record {
-        told = S.holds store.old;
-        faults = S.faults store.old;
-        said = W.said say.old;
-        say_faults = W.faults say.old;
-      };
-      after = record {
-        told = S.holds store.new;
-        faults = S.faults store.new;
-        said = W.said say.new;
-        say_faults = W.faults say.new;
-      };
+      before = outside S.holds S.faults W.said W.faults store.old say.old;
+      after = outside S.holds S.faults W.said W.faults store.new say.new;
     }) result }
 {
     let lines = match check_words(alloc, words, store) {
@@ -110,48 +101,18 @@ pub fn observe_main<S: Store, W: Say>(
     ensures say_count { W.faults say.old ≤ W.faults say.new }
     ensures says { Says (record {
       words = bytes_of_words words.now;
-      before = record {
-        told = S.holds store.old;
-        faults = S.faults store.old;
-        said = W.said say.old;
-        say_faults = W.faults say.old;
-      };
-      after = record {
-        told = S.holds store.new;
-        faults = S.faults store.new;
-        said = W.said say.new;
-        say_faults = W.faults say.new;
-      };
+      before = outside S.holds S.faults W.said W.faults store.old say.old;
+      after = outside S.holds S.faults W.said W.faults store.new say.new;
     }) result }
     ensures follows { IfSome (S.holds store.old) (Follows (record {
       words = bytes_of_words words.now;
-      before = record {
-        told = S.holds store.old;
-        faults = S.faults store.old;
-        said = W.said say.old;
-        say_faults = W.faults say.old;
-      };
-      after = record {
-        told = S.holds store.new;
-        faults = S.faults store.new;
-        said = W.said say.new;
-        say_faults = W.faults say.new;
-      };
+      before = outside S.holds S.faults W.said W.faults store.old say.old;
+      after = outside S.holds S.faults W.said W.faults store.new say.new;
     }) result) }
     ensures completes { IfSome (S.holds store.old) (Completes (record {
       words = bytes_of_words words.now;
-      before = record {
-        told = S.holds store.old;
-        faults = S.faults store.old;
-        said = W.said say.old;
-        say_faults = W.faults say.old;
-      };
-      after = record {
-        told = S.holds store.new;
-        faults = S.faults store.new;
-        said = W.said say.new;
-        say_faults = W.faults say.new;
-      };
+      before = outside S.holds S.faults W.said W.faults store.old say.old;
+      after = outside S.holds S.faults W.said W.faults store.new say.new;
     }) result) }
     ensures bad_words { command_of (bytes_of_words words.now) ≡ None
         → result ≡ ObserveStatus.BadWords }

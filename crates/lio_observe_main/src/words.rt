@@ -1,9 +1,10 @@
 //! What the words name.
 
 ghost use Rattle.std.specs.Prelude.{◌≡◌, ◌∷◌, [], None, Some, MatchOption};
-ghost use Rattle.lio_host_words.specs.Command.{is_name};
-ghost use Rattle.lio_host_words.specs.Sorted.{bytes_of_words};
+ghost use Rattle.lio_front.specs.Sorted.{bytes_of_words};
 ghost use Rattle.lio_observe_main.specs.Words.{command_of, named};
+
+use lio_front::is_name;
 
 /// The files of the policy, of the script and of a view, and the text of the observer's label.
 #[derive(Clone, Copy)]
@@ -12,16 +13,6 @@ pub struct Command<'a> {
     pub script: &'a [u8],
     pub view: &'a [u8],
     pub label: &'a [u8],
-}
-
-/// Whether a word may be a name or a label: it isn't empty and doesn't begin with `-`.
-fn may_stand(word: &[u8]) -> bool
-    ensures { result ≡ is_name word.now }
-{
-    match word {
-        [] => false,
-        [first, ..] => *first != b'-',
-    }
 }
 
 /// The command that four words give, if they may stand.
@@ -36,7 +27,7 @@ fn command_by<'a>(
         (λ c. command_of (policy.now ∷ script.now ∷ view.now ∷ label.now ∷ [])
         ≡ Some (named c)) }
 {
-    if may_stand(policy) && may_stand(script) && may_stand(view) && may_stand(label) {
+    if is_name(policy) && is_name(script) && is_name(view) && is_name(label) {
         Some(Command {
             policy,
             script,

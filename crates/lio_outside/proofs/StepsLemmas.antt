@@ -3,7 +3,7 @@ use Rattle.std.proofs.Common.{◌≡◌, refl, sym, subst, ℕ, ◌≤◌, arith
 use Rattle.lio_outside.specs.FileMap.{FileMap}
 use Rattle.lio_outside.specs.Fetch.{given, IsGiven, IsMissing}
 use Rattle.lio_outside.specs.Count.{Rose}
-use Rattle.lio_outside.specs.Steps.{Steps, Over, Ask, ◌>>=◌, asked, outcome, steps_told_as, told_as}
+use Rattle.lio_outside.specs.Steps.{Steps, Over, Ask, ◌>>=◌, asked, outcome}
 use Rattle.lio_outside.specs.Asking.{AskFor, Cause, IsNotThere, IsNotRead, IsWanting, IsSaid, IsNever, Gave, Give, Refuse}
 use Rattle.lio_outside.proofs.CountLemmas.{Rose-in_part, IsMissing-in_part}
 
@@ -51,23 +51,20 @@ refuse-behind IsWanting told first next a before middle after fault below above 
 refuse-behind IsSaid told first next a before middle after fault below above gave says = give-then told first next a (Err fault) gave says
 refuse-behind IsNever told first next a before middle after fault below above gave says = absurd says
 
--- steps whose faults are told in other words
-pub give-told : {A E F : Type 0} → (words : E → F) (told : Option FileMap) (steps : Steps A E) (is : Result A E) → Give told steps is → Give told (steps_told_as words steps) (told_as words is)
-give-told words told (Over got) is gave = ap (told_as words) gave
-give-told words told (Ask name limit go) is (bytes, got, gave) = (bytes, got, give-told words told (go bytes) is gave)
+-- what was refused in a part of the work was refused in the whole
+pub refuse-in_part : {A E : Type 0} → (cause : Cause) (told : Option FileMap) (steps : Steps A E) (before start end after : ℕ) (fault : E) → before ≤ start → start ≤ end → end ≤ after → Refuse cause told steps start end fault
+    → Refuse cause told steps before after fault
+refuse-in_part (IsNotThere name) told steps before start end after fault first second third says = (says.0, IsMissing-in_part told name before start end after first second third says.1)
+refuse-in_part (IsNotRead name) told steps before start end after fault first second third says = (says.0, Rose-in_part before start end after first second third says.1)
+refuse-in_part IsWanting told steps before start end after fault first second third says = tt
+refuse-in_part IsSaid told steps before start end after fault first second third says = says
+refuse-in_part IsNever told steps before start end after fault first second third says = absurd says
 
-ask-told : {A E F : Type 0} → (words : E → F) (told : Option FileMap) (steps : Steps A E) (file : List ℕ) → AskFor told steps file → AskFor told (steps_told_as words steps) file
-ask-told words told (Over got) file ask = absurd ask
-ask-told words told (Ask name limit go) file (inl same) = inl same
-ask-told words told (Ask name limit go) file (inr (bytes, got, ask)) = inr (bytes, got, ask-told words told (go bytes) file ask)
-
-pub refuse-told : {A E F : Type 0} → (words : E → F) (cause : Cause) (told : Option FileMap) (steps : Steps A E) (before after : ℕ) (fault : E) → Refuse cause told steps before after fault
-    → Refuse cause told (steps_told_as words steps) before after (words fault)
-refuse-told words (IsNotThere name) told steps before after fault says = (give-told words told steps (Err fault) says.0, says.1)
-refuse-told words (IsNotRead name) told steps before after fault says = (ask-told words told steps name says.0, says.1)
-refuse-told words IsWanting told steps before after fault says = tt
-refuse-told words IsSaid told steps before after fault says = give-told words told steps (Err fault) says
-refuse-told words IsNever told steps before after fault says = absurd says
+-- what steps gave, part by part
+pub give-parts : {A B E : Type 0} → (told : Option FileMap) (first : Steps A E) (next : A → Steps B E) (b : B) → Give told (first >>= next) (Ok b) → (a : A) × Give told first (Ok a) × Give told (next a) (Ok b)
+give-parts told (Over (Ok a)) next b gave = (a, refl, gave)
+give-parts told (Over (Err fault)) next b gave = absurd (cc)
+give-parts told (Ask name limit go) next b (bytes, got, gave) = let parts = give-parts told (go bytes) next b gave in (parts.0, (bytes, got, parts.1), parts.2)
 
 gave-given : (told : Option FileMap) (name : List ℕ) (limit : ℕ) (bytes : List ℕ) → IsGiven told name limit bytes → Gave told name limit (Some bytes)
 gave-given None name limit bytes given = tt

@@ -7,6 +7,7 @@ pub mod Asking
 pub mod Outputs
 pub mod Taken
 pub mod Said
+pub mod Call
 pub mod CallsByList
 pub mod MemState
 pub mod Entries

@@ -18,11 +18,6 @@ abbrev pub told_as : {A E F : Type 0} → (E → F) → Result A E → Result A 
 told_as words (Ok a) = Ok a
 told_as words (Err fault) = Err (words fault)
 
--- steps whose faults are told in other words
-abbrev pub steps_told_as : {A E F : Type 0} → (E → F) → Steps A E → Steps A F
-steps_told_as words (Over is) = Over (told_as words is)
-steps_told_as words (Ask name limit go) = Ask name limit (λ bytes. steps_told_as words (go bytes))
-
 -- what is refused where nothing is there
 abbrev pub or_refused : {A E : Type 0} → E → Option A → Result A E
 or_refused fault None = Err fault

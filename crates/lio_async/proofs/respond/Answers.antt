@@ -1,9 +1,8 @@
 use Rattle.std.proofs.Common.{List}
 use Rattle.lio_values.specs.declared.entry.Entry.{Entry}
-use Rattle.lio_host_words.specs.Sorted.{bytes_of_words}
+use Rattle.lio_front.specs.Sorted.{bytes_of_words}
 use Rattle.lio_host_main.specs.Answers.{Call}
 use Rattle.lio_host_main.proofs.Says.{says-at_last}
-use Rattle.lio_async_main.specs.Status.{host_of}
 use Rattle.lio_async_main.specs.Words.{host_words}
 use Rattle.lio_async.proofs.respond.Goals as goal
 
@@ -26,9 +25,9 @@ returns g c =
       };
       journal = journal;
     } in record {
-      status = host_of c.coop_main-status.result.status;
+      status = c.coop_main-status.result.status;
       journal = journal;
-      says = says-at_last call (host_of c.coop_main-status.result.status) (g.S.Store.holds c.print_refusal.new.store) (g.S.Store.faults c.print_refusal.new.store) c.print_refusal.ensures.files c.coop_main-status.ensures.count
+      says = says-at_last call c.coop_main-status.result.status (g.S.Store.holds c.print_refusal.new.store) (g.S.Store.faults c.print_refusal.new.store) c.print_refusal.ensures.files c.coop_main-status.ensures.count
           c.print_refusal.ensures.count c.coop_main-status.ensures.says;
       exit_is = c.exit_code-exit.ensures;
     }

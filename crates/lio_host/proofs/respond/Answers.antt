@@ -1,6 +1,6 @@
 use Rattle.std.proofs.Common.{List}
 use Rattle.lio_values.specs.declared.entry.Entry.{Entry}
-use Rattle.lio_host_words.specs.Sorted.{bytes_of_words}
+use Rattle.lio_front.specs.Sorted.{bytes_of_words}
 use Rattle.lio_host_main.specs.Answers.{Call}
 use Rattle.lio_host_main.proofs.Says.{says-at_last}
 use Rattle.lio_host.proofs.respond.Goals as goal

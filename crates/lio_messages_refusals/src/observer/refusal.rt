@@ -56,7 +56,13 @@ fn told_text(
         view,
     } = file_names(words);
     match (status, detail) {
-        (ObserveStatus::Done, _) => Ok(String::new(alloc)),
+        (
+            ObserveStatus::Done
+            | ObserveStatus::WriteFault(_)
+            | ObserveStatus::NotARun(_)
+            | ObserveStatus::Clash(_),
+            _,
+        ) => Ok(String::new(alloc)),
         (ObserveStatus::BadWords, _) => {
             let text = words_text(alloc, words)?;
             format!(in alloc; "{text}\n{USAGE}")

@@ -1,6 +1,7 @@
 use Rattle.std.proofs.Common.{refl}
-use Rattle.lio_host_words.specs.Sorted.{bytes_of_words}
-use Rattle.lio_observe_main.specs.Answers.{Call, Says}
+use Rattle.lio_front.specs.Sorted.{bytes_of_words}
+use Rattle.lio_outside.specs.Call.{Call}
+use Rattle.lio_observe_main.specs.Answers.{Says}
 use Rattle.lio_observe_main.proofs.Says.{bad_words, completes_verdict, follows_verdict, later, says-later}
 use Rattle.lio_observe.proofs.respond.Goals as goal
 

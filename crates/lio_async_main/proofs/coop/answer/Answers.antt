@@ -1,36 +1,28 @@
 use Rattle.std.proofs.Common.{◌≡◌, ◌∙◌, ap, refl, sym, subst, Some, inl}
 use Rattle.lio_calculus.specs.Run.{Ran}
 use Rattle.lio_rounds.specs.Runs.{ran_of}
-use Rattle.lio_host_words.specs.Command.{Rounds}
-use Rattle.lio_host_words.specs.Sorted.{bytes_of_words, named}
+use Rattle.lio_front.specs.Command.{Rounds}
+use Rattle.lio_front.specs.Sorted.{bytes_of_words, named}
 use Rattle.lio_host_main.specs.Order.{Order, order_of}
-use Rattle.lio_host_main.specs.Answers.{Call, Outside, journal_with}
-use Rattle.lio_host_main.specs.declared.status.HostStatus.TheVariants as host
+use Rattle.lio_outside.specs.Call.{Outside}
+use Rattle.lio_front.specs.declared.status.Status.TheVariants.{BadWords, Done, NoMemory}
+use Rattle.lio_host_main.specs.Answers.{Call}
 use Rattle.lio_host_main.proofs.Finishes.{finishes-from}
 use Rattle.lio_host_main.proofs.Says.{runs-order, says-done, says-refused, says-same, says-stopped, says-unfinished}
-use Rattle.lio_async_main.specs.Status.{host_of}
 use Rattle.lio_async_main.specs.Words.{host_words}
-use Rattle.lio_async_main.proofs.CoopLemmas.{finished-of_rounds, none-commanded, ran-as, refused-of_rounds, run-of}
+use Rattle.lio_async_main.proofs.CoopLemmas.{none-commanded, ran-as, run-of}
 use Rattle.lio_async_main.proofs.coop.answer.Goals as goal
 
 pub returns-in_default-clause-says : goal.returns-in_default-clause-says
 returns-in_default-clause-says g c =
     let outside : Outside = record { told = g.S.Store.holds c.args.store.now; faults = g.S.Store.faults c.args.store.now; said = g.W.Say.said c.args.say.now; say_faults = g.W.Say.faults c.args.say.now } in
     let call : Call = record { words = host_words (bytes_of_words c.args.words.now); before = outside; after = outside; journal = c.refused.result.journal } in
-    says-same call host.BadWords (host_of c.refused.result.status) (ap host_of c.refused.ensures.status)
+    says-same call BadWords c.refused.result.status c.refused.ensures.status
     (inl (none-commanded call.words c.in_default.ensures.command, record { files = refl; said = refl; journal = c.refused.ensures.journal }))
 
 pub finish_seen-finished-requires-clause-printable : goal.finish_seen-finished-requires-clause-printable
 finish_seen-finished-requires-clause-printable g c =
     (run-of c.in-Ok.order.job (ran_of c.in-Ok.order.job.script c.in-Ok-run_seen.both.0) c.in-Ok-run_seen.ensures.job c.in-Ok-run_seen.ensures.rounds).keeps.printable
-
-pub coop_status-requires : goal.coop_status-requires
-coop_status-requires g c =
-    refused-of_rounds (named c.in-Some.command) (g.S.Store.holds c.args.store.now) (g.S.Store.faults c.args.store.now) (g.S.Store.faults c.prepare_order.new.store) c.in-Err.status c.in-Err.ensures.err
-
-pub coop_status-requires-in-Err-finished : goal.coop_status-requires-in-Err-finished
-coop_status-requires-in-Err-finished g c =
-    finished-of_rounds (order_of c.in-Ok.order) (ran_of c.in-Ok.order.job.script c.in-Ok-run_seen.both.0) _ _ c.in-Err-finished.status c.in-Err-finished.ensures.err
 
 pub returns-in-Ok-finished-clause-says : goal.returns-in-Ok-finished-clause-says
 returns-in-Ok-finished-clause-says g c =
@@ -43,7 +35,7 @@ returns-in-Ok-finished-clause-says g c =
     says-done call order ran.last
     (runs-order call order ran _ c.in-Some.ensures.command c.in-Ok.ensures.command c.in-Ok.ensures.ok (run-of order.job ran c.in-Ok-run_seen.ensures.job c.in-Ok-run_seen.ensures.rounds)
     (ran-as before.told order ran c.in-Ok.ensures.ok rounds c.in-Ok-run_seen.ensures.rounds) c.journal_fits.ensures)
-    (finishes-from order ran before after (g.S.Store.holds c.prepare_order.new.store) (g.S.Store.faults c.prepare_order.new.store) host.Done c.in-Ok.ensures.files c.in-Ok.ensures.count c.in-Ok-finished.ensures.count c.in-Ok-finished.ensures.ok)
+    (finishes-from order ran before after (g.S.Store.holds c.prepare_order.new.store) (g.S.Store.faults c.prepare_order.new.store) Done c.in-Ok.ensures.files c.in-Ok.ensures.count c.in-Ok-finished.ensures.count c.in-Ok-finished.ensures.ok)
 
 pub returns-in-Err-finished-clause-says : goal.returns-in-Err-finished-clause-says
 returns-in-Err-finished-clause-says g c =
@@ -54,12 +46,11 @@ returns-in-Err-finished-clause-says g c =
     let ran : Ran = ran_of c.in-Ok.order.job.script c.in-Ok-run_seen.both.0 in
     let status = c.in-Err-finished.status in
     let rounds = ap (λ command. command.mode) c.in-Ok.ensures.command ∙ c.in-Some.ensures.rounds in
-    let same : host_of c.unfinished.result.status ≡ status = ap host_of c.unfinished.ensures.status ∙ c.coop_status-in-Err-finished.ensures in
-    says-same call status (host_of c.unfinished.result.status) same
+    says-same call status c.unfinished.result.status c.unfinished.ensures.status
     (says-unfinished call order ran status
     (runs-order call order ran _ c.in-Some.ensures.command c.in-Ok.ensures.command c.in-Ok.ensures.ok (run-of order.job ran c.in-Ok-run_seen.ensures.job c.in-Ok-run_seen.ensures.rounds)
     (ran-as before.told order ran c.in-Ok.ensures.ok rounds c.in-Ok-run_seen.ensures.rounds) c.journal_fits.ensures)
-    (c.unfinished.ensures.journal ∙ ap (λ s. journal_with s ran.entries) c.coop_status-in-Err-finished.ensures)
+    c.unfinished.ensures.journal
     (finishes-from order ran before after (g.S.Store.holds c.prepare_order.new.store) (g.S.Store.faults c.prepare_order.new.store) status c.in-Ok.ensures.files c.in-Ok.ensures.count c.in-Err-finished.ensures.count c.in-Err-finished.ensures.err))
 
 pub returns-in-Err-clause-says : goal.returns-in-Err-clause-says
@@ -67,8 +58,7 @@ returns-in-Err-clause-says g c =
     let before : Outside = record { told = g.S.Store.holds c.args.store.now; faults = g.S.Store.faults c.args.store.now; said = g.W.Say.said c.args.say.now; say_faults = g.W.Say.faults c.args.say.now } in
     let after : Outside = record { told = g.S.Store.holds c.prepare_order.new.store; faults = g.S.Store.faults c.prepare_order.new.store; said = g.W.Say.said c.args.say.now; say_faults = g.W.Say.faults c.args.say.now } in
     let call : Call = record { words = host_words (bytes_of_words c.args.words.now); before = before; after = after; journal = c.refused-in-Err.result.journal } in
-    let same : host_of c.refused-in-Err.result.status ≡ c.in-Err.status = ap host_of c.refused-in-Err.ensures.status ∙ c.coop_status.ensures in
-    says-same call c.in-Err.status (host_of c.refused-in-Err.result.status) same
+    says-same call c.in-Err.status c.refused-in-Err.result.status c.refused-in-Err.ensures.status
     (says-refused call c.in-Err.status (record {
       command = named c.in-Some.command;
       words = c.in-Some.ensures.command;
@@ -82,7 +72,7 @@ returns-in-Err-run_seen-clause-says g c =
     let after : Outside = record { told = g.S.Store.holds c.prepare_order.new.store; faults = g.S.Store.faults c.prepare_order.new.store; said = g.W.Say.said c.args.say.now; say_faults = g.W.Say.faults c.args.say.now } in
     let call : Call = record { words = host_words (bytes_of_words c.args.words.now); before = before; after = after; journal = c.refused-in-Err-run_seen.result.journal } in
     let order : Order = order_of c.in-Ok.order in
-    says-same call host.NoMemory (host_of c.refused-in-Err-run_seen.result.status) (ap host_of c.refused-in-Err-run_seen.ensures.status)
-    (says-stopped call (named c.in-Some.command) order host.NoMemory c.in-Some.ensures.command
+    says-same call NoMemory c.refused-in-Err-run_seen.result.status c.refused-in-Err-run_seen.ensures.status
+    (says-stopped call (named c.in-Some.command) order NoMemory c.in-Some.ensures.command
     (record { command = c.in-Some.ensures.command ∙ ap Some (sym c.in-Ok.ensures.command); given = c.in-Ok.ensures.ok })
     (record { files = c.in-Ok.ensures.files; said = refl; journal = c.refused-in-Err-run_seen.ensures.journal }) tt)

@@ -5,8 +5,8 @@ use Rattle.lio_outside.specs.Steps.{asked}
 use Rattle.lio_outside.specs.Asking.{Give}
 use Rattle.lio_policy.specs.declared.policy.FileEntry.{FileEntry}
 use Rattle.lio_policy.specs.declared.policy.Policy.{Policy}
-use Rattle.lio_front.specs.declared.fault.FrontFault.TheVariants.{Missing}
-use Rattle.lio_front.specs.Causes.{Says}
+use Rattle.lio_front.specs.declared.status.Status.TheVariants.{Missing}
+use Rattle.lio_front.specs.Status.{Says}
 use Rattle.lio_front.proofs.InputLemmas.{EachGave, EachGave-length, give-each, inputs-end, inputs-next, says-input}
 use Rattle.lio_front.proofs.inputs.load_inputs.Goals as goal
 

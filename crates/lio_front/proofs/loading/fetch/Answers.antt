@@ -1,5 +1,5 @@
 use Rattle.lio_outside.proofs.StepsLemmas.{give-asked}
-use Rattle.lio_front.specs.declared.fault.FrontFault.TheVariants.{Missing}
+use Rattle.lio_front.specs.declared.status.Status.TheVariants.{Missing}
 use Rattle.lio_front.proofs.loading.fetch.Goals as goal
 
 pub returns-in-Ok-clause-ok : goal.returns-in-Ok-clause-ok

@@ -2,7 +2,7 @@ use Rattle.std.proofs.Common.{subst, List, ℕ, Option, Ok}
 use Rattle.std.specs.Option.{option_map}
 use Rattle.lio_outside.specs.FileMap.{FileMap}
 use Rattle.lio_outside.specs.Asking.{Give}
-use Rattle.lio_front.specs.Causes.{Says}
+use Rattle.lio_front.specs.Status.{Says}
 use Rattle.lio_front.specs.Loading.{steps_under}
 use Rattle.lio_front.proofs.LoadLemmas.{give-load, refuse-under}
 use Rattle.lio_front.proofs.loading.load.Goals as goal

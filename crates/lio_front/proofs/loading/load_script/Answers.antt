@@ -3,9 +3,9 @@ use Rattle.std.proofs.lemmas.Result.{err_from_is_err_and}
 use Rattle.lio_policy.specs.declared.policy.Policy.{Policy}
 use Rattle.lio_syntax.specs.Refusal.{Refuses}
 use Rattle.lio_syntax.specs.Verdict.{IsOver, IsScript, script_fault}
-use Rattle.lio_front.specs.declared.fault.FrontFault.{FrontFault}
-use Rattle.lio_front.specs.Causes.{Says}
-use Rattle.lio_front.specs.Loading.{of_script, script_steps}
+use Rattle.lio_front.specs.declared.status.Status.{Status}
+use Rattle.lio_front.specs.Status.{Says, of_script}
+use Rattle.lio_front.specs.Loading.{script_steps}
 use Rattle.lio_front.proofs.LoadLemmas.{give-script, refuse-script, refuse-start, says-bad_script, script_from-read}
 use Rattle.lio_front.proofs.loading.load_script.Goals as goal
 
@@ -35,6 +35,6 @@ returns-clause-err g c =
     let is : IsScript c.args.policy.now.names c.in_ok-text.text.items c.in_ok-script.script =
     subst (λ (text : List ℕ). IsScript c.args.policy.now.names text c.in_ok-script.script) c.as_slice.ensures.value
     (subst (λ (p : Policy). IsScript p.names c.as_slice.result.now c.in_ok-script.script) c.policy.view_is c.in_ok-script.ensures.script) in
-    subst (λ (fault : FrontFault). Says (g.S.Store.holds c.args.store.now) (script_steps c.args.policy.now c.args.script.now) (g.S.Store.faults c.args.store.now) (g.S.Store.faults c.fetch.new.store) fault) (sym c.from.ensures)
+    subst (λ (fault : Status). Says (g.S.Store.holds c.args.store.now) (script_steps c.args.policy.now c.args.script.now) (g.S.Store.faults c.args.store.now) (g.S.Store.faults c.fetch.new.store) fault) (sym c.from.ensures)
     (refuse-start (g.S.Store.holds c.args.store.now) c.args.policy.now c.args.script.now c.in_ok-text.text.items c.in_ok-script.script (g.S.Store.faults c.args.store.now) (g.S.Store.faults c.fetch.new.store) c.in-Some.fault
     c.in_ok-text.ensures.count c.in_ok-text.ensures.ok (script_from-read c.args.policy.now.names c.in_ok-text.text.items c.in_ok-script.script is) (sym c.in-Some.ensures))

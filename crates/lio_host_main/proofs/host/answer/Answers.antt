@@ -1,10 +1,11 @@
 use Rattle.std.proofs.Common.{◌∙◌, ap, refl, sym, Some}
 use Rattle.lio_calculus.specs.Run.{Ran}
 use Rattle.lio_rounds.specs.Runs.{ran_of}
-use Rattle.lio_host_words.specs.Sorted.{bytes_of_words, named}
+use Rattle.lio_front.specs.Sorted.{bytes_of_words, named}
 use Rattle.lio_host_main.specs.Order.{Order, order_of}
-use Rattle.lio_host_main.specs.Answers.{Call, Outside}
-use Rattle.lio_host_main.specs.declared.status.HostStatus.TheVariants.{Done}
+use Rattle.lio_outside.specs.Call.{Outside}
+use Rattle.lio_host_main.specs.Answers.{Call}
+use Rattle.lio_front.specs.declared.status.Status.TheVariants.{Done}
 use Rattle.lio_host_main.proofs.Finishes.{finishes-from}
 use Rattle.lio_host_main.proofs.Says.{runs-order, says-done, says-refused, says-same, says-stopped, says-unfinished}
 use Rattle.lio_host_main.proofs.host.answer.Goals as goal

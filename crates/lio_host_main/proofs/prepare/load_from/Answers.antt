@@ -6,10 +6,9 @@ use Rattle.lio_front.specs.declared.loading.Front.{Front}
 use Rattle.lio_front.specs.Causes.{Says}
 use Rattle.lio_front.specs.Loading.{loading}
 use Rattle.lio_start.specs.declared.job.Job.{Job}
-use Rattle.lio_host_words.specs.Sorted.{named}
+use Rattle.lio_front.specs.Sorted.{named}
 use Rattle.lio_host_main.specs.Order.{label_text}
-use Rattle.lio_host_main.specs.StatusOf.{cause_of}
-use Rattle.lio_host_main.specs.Verdict.{taking}
+use Rattle.lio_host_main.specs.Verdict.{cause_of, taking}
 use Rattle.lio_host_main.proofs.Prepares.{give-loaded, refuse-inputs, refuse-load}
 use Rattle.lio_host_main.proofs.prepare.load_from.Goals as goal
 

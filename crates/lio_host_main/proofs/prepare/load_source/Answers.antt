@@ -1,5 +1,5 @@
 use Rattle.std.proofs.Common.{ap}
-use Rattle.lio_host_words.specs.Sorted.{named, source_named}
+use Rattle.lio_front.specs.Sorted.{named, source_named}
 use Rattle.lio_host_main.proofs.Prepares.{give-made, refuse-made}
 use Rattle.lio_host_main.proofs.prepare.load_source.Goals as goal
 

@@ -1,13 +1,11 @@
 use Rattle.std.proofs.Common.{◌≡◌, refl, subst, sym, ℕ, List, Option, Some, None, Ok}
 use Rattle.std.proofs.lemmas.Result.{err_from_is_err_and}
 use Rattle.lio_outside.specs.FileMap.{FileMap}
-use Rattle.lio_outside.specs.Asking.{Give, Refuse}
+use Rattle.lio_outside.specs.Asking.{Give}
 use Rattle.lio_labels.specs.declared.label.Label.{Label}
 use Rattle.lio_start.specs.Job.{JobParts}
 use Rattle.lio_front.specs.declared.loading.Front.{Front}
-use Rattle.lio_front.specs.Causes.{Says}
-use Rattle.lio_observe_main.specs.declared.status.ObserveStatus.{ObserveStatus}
-use Rattle.lio_observe_main.specs.StatusOf.{cause_of}
+use Rattle.lio_front.specs.Status.{Says}
 use Rattle.lio_observe_main.specs.Verdict.{claiming, holding}
 use Rattle.lio_observe_main.specs.Words.{Command, named}
 use Rattle.lio_observe_main.proofs.ClaimLemmas.{give-claim, give-unlabelled, refuse-front, refuse-held}
@@ -47,5 +45,4 @@ returns-in-Err-clause-err g c =
     let after = g.S.Store.faults c.load_held.new.store in
     let says : Says told (holding c.in-Some.observer read.policy command.view) middle after c.in-Err.fault =
     subst (λ (t : Option FileMap). Says t (holding c.in-Some.observer read.policy command.view) middle after c.in-Err.fault) c.in_ok-policy.ensures.files c.in-Err.ensures.err in
-    subst (λ (status : ObserveStatus). Refuse (cause_of status) told (claiming command) before after status) (sym c.from.ensures)
-    (refuse-held told command read c.in-Some.observer before middle after c.in-Err.fault c.in_ok-policy.ensures.count c.in-Err.ensures.count c.in_ok-policy.ensures.ok c.in-Some.is says)
+    refuse-held told command read c.in-Some.observer before middle after c.in-Err.fault c.in_ok-policy.ensures.count c.in-Err.ensures.count c.in_ok-policy.ensures.ok c.in-Some.is says

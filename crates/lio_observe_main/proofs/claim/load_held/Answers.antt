@@ -4,8 +4,8 @@ use Rattle.lio_outside.specs.FileMap.{FileMap}
 use Rattle.lio_outside.specs.Steps.{asked}
 use Rattle.lio_outside.specs.Asking.{Give}
 use Rattle.lio_audit.specs.History.{most_history_bytes}
-use Rattle.lio_front.specs.declared.fault.FrontFault.TheVariants.{Missing}
-use Rattle.lio_front.specs.Causes.{Says}
+use Rattle.lio_front.specs.declared.status.Status.TheVariants.{Missing}
+use Rattle.lio_front.specs.Status.{Says}
 use Rattle.lio_observe_main.proofs.ClaimLemmas.{give-held, refuse-texts, refuse-view}
 use Rattle.lio_observe_main.proofs.claim.load_held.Goals as goal
 

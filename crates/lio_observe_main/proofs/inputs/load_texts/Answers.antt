@@ -4,7 +4,7 @@ use Rattle.lio_outside.specs.FileMap.{FileMap}
 use Rattle.lio_outside.specs.Asking.{Give}
 use Rattle.lio_policy.specs.declared.policy.FileEntry.{FileEntry}
 use Rattle.lio_policy.specs.declared.policy.Policy.{Policy}
-use Rattle.lio_front.specs.Causes.{Says}
+use Rattle.lio_front.specs.Status.{Says}
 use Rattle.lio_observe_main.specs.Verdict.{text_seen}
 use Rattle.lio_observe_main.proofs.InputLemmas.{EachGave, EachGave-length, give-each, inputs-end, inputs-next, says-input}
 use Rattle.lio_observe_main.proofs.inputs.load_texts.Goals as goal

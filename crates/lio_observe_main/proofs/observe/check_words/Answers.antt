@@ -1,5 +1,5 @@
 use Rattle.std.proofs.lemmas.Result.{IfOk-weaker, IfErr-weaker, err_from_is_err_and}
-use Rattle.lio_host_words.specs.Sorted.{bytes_of_words}
+use Rattle.lio_front.specs.Sorted.{bytes_of_words}
 use Rattle.lio_observe_main.specs.Claim.{Claim, claim_of}
 use Rattle.lio_observe_main.specs.Words.{Command, named}
 use Rattle.lio_observe_main.proofs.Says.{accepts, refused-check, refused-steps}

@@ -1,6 +1,6 @@
 use Rattle.std.proofs.Common.{refl}
-use Rattle.lio_host_words.specs.Sorted.{bytes_of_words}
-use Rattle.lio_observe_main.specs.Answers.{Call, Outside}
+use Rattle.lio_front.specs.Sorted.{bytes_of_words}
+use Rattle.lio_outside.specs.Call.{Call, Outside}
 use Rattle.lio_observe_main.proofs.Says.{bad_words, completes_verdict, follows_verdict}
 use Rattle.lio_observe_main.proofs.observe.observe_main.Goals as goal
 
