@@ -14,7 +14,7 @@ ghost use Rattle.lio_async_main.specs.Words.{host_words};
 use lio_async_main::{CoopOutcome, CoopStatus, coop_main};
 use lio_clauses::NoMemory;
 use lio_host_main::HostStatus;
-use lio_messages_refusals::futures::print_refusal;
+use lio_messages_refusals::{Program, print_refusal};
 use lio_outside::{Say, Store};
 use lio_system::{RealSay, RealStore};
 use std::fs::Files;
@@ -55,9 +55,8 @@ where
     let CoopOutcome { status, journal } = coop_main(rt, rt.alloc(), words, store, say);
     // Giving back a long journal piece by piece would take a good part of the run.
     mem::forget(journal);
-    let exit = exit_code(&status);
-    print_refusal(rt, words, store, status);
-    exit
+    print_refusal(rt, Program::Futures, words, store, &status, &None);
+    exit_code(&status)
 }
 
 /// The answer where there is no memory for the words themselves.

@@ -14,7 +14,7 @@ use lio_clauses::NoMemory;
 use lio_events::Journal;
 use lio_host_main::{HostStatus, Outcome, host_main};
 use lio_messages_notes::{Source, notes_text, troubles_of};
-use lio_messages_refusals::{print_refusal, refusal_detail, script_name, script_text};
+use lio_messages_refusals::{Program, print_refusal, script_name, script_text};
 use lio_outside::{Say, Store};
 use lio_start::Job;
 use lio_system::{RealSay, RealStore};
@@ -103,10 +103,7 @@ fn report<R: AllocGlobal + Files + Eprint, S: Store>(
         print_notes(rt, words, store, job, journal);
         return;
     }
-    let alloc = rt.alloc();
-    let detail = refusal_detail(alloc, rt, store, status, words, job);
-    // A refusal that can't be printed still has its exit status.
-    let _ = print_refusal(rt, alloc, status, words, &detail);
+    print_refusal(rt, Program::Host, words, store, status, job);
 }
 
 /// Runs the script that the words name, says on standard error what was refused or went wrong, if

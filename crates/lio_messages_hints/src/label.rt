@@ -8,7 +8,8 @@ use std::alloc::Global;
 /// What is wrong with a label's text, which stands at a place of the line.
 pub(crate) fn label_text_mistake(alloc: Global, names: &Names, place: usize, text: &[u8]) -> Found {
     if !text.contains(&b'%') {
-        let text = "a label has two parts, with %% between them: who may learn, and who vouches; \"True\" is no restriction";
+        let text =
+            "a label has two parts, with %% between them: who may learn, and who vouches; \"True\" is no restriction";
         return told(alloc, place, text);
     }
     match Label::read(alloc, text, names) {
@@ -31,13 +32,7 @@ pub(crate) fn formula_text_mistake(
 }
 
 /// The fault of a text, which stands at a place.
-fn fault_told(
-    alloc: Global,
-    names: &Names,
-    place: usize,
-    text: &[u8],
-    fault: TextFault,
-) -> Found {
+fn fault_told(alloc: Global, names: &Names, place: usize, text: &[u8], fault: TextFault) -> Found {
     match fault {
         TextFault::NoMemory => Err(NoMemory),
         TextFault::Wide => told(alloc, place, "more than 64 clauses stand here"),
@@ -77,7 +72,12 @@ fn token_at(text: &[u8], at: usize) -> &[u8] {
 fn no_principal(alloc: Global, names: &Names, place: usize, token: &[u8], at: usize) -> Found {
     let mut message = Message::new(alloc);
     let token = Piece::Shown(token);
-    message.fill("\"{}\" is no principal of the policy", token, Piece::Nothing, Piece::Nothing);
+    message.fill(
+        "\"{}\" is no principal of the policy",
+        token,
+        Piece::Nothing,
+        Piece::Nothing,
+    );
     for number in 0..names.len() {
         message.words(if number == 0 { " (" } else { ", " });
         message.bytes(names.name(number));
@@ -110,5 +110,10 @@ fn no_token(alloc: Global, place: usize, token: &[u8], at: usize) -> Found {
             "\"{}\" can't stand here; principals are joined by \"/\\\", and by \"\\/\" in parentheses"
         }
     };
-    told_one(alloc, place.saturating_add(at), template, Piece::Shown(token))
+    told_one(
+        alloc,
+        place.saturating_add(at),
+        template,
+        Piece::Shown(token),
+    )
 }

@@ -70,13 +70,7 @@ impl Message {
     }
 
     /// Writes a template, with these pieces in the places of its `{}`, in their order.
-    pub fn fill(
-        &mut self,
-        template: &str,
-        first: Piece<'_>,
-        second: Piece<'_>,
-        third: Piece<'_>,
-    ) {
+    pub fn fill(&mut self, template: &str, first: Piece<'_>, second: Piece<'_>, third: Piece<'_>) {
         for (place, words) in template.split("{}").enumerate() {
             match place {
                 0 => {}
@@ -86,6 +80,11 @@ impl Message {
             }
             self.words(words);
         }
+    }
+
+    /// How many bytes are written.
+    pub fn len(&self) -> usize {
+        self.text.len()
     }
 
     /// Notes that memory was refused for a piece.

@@ -138,12 +138,7 @@ impl<'r> About<'r> {
 
     /// Writes the line of the script at which a task ended, and why, where there is something to
     /// say.
-    fn print_detail(
-        &self,
-        printer: &mut Printer<'_>,
-        line: Option<SourceLine<'_>>,
-        reason: &str,
-    ) {
+    fn print_detail(&self, printer: &mut Printer<'_>, line: Option<SourceLine<'_>>, reason: &str) {
         if let Some(line) = line {
             let number = Piece::Number(line.number as u64);
             printer.fill("\n  {} | {}", number, Piece::Shown(line.bytes));

@@ -151,11 +151,7 @@ fn print_wrong(printer: &mut Printer<'_>, wrong: Wrong<'_>) {
 }
 
 /// Writes which text writes no whole, where `num` was asked for one.
-fn print_no_whole(
-    printer: &mut Printer<'_>,
-    environment: &Environment,
-    front: &Front<'_, '_>,
-) {
+fn print_no_whole(printer: &mut Printer<'_>, environment: &Environment, front: &Front<'_, '_>) {
     if let Front::Simple(Simple::LetOne(_, One::Num, operand)) = front
         && let Seen::Plain(plain) = value_seen(environment, operand)
     {
@@ -165,11 +161,7 @@ fn print_no_whole(
 }
 
 /// Writes which list has no item at which place, where `at` was asked for one.
-fn print_no_item(
-    printer: &mut Printer<'_>,
-    environment: &Environment,
-    front: &Front<'_, '_>,
-) {
+fn print_no_item(printer: &mut Printer<'_>, environment: &Environment, front: &Front<'_, '_>) {
     if let Front::Simple(Simple::LetTwo(_, list, Two::At, place)) = front
         && let Seen::Plain(plain) = value_seen(environment, place)
     {
@@ -180,11 +172,7 @@ fn print_no_item(
 }
 
 /// Writes which operand of what comes first isn't bound, or isn't of the needed kind.
-fn print_bad_type(
-    printer: &mut Printer<'_>,
-    environment: &Environment,
-    front: &Front<'_, '_>,
-) {
+fn print_bad_type(printer: &mut Printer<'_>, environment: &Environment, front: &Front<'_, '_>) {
     match wrong_operand(environment, front) {
         Some(wrong) => print_wrong(printer, wrong),
         None => {

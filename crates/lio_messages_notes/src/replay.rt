@@ -65,7 +65,13 @@ fn reason(
 /// What a task threw in its last turn, in words.
 fn last_reason(alloc: Global, kind: &FaultKind) -> Result<String, NoMemory> {
     let kind = Piece::Words(kind_word(kind));
-    filled(alloc, "its last turn threw {}", kind, Piece::Nothing, Piece::Nothing)
+    filled(
+        alloc,
+        "its last turn threw {}",
+        kind,
+        Piece::Nothing,
+        Piece::Nothing,
+    )
 }
 
 impl Found {

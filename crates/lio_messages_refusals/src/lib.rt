@@ -1,16 +1,21 @@
-//! What is printed of a refusal of the host: the answer, what was refused and where, and how to
-//! mend it.
+//! What is printed of a refusal of a program: the answer, what was refused and where, and how to mend
+//! it. What it says has no contract; rows show it.
 #![tactic(auto)]
 
+mod again;
+mod channels;
 mod detail;
-pub mod futures;
-pub mod observer;
+mod entry;
+mod line;
+mod program;
 mod refusal;
+mod rules;
+mod stop;
+mod task;
 mod words;
 
-pub use detail::{
-    Channels, Detail, FaultAt, HistoryAt, LineAt, TaskAt, Texts, WrongEntry, detail_of,
-    refusal_detail, script_text, trouble_text,
-};
-pub use refusal::{print_refusal, refusal_text, told_text};
-pub use words::script_name;
+pub use again::script_text;
+pub use detail::{Detail, Record, Texts, detail_of, trouble_text};
+pub use program::Program;
+pub use refusal::{print_refusal, refusal_text};
+pub use words::{futures_words, script_name};

@@ -10,7 +10,7 @@ ghost use Rattle.lio_outside.specs.Call.{outside};
 ghost use Rattle.lio_front.specs.Status.{exit_status as status_number};
 
 use lio_clauses::NoMemory;
-use lio_messages_refusals::observer::{print_refusal, refusal_detail};
+use lio_messages_refusals::{Program, print_refusal};
 use lio_observe_main::{ObserveStatus, observe_main};
 use lio_outside::{Say, Store};
 use lio_system::{RealSay, RealStore};
@@ -34,25 +34,6 @@ fn exit_code(status: &ObserveStatus) -> ExitCode
     ExitCode::from(status.number())
 }
 
-/// Says on standard error what was refused, if anything was. The store's files stay.
-fn report<R: AllocGlobal + Files + Eprint, S: Store>(
-    rt: &R,
-    words: &[String],
-    store: &mut S,
-    status: &ObserveStatus,
-)
-    ensures files { S.holds store.new ≡ S.holds store.old }
-    ensures count { S.faults store.old ≤ S.faults store.new }
-{
-    if let ObserveStatus::Done = status {
-        return;
-    }
-    let alloc = rt.alloc();
-    let detail = refusal_detail(alloc, rt, store, status, words);
-    // A refusal that can't be printed still has its exit status.
-    let _ = print_refusal(rt, alloc, status, words, &detail);
-}
-
 /// Checks what the words name, says on standard error what was refused, if anything was, and gives
 /// the exit status of the answer.
 fn respond<R: AllocGlobal + Files + Eprint, S: Store, W: Say>(
@@ -69,7 +50,7 @@ fn respond<R: AllocGlobal + Files + Eprint, S: Store, W: Say>(
     }) (exit_status result) }
 {
     let status = observe_main(rt.alloc(), words, store, say);
-    report(rt, words, store, &status);
+    print_refusal(rt, Program::Observer, words, store, &status, &None);
     exit_code(&status)
 }
 

@@ -1,6 +1,7 @@
 //! The cases of a text.
 
 use lio_clauses::NoMemory;
+use lio_messages_refusals::{Record, Texts};
 use std::alloc::{AllocError, Global};
 
 /// A part of a case: its word, what it is about, and its text.
@@ -89,6 +90,18 @@ impl<'c> Setting<'c> {
         }
     }
 
+    /// The policy and the script, for what is printed of an answer.
+    pub fn texts<'r>(self, record: Record<'r>) -> Texts<'r>
+    where
+        'c: 'r,
+    {
+        Texts {
+            policy: self.policy.as_bytes(),
+            script: self.script.as_bytes(),
+            record,
+        }
+    }
+
     /// What a case has, which says some of it.
     pub fn with(self, case: &'c Case<'_>) -> Setting<'c> {
         let mut setting = self;
@@ -156,11 +169,7 @@ fn begin_part<'t>(
 }
 
 /// Adds a line that belongs to no text.
-fn add_line<'t>(
-    alloc: Global,
-    blocks: &mut Vec<Block<'t>>,
-    line: &'t str,
-) -> Result<(), NoMemory> {
+fn add_line<'t>(alloc: Global, blocks: &mut Vec<Block<'t>>, line: &'t str) -> Result<(), NoMemory> {
     if line.is_empty() || line.starts_with("#") {
         blocks.push(Block::Line(line))?;
         return Ok(());

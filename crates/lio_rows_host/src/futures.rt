@@ -3,38 +3,19 @@
 
 use crate::cases::{Case, Setting};
 use crate::found::Found;
+use crate::says::says;
 use crate::store::{say_of, store_of};
 use lio_async_main::{CoopOutcome, coop_main};
 use lio_clauses::NoMemory;
 use lio_events::Journal;
 use lio_host_main::{HostStatus, Outcome, host_main};
-use lio_messages_refusals::futures::{host_words, refusal_text};
-use lio_messages_refusals::{Texts, detail_of};
+use lio_messages_refusals::{Program, Record, Texts, futures_words};
 use lio_outside::{MemSay, MemStore};
 use lio_workers::OpenGate;
 use std::alloc::Global;
 use std::random::RandomSource;
 use std::sync::Wait;
 use std::thread::Threads;
-
-/// What is printed of an answer.
-fn says(
-    alloc: Global,
-    status: &HostStatus,
-    words: &[String],
-    setting: Setting<'_>,
-) -> Result<String, NoMemory> {
-    let texts = Texts {
-        policy: setting.policy.as_bytes(),
-        script: setting.script.as_bytes(),
-        history: &None,
-        job: &None,
-    };
-    let detail = detail_of(alloc, status, None, texts)?;
-    let says = refusal_text(alloc, status, words, &detail);
-    drop(detail);
-    Ok(says?)
-}
 
 /// The words with which the host does the same, and writes the history where a case speaks of the
 /// journal.
@@ -43,7 +24,7 @@ fn words_of_host(
     case: &Case<'_>,
     words: &[String],
 ) -> Result<Vec<String>, NoMemory> {
-    let mut host = host_words(alloc, words)?;
+    let mut host = futures_words(alloc, words)?;
     if case.part("journal").is_some() {
         host.push(String::from_str(alloc, "--history")?)?;
         host.push(String::from_str(alloc, "h")?)?;
@@ -97,14 +78,15 @@ fn add_host<R: AllocGlobal + Threads + Wait + Sync>(
 /// What an answer and a journal come to, beside what was said.
 fn found_of(
     alloc: Global,
+    case: &Case<'_>,
     status: &HostStatus,
     journal: &Journal,
     words: &[String],
-    setting: Setting<'_>,
+    texts: Texts<'_>,
     say: &MemSay,
 ) -> Result<Found, NoMemory> {
     let mut found = Found::new(alloc, format!(in alloc; "{status}")?, status.number());
-    found.says = says(alloc, status, words, setting)?;
+    found.says = says(alloc, case, Program::Futures, status, words, texts)?;
     found.said = Vec::from_slice(alloc, say.said())?;
     found.may_say = matches!(status, HostStatus::Done);
     found.entries = journal.entries().len() as u64;
@@ -125,8 +107,8 @@ where
     let alloc = rt.alloc();
     let mut say = say_of(alloc, case)?;
     let CoopOutcome { status, journal } = coop_main(rt, alloc, words, store, &mut say);
-    let status = HostStatus::from(status);
-    let mut found = found_of(alloc, &status, &journal, words, setting, &say);
+    let texts = setting.texts(Record::Nothing);
+    let mut found = found_of(alloc, case, &status, &journal, words, texts, &say);
     drop(say);
     let added = match &mut found {
         Ok(found) => add_host(rt, case, setting, words, &status, &journal, found),

@@ -3,50 +3,19 @@
 use crate::cases::{Case, Setting};
 use crate::found::{Found, GateTold};
 use crate::gate::NotingGate;
+use crate::says::says;
 use crate::store::{lines_of, say_of};
 use lio_clauses::NoMemory;
 use lio_events::Journal;
 use lio_host_main::{HostStatus, Outcome, host_main};
 use lio_messages_notes::{Source, notes_text, troubles_of};
-use lio_messages_refusals::{Texts, detail_of, refusal_text, trouble_text};
-use lio_outside::{MemSay, MemStore, Trouble};
+use lio_messages_refusals::{Program, Record, Texts};
+use lio_outside::{MemSay, MemStore};
 use lio_start::Job;
 use lio_workers::OpenGate;
-use std::alloc::{AllocError, Global};
-use std::io;
+use std::alloc::Global;
 use std::sync::Wait;
 use std::thread::Threads;
-
-/// Why a call of the store failed, where a case says it.
-fn why(alloc: Global, case: &Case<'_>) -> Result<Option<String>, AllocError> {
-    if let Some(part) = case.part("trouble") {
-        let number = part.about.parse::<i32>().unwrap_or(0);
-        let error = io::Error::from_raw_os_error(number);
-        return Ok(Some(trouble_text(alloc, Trouble::System(error))?));
-    }
-    match case.part("same") {
-        Some(part) => {
-            let trouble = Trouble::SameFile(part.about.as_bytes());
-            Ok(Some(trouble_text(alloc, trouble)?))
-        }
-        None => Ok(None),
-    }
-}
-
-/// What is printed of an answer.
-fn says(
-    alloc: Global,
-    case: &Case<'_>,
-    status: &HostStatus,
-    words: &[String],
-    texts: Texts<'_>,
-) -> Result<String, NoMemory> {
-    let why = why(alloc, case)?;
-    let detail = detail_of(alloc, status, why, texts)?;
-    let says = refusal_text(alloc, status, words, &detail);
-    drop(detail);
-    Ok(says?)
-}
 
 /// The notes on a run.
 fn notes(
@@ -85,7 +54,7 @@ fn found_of(
 ) -> Result<Found, NoMemory> {
     let status = &outcome.status;
     let mut found = Found::new(alloc, format!(in alloc; "{status}")?, status.number());
-    found.says = says(alloc, case, status, words, texts)?;
+    found.says = says(alloc, case, Program::Host, status, words, texts)?;
     found.said = Vec::from_slice(alloc, say.said())?;
     found.entries = outcome.journal.entries().len() as u64;
     if let HostStatus::Done = status {
@@ -164,12 +133,11 @@ fn run_once<R: AllocGlobal + Threads + Wait + Sync>(
     let mut say = say_of(alloc, case)?;
     let gate = NotingGate::new(case.number("held").unwrap_or(0));
     let outcome = host_main(rt, alloc, words, store, &mut say, &gate);
-    let texts = Texts {
-        policy: setting.policy.as_bytes(),
-        script: setting.script.as_bytes(),
-        history: &history,
-        job: &outcome.job,
+    let record = match (&outcome.job, &history) {
+        (Some(job), Some(history)) => Record::History(job, history.as_slice()),
+        _ => Record::Nothing,
     };
+    let texts = setting.texts(record);
     let found = found_of(alloc, case, &outcome, words, texts, &say);
     drop(outcome);
     drop(say);

@@ -1,7 +1,7 @@
 //! The jobs that words name.
 
-use lio_host_main::{HostStatus, Loaded, Order, prepare_order};
 use lio_front::read_command;
+use lio_host_main::{HostStatus, Loaded, Order, prepare_order};
 use lio_outside::MemStore;
 use std::alloc::Global;
 

@@ -60,7 +60,9 @@ impl Differences {
     /// What is printed.
     pub fn finish(self) -> Result<Vec<u8>, NoMemory> {
         let Differences {
-            text, is_refused, ..
+            text,
+            is_refused,
+            ..
         } = self;
         if is_refused {
             drop(text);

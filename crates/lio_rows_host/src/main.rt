@@ -14,6 +14,7 @@ mod line;
 mod observer;
 mod polls;
 mod running;
+mod says;
 mod seats;
 mod store;
 mod tables;

@@ -35,11 +35,7 @@ where
 }
 
 /// What is printed behind the name of a case under a setting.
-fn differences_under<R>(
-    rt: &R,
-    case: &Case<'_>,
-    setting: Setting<'_>,
-) -> Result<Vec<u8>, NoMemory>
+fn differences_under<R>(rt: &R, case: &Case<'_>, setting: Setting<'_>) -> Result<Vec<u8>, NoMemory>
 where
     R: AllocGlobal + RandomSource + Threads + Wait + Sync,
 {

@@ -29,5 +29,5 @@ returns g c =
       journal = journal;
       says = says-at_last call c.coop_main-status.result.status (g.S.Store.holds c.print_refusal.new.store) (g.S.Store.faults c.print_refusal.new.store) c.print_refusal.ensures.files c.coop_main-status.ensures.count
           c.print_refusal.ensures.count c.coop_main-status.ensures.says;
-      exit_is = c.exit_code-exit.ensures;
+      exit_is = c.exit_code.ensures;
     }

@@ -33,7 +33,13 @@ fn no_such(
     let number = Piece::Number(number as u64);
     let shown = Piece::Shown(name.bytes());
     if is_among(others, name) {
-        return told_three(alloc, "argument {}: \"{}\" is {}", number, shown, Piece::Words(other));
+        return told_three(
+            alloc,
+            "argument {}: \"{}\" is {}",
+            number,
+            shown,
+            Piece::Words(other),
+        );
     }
     let mut message = Message::new(alloc);
     let template = "argument {}: no {} has the name \"{}\"; there are: ";

@@ -18,10 +18,16 @@ pub(crate) fn document_mistake(alloc: Global, bytes: &[u8]) -> Found {
     }
     match bytes {
         [0xef, 0xbb, 0xbf, ..] => {
-            return told(alloc, "it begins with a byte order mark; save it without one");
+            return told(
+                alloc,
+                "it begins with a byte order mark; save it without one",
+            );
         }
         [b'p', b'r', b'o', b'c', b' ', ..] | [b'#', ..] => {
-            return told(alloc, "it looks like a script; the policy is the first of the words");
+            return told(
+                alloc,
+                "it looks like a script; the policy is the first of the words",
+            );
         }
         _ => {}
     }
@@ -99,7 +105,8 @@ fn wrong_text(alloc: Global, text: &[u8], at: (usize, usize)) -> Found {
     let (line, column) = at;
     let column = column.saturating_add(1).saturating_add(place);
     let escape = text.get(place..place.saturating_add(2)).unwrap_or(b"\\");
-    let template = "\"{}\" is no escape of JSON; a backslash is written \\\\, as in \"alice /\\\\ bob\"";
+    let template =
+        "\"{}\" is no escape of JSON; a backslash is written \\\\, as in \"alice /\\\\ bob\"";
     placed(alloc, (line, column), template, Piece::Shown(escape))
 }
 

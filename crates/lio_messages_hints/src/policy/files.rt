@@ -49,9 +49,7 @@ fn name_mistake(
     let wrong = match file {
         [] => "\"file\" is empty",
         [b'-', ..] => "the name of a file doesn't begin with \"-\"",
-        _ if file.len() > MOST_NAME => {
-            "the name of its file has {} bytes; it has at most 255"
-        }
+        _ if file.len() > MOST_NAME => { "the name of its file has {} bytes; it has at most 255" }
         _ if file.contains(&0) => "the name of its file has a zero byte",
         _ => return taken_mistake(alloc, draft, file, channels, inputs),
     };

@@ -105,7 +105,8 @@ pub(crate) fn flow_mistake(alloc: Global, draft: &Draft, entry: u32) -> Found {
     let Entry::Task(_, task) = entry_of(draft, entry) else {
         return Ok(None);
     };
-    let template = "its label {} doesn't flow to its clearance {}; raise the clearance, or lower the label";
+    let template =
+        "its label {} doesn't flow to its clearance {}; raise the clearance, or lower the label";
     let clearance = Piece::Shown(task.clearance.bytes());
     told_two(alloc, template, Piece::Shown(task.label.bytes()), clearance)
 }

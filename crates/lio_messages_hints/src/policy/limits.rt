@@ -70,7 +70,11 @@ fn task_limits(alloc: Global, draft: &Draft, place: usize, task: &TaskDraft) -> 
     let limits = limits_in(draft);
     let most = limits.entries;
     if place >= most {
-        return told_one(alloc, "there are at most {} tasks", Piece::Number(most as u64));
+        return told_one(
+            alloc,
+            "there are at most {} tasks",
+            Piece::Number(most as u64),
+        );
     }
     let (turns, cells) = sums(draft.tasks.as_slice(), place.saturating_add(1));
     let longest = draft.longest.unwrap_or(0);
@@ -102,7 +106,8 @@ fn task_limits(alloc: Global, draft: &Draft, place: usize, task: &TaskDraft) -> 
 fn list_limits(alloc: Global, task: &TaskDraft, longest: u64) -> Found {
     for argument in task.args.as_slice() {
         if let ArgDraft::Items(_) = argument {
-            let template = "it has a list that is more than 8 deep, larger than \"longest\", which is {}, or has more than 4 inputs";
+            let template =
+                "it has a list that is more than 8 deep, larger than \"longest\", which is {}, or has more than 4 inputs";
             return told_one(alloc, template, Piece::Number(longest));
         }
     }
@@ -118,5 +123,9 @@ pub(crate) fn limit_mistake(alloc: Global, draft: &Draft, entry: u32) -> Found {
         Entry::Input(_, _) => "there are at most {} inputs",
         Entry::Task(place, task) => return task_limits(alloc, draft, place, task),
     };
-    told_one(alloc, template, Piece::Number(limits_in(draft).entries as u64))
+    told_one(
+        alloc,
+        template,
+        Piece::Number(limits_in(draft).entries as u64),
+    )
 }

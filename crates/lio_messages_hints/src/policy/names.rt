@@ -51,9 +51,7 @@ fn principal_mistake(alloc: Global, principals: &[Text], place: usize, name: &Te
         before.push(principal)?;
     }
     match name_mistake(alloc, name, before.as_slice())? {
-        None if place >= MOST_PRINCIPALS => {
-            told(alloc, "there are at most 64 principals")
-        }
+        None if place >= MOST_PRINCIPALS => { told(alloc, "there are at most 64 principals") }
         found => Ok(found),
     }
 }
@@ -69,7 +67,10 @@ fn no_name(alloc: Global, name: &Text, at: usize) -> Found {
             ("its name has {} bytes; a name has at most 32", count)
         }
         [b'0'..=b'9' | b'_', ..] => ("a name begins with a letter of a to z", Piece::Nothing),
-        _ => ("\"{}\" can't stand in a name; the letters a to z, digits and \"_\" do", wrong),
+        _ => (
+            "\"{}\" can't stand in a name; the letters a to z, digits and \"_\" do",
+            wrong,
+        ),
     };
     told_one(alloc, template, piece)
 }

@@ -188,14 +188,20 @@ fn member_mistake(
         } else {
             " and unit"
         };
-        let template = "argument {}: \"{}\" is no key here; there are input, channel, label, power, text, whole, flag{}";
+        let template =
+            "argument {}: \"{}\" is no key here; there are input, channel, label, power, text, whole, flag{}";
         return told_three(alloc, template, number, shown, Piece::Words(last));
     };
     if is_of(found, key.1) {
         return Ok(None);
     }
     let mut message = Message::new(alloc);
-    message.fill("argument {}: \"{}\" is {}", number, shown, Piece::Words(what_is(found)));
+    message.fill(
+        "argument {}: \"{}\" is {}",
+        number,
+        shown,
+        Piece::Words(what_is(found)),
+    );
     message.words("; ");
     message.words(wanted(key.1));
     message.words(" is wanted");
@@ -207,12 +213,18 @@ fn member_mistake(
 fn argument_mistake(alloc: Global, lists: bool, value: &Value, place: usize) -> Found {
     let number = Piece::Number(place.saturating_add(1) as u64);
     let Some(members) = value.as_object() else {
-        let template = "argument {} is {}; an object with one key is wanted, as {\"channel\":\"out\"}";
+        let template =
+            "argument {} is {}; an object with one key is wanted, as {\"channel\":\"out\"}";
         return told_two(alloc, template, number, Piece::Words(what_is(value)));
     };
     if members.len() != 1 {
         let count = Piece::Number(members.len() as u64);
-        return told_two(alloc, "argument {} has {} keys; one is wanted", number, count);
+        return told_two(
+            alloc,
+            "argument {} has {} keys; one is wanted",
+            number,
+            count,
+        );
     }
     for (name, found) in members {
         if let Some(mistake) = member_mistake(alloc, lists, name.as_str(), found, number)? {

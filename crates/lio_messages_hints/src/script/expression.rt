@@ -37,7 +37,11 @@ const SIGNS: [Sign; 18] = [
 /// What is wrong with the words behind `let`. `end` is how many bytes the line has.
 pub(crate) fn let_mistake(alloc: Global, names: &Names, behind: &[Word<'_>], end: usize) -> Found {
     let [name, behind @ ..] = behind else {
-        return told(alloc, end, "the name that is bound is missing here: let X = A");
+        return told(
+            alloc,
+            end,
+            "the name that is bound is missing here: let X = A",
+        );
     };
     if let Some(mistake) = name_mistake(alloc, *name)? {
         return Ok(Some(mistake));
@@ -77,7 +81,11 @@ fn further(alloc: Global, word: Word<'_>) -> Found {
     if word.text.starts_with(b"#") || word.text.starts_with(b"//") {
         return late_comment(alloc, word);
     }
-    told(alloc, word.place, "\"let\" takes one operator; write a second line")
+    told(
+        alloc,
+        word.place,
+        "\"let\" takes one operator; write a second line",
+    )
 }
 
 /// What is wrong with `OP A`, or what was meant by it.
@@ -95,7 +103,11 @@ fn unary_mistake(
         return late_comment(alloc, second);
     }
     if Two::find(second.text).is_some() {
-        return told(alloc, end, "a value is missing behind the operator: let X = A OP A");
+        return told(
+            alloc,
+            end,
+            "a value is missing behind the operator: let X = A OP A",
+        );
     }
     let template = match first.text {
         [b'!'] => "write \"not\"",
@@ -145,5 +157,11 @@ fn binary_mistake(
             "",
         ),
     };
-    told_two(alloc, op.place, template, Piece::Shown(op.text), Piece::Words(mend))
+    told_two(
+        alloc,
+        op.place,
+        template,
+        Piece::Shown(op.text),
+        Piece::Words(mend),
+    )
 }

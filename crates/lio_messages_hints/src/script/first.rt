@@ -45,7 +45,8 @@ pub(crate) fn first_mistake(alloc: Global, first: Word<'_>, behind: &[Word<'_>])
         let text = "there are no parentheses; \"call X P A ..\" calls a procedure";
         (text, Piece::Nothing)
     } else {
-        let template = "no statement begins with \"{}\"; docs/SCRIPTS.md lists those that are there";
+        let template =
+            "no statement begins with \"{}\"; docs/SCRIPTS.md lists those that are there";
         (template, Piece::Nothing)
     };
     told_two(alloc, first.place, template, Piece::Shown(word), mend)

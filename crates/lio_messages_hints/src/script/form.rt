@@ -208,7 +208,13 @@ fn missing(alloc: Global, form: &Form, part: Part, end: usize) -> Found {
     let what = match part {
         Part::Name(what) | Part::Operand(what) | Part::Word(what) => Piece::Words(what),
     };
-    told_two(alloc, end, "{} is missing here: {}", what, Piece::Words(form.text))
+    told_two(
+        alloc,
+        end,
+        "{} is missing here: {}",
+        what,
+        Piece::Words(form.text),
+    )
 }
 
 /// A comment that has no line of its own.
@@ -224,15 +230,21 @@ fn too_many(alloc: Global, form: &Form, first: Word<'_>, word: Word<'_>) -> Foun
     let shown = Piece::Shown(word.text);
     let keyword = Piece::Shown(first.text);
     let (template, one, other) = if first.is("else") && word.is("if") {
-        let text = "\"else\" stands alone; the \"if\" has a line of its own in it, and an \"end\" of its own";
+        let text =
+            "\"else\" stands alone; the \"if\" has a line of its own in it, and an \"end\" of its own";
         (text, Piece::Nothing, Piece::Nothing)
     } else if One::find(word.text).is_some() || Two::find(word.text).is_some() {
-        let template = "\"{}\" takes no operator; bind what \"{}\" gives by \"let\" on a line before";
+        let template =
+            "\"{}\" takes no operator; bind what \"{}\" gives by \"let\" on a line before";
         (template, keyword, shown)
     } else if form.parts.is_empty() {
         ("\"{}\" stands alone on its line", keyword, Piece::Nothing)
     } else {
-        ("\"{}\" is one word too many: {}", shown, Piece::Words(form.text))
+        (
+            "\"{}\" is one word too many: {}",
+            shown,
+            Piece::Words(form.text),
+        )
     };
     told_two(alloc, word.place, template, one, other)
 }

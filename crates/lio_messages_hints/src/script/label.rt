@@ -12,7 +12,8 @@ pub(crate) fn label_mistake(alloc: Global, names: &Names, word: Word<'_>) -> Fou
         return Ok(None);
     };
     if behind.is_empty() || behind == b"=".as_slice() {
-        let template = "\"{}\" stands where a value is wanted; a label begins at once behind its \"<\"";
+        let template =
+            "\"{}\" stands where a value is wanted; a label begins at once behind its \"<\"";
         return told_one(alloc, word.place, template, Piece::Shown(word.text));
     }
     let Some(end) = behind.iter().position(|byte| *byte == b'>') else {

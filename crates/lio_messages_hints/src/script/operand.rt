@@ -113,9 +113,7 @@ fn number_mistake(alloc: Global, word: Word<'_>) -> Found {
         digits => digits,
     };
     let template = match word.text {
-        [b'-', ..] if is_name(digits) => {
-            "\"neg {}\" gives the negative, on a line of its own"
-        }
+        [b'-', ..] if is_name(digits) => { "\"neg {}\" gives the negative, on a line of its own" }
         [b'+', ..] => "a whole number has no \"+\" in front",
         _ if are_digits(digits) => {
             "a whole number has 64 bits with sign, from -9223372036854775808 to 9223372036854775807"

@@ -22,7 +22,11 @@ fn parenthesis(word: &[u8]) -> Option<usize> {
 /// What is wrong with the words behind `proc`. `end` is how many bytes the line has.
 pub(crate) fn procedure_mistake(alloc: Global, behind: &[Word<'_>], end: usize) -> Found {
     if behind.is_empty() {
-        return told(alloc, end, "the name of the procedure is missing here: proc P X ..");
+        return told(
+            alloc,
+            end,
+            "the name of the procedure is missing here: proc P X ..",
+        );
     }
     for (i, word) in behind.iter().enumerate() {
         if word.text.starts_with(b"#") {

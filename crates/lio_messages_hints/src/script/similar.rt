@@ -21,9 +21,18 @@ const FOREIGN: [Foreign; 28] = [
     Foreign("const", "\"let X = A\" binds a name"),
     Foreign("set", "\"let X = A\" binds a name"),
     Foreign("val", "\"let X = A\" binds a name"),
-    Foreign("elif", "\"else\", and an \"if\" with an \"end\" of its own in it"),
-    Foreign("elsif", "\"else\", and an \"if\" with an \"end\" of its own in it"),
-    Foreign("elseif", "\"else\", and an \"if\" with an \"end\" of its own in it"),
+    Foreign(
+        "elif",
+        "\"else\", and an \"if\" with an \"end\" of its own in it",
+    ),
+    Foreign(
+        "elsif",
+        "\"else\", and an \"if\" with an \"end\" of its own in it",
+    ),
+    Foreign(
+        "elseif",
+        "\"else\", and an \"if\" with an \"end\" of its own in it",
+    ),
     Foreign("endif", "\"end\" ends each block"),
     Foreign("endproc", "\"end\" ends each procedure"),
     Foreign("done", "\"end\" ends each block"),

@@ -45,7 +45,11 @@ pub(crate) fn text_mistake(alloc: Global, word: Word<'_>) -> Found {
             (Inside::High, _) | (Inside::Low, _) => return no_digit(alloc, word, escape),
         };
     }
-    told(alloc, word.place, "the text that begins here has no closing quote")
+    told(
+        alloc,
+        word.place,
+        "the text that begins here has no closing quote",
+    )
 }
 
 /// What stands behind the closing quote, at a place of the word.
@@ -54,7 +58,8 @@ fn behind_quote(alloc: Global, word: Word<'_>, quote: usize) -> Found {
     if behind >= word.text.len() {
         return Ok(None);
     }
-    let text = "the text ends before this; a quote in a text is written \\\", and a blank stands behind a text";
+    let text =
+        "the text ends before this; a quote in a text is written \\\", and a blank stands behind a text";
     told(alloc, word.inside(behind), text)
 }
 

@@ -22,11 +22,11 @@ returns-clause-ends g c =
         say_faults = g.W.Say.faults c.observe_main-status.new.say;
       };
     } in
-    let told = g.S.Store.holds c.report.new.store in
-    let faults = g.S.Store.faults c.report.new.store in
+    let told = g.S.Store.holds c.print_refusal.new.store in
+    let faults = g.S.Store.faults c.print_refusal.new.store in
     let status = c.observe_main-status.result in
     let whole : Call = later call told faults in
-    let says : Says whole status = says-later call status told faults c.observe_main-status.ensures.count c.report.ensures.count c.observe_main-status.ensures.says in
+    let says : Says whole status = says-later call status told faults c.observe_main-status.ensures.count c.print_refusal.ensures.count c.observe_main-status.ensures.says in
     record {
       status = status;
       says = says;
