@@ -1,5 +1,5 @@
-//! Runs a script under a policy in rounds, as a future, writes what it sends to its channels and what
-//! an observer sees, and says a summary.
+//! Runs a script under a policy in rounds, as a future, writes what it sends to its channels and
+//! what an observer sees, and says a summary.
 #![tactic(auto)]
 
 ghost use Rattle.std.specs.Prelude.{◌≡◌, ◌≤◌, List};
@@ -24,7 +24,8 @@ use std::sync::Wait;
 use std::thread::Threads;
 use std::{env, io, mem};
 
-/// The words after the program's name. Words that can't be had as text are wrong words, as none are.
+/// The words after the program's name. Words that can't be had as text are wrong words, as none
+/// are.
 fn words(rt: &HostRuntime) -> Result<Vec<String>, NoMemory> {
     match env::args(rt) {
         Ok(args) => Ok(args.skip(1).collect(rt.alloc())?),
@@ -40,8 +41,8 @@ fn exit_code(status: &CoopStatus) -> ExitCode
     ExitCode::from(status.number())
 }
 
-/// Runs the script that the words name, says on standard error what was refused, if anything was, and
-/// gives the exit status of the answer.
+/// Runs the script that the words name, says on standard error what was refused, if anything was,
+/// and gives the exit status of the answer.
 fn respond<R, S: Store, W: Say>(rt: &R, words: &[String], store: &mut S, say: &mut W) -> ExitCode
 where
     R: AllocGlobal + Files + Eprint + RandomSource + Threads + Wait + Sync,

@@ -1,5 +1,5 @@
-//! Runs a script under a policy over labelled inputs, writes what it sends to its channels, and says a
-//! summary.
+//! Runs a script under a policy over labelled inputs, writes what it sends to its channels, and
+//! says a summary.
 #![tactic(auto)]
 
 ghost use Rattle.std.specs.Prelude.{◌≡◌, ◌≤◌, List};
@@ -25,7 +25,8 @@ use std::sync::Wait;
 use std::thread::Threads;
 use std::{env, io, mem};
 
-/// The words after the program's name. Words that can't be had as text are wrong words, as none are.
+/// The words after the program's name. Words that can't be had as text are wrong words, as none
+/// are.
 fn words(rt: &HostRuntime) -> Result<Vec<String>, NoMemory> {
     match env::args(rt) {
         Ok(args) => Ok(args.skip(1).collect(rt.alloc())?),

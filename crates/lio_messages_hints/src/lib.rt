@@ -1,5 +1,5 @@
-//! What is wrong with a line of a script that is none of the forms, or with an entry of a policy that
-//! breaks a rule, and how to mend it. What a hint says has no contract; rows show it.
+//! What is wrong with a line of a script that is none of the forms, or with an entry of a policy
+//! that breaks a rule, and how to mend it. What a hint says has no contract; rows show it.
 #![tactic(auto)]
 
 mod bytes;

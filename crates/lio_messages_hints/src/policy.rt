@@ -75,8 +75,9 @@ pub(crate) fn told_three(
     told_by(message)
 }
 
-/// What is wrong with an entry of a policy's text that breaks a rule, and how to mend it; none where
-/// nothing is found. Entry 0 is the document; principals, channels, inputs and tasks follow from 1.
+/// What is wrong with an entry of a policy's text that breaks a rule, and how to mend it; none
+/// where nothing is found. Entry 0 is the document; principals, channels, inputs and tasks follow
+/// from 1.
 pub fn policy_mistake(alloc: Global, bytes: &[u8], rule: u32, entry: u32) -> Found {
     match rule {
         1 => document_mistake(alloc, bytes),

@@ -146,7 +146,8 @@ impl Want {
         }
     }
 
-    /// Whether it is met by values of a kind; no kind is that of counts, and none tells what is pure.
+    /// Whether it is met by values of a kind; no kind is that of counts, and none tells what is
+    /// pure.
     fn is_met_by(self, kind: Kind) -> bool {
         match self {
             Want::Bound => true,

@@ -162,8 +162,8 @@ fn trouble_of<S: Store>(
 }
 
 /// What the files that the words name say of a refusal, and, where a history stops, what was to be
-/// run. They are read once more, and stay as they are; where they can't be, nothing beyond the answer
-/// is known.
+/// run. They are read once more, and stay as they are; where they can't be, nothing beyond the
+/// answer is known.
 pub(crate) fn refusal_detail<S: Store>(
     alloc: Global,
     files: &impl Files,

@@ -1,5 +1,5 @@
-//! What is printed of a refusal of a program: the answer, what was refused and where, and how to mend
-//! it. What it says has no contract; rows show it.
+//! What is printed of a refusal of a program: the answer, what was refused and where, and how to
+//! mend it. What it says has no contract; rows show it.
 #![tactic(auto)]
 
 mod again;

@@ -5,8 +5,8 @@ use lio_clauses::NoMemory;
 use lio_messages_hints::{Message, Piece};
 use std::alloc::Global;
 
-/// A line at which a history or a view stops, with its end: what stands there, where it isn't missing,
-/// and what should or could, where that is known.
+/// A line at which a history or a view stops, with its end: what stands there, where it isn't
+/// missing, and what should or could, where that is known.
 #[derive(Drop)]
 pub struct Stop {
     found: Option<Vec<u8>>,
@@ -105,8 +105,8 @@ fn history_mistake(found: &[u8], has_end: bool) -> &'static str {
     }
 }
 
-/// What is wrong with a line of a view, which has an end or not; the line that could stand there may
-/// be the same but for a content.
+/// What is wrong with a line of a view, which has an end or not; the line that could stand there
+/// may be the same but for a content.
 fn view_mistake(found: &[u8], has_end: bool, expected: Option<&[u8]>) -> &'static str {
     match (found, has_end) {
         ([], true) => {

@@ -1,5 +1,5 @@
-//! Checks that a file is what an observer sees of a run, by the policy, the script and the inputs that
-//! the observer sees, and says how many lines it has.
+//! Checks that a file is what an observer sees of a run, by the policy, the script and the inputs
+//! that the observer sees, and says how many lines it has.
 #![tactic(auto)]
 
 ghost use Rattle.std.specs.Prelude.{◌≡◌, ◌≤◌};
@@ -18,7 +18,8 @@ use std::fs::Files;
 use std::process::ExitCode;
 use std::{env, io};
 
-/// The words after the program's name. Words that can't be had as text are wrong words, as none are.
+/// The words after the program's name. Words that can't be had as text are wrong words, as none
+/// are.
 fn words(rt: &HostRuntime) -> Result<Vec<String>, NoMemory> {
     match env::args(rt) {
         Ok(args) => Ok(args.skip(1).collect(rt.alloc())?),

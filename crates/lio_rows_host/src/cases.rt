@@ -55,9 +55,9 @@ pub(crate) enum Block<'t> {
     Case(Case<'t>),
 }
 
-/// The program that a case is of.
+/// What a case is of.
 #[derive(Clone, Copy, PartialEq, Eq)]
-pub(crate) enum Program {
+pub(crate) enum Kind {
     /// The host.
     Host,
     /// The host over futures.
@@ -72,10 +72,10 @@ pub(crate) enum Program {
     Table,
 }
 
-/// What a case shares with those before it: its program, its policy and its script.
+/// What a case shares with those before it: its kind, its policy and its script.
 #[derive(Clone, Copy)]
 pub(crate) struct Setting<'c> {
-    pub program: Program,
+    pub kind: Kind,
     pub policy: &'c str,
     pub script: &'c str,
 }
@@ -84,7 +84,7 @@ impl<'c> Setting<'c> {
     /// What the first case has.
     pub fn new() -> Setting<'c> {
         Setting {
-            program: Program::Host,
+            kind: Kind::Host,
             policy: "",
             script: "",
         }
@@ -107,7 +107,9 @@ impl<'c> Setting<'c> {
         let mut setting = self;
         for part in &case.parts {
             match part.word {
-                "program" => setting.program = program_named(part.about),
+                "program" => {
+                    setting.kind = kind_named(part.about).unwrap_or(Kind::Host);
+                }
                 "policy" => setting.policy = part.text.as_str(),
                 "script" => setting.script = part.text.as_str(),
                 _ => {}
@@ -117,15 +119,16 @@ impl<'c> Setting<'c> {
     }
 }
 
-/// The program with a name: the host, where it is none of the others.
-fn program_named(name: &str) -> Program {
+/// The kind with a name, if there is one.
+pub(crate) fn kind_named(name: &str) -> Option<Kind> {
     match name {
-        "futures" => Program::Futures,
-        "observer" => Program::Observer,
-        "polls" => Program::Polls,
-        "seats" => Program::Seats,
-        "table" => Program::Table,
-        _ => Program::Host,
+        "host" => Some(Kind::Host),
+        "futures" => Some(Kind::Futures),
+        "observer" => Some(Kind::Observer),
+        "polls" => Some(Kind::Polls),
+        "seats" => Some(Kind::Seats),
+        "table" => Some(Kind::Table),
+        _ => None,
     }
 }
 

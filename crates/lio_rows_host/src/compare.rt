@@ -1,6 +1,6 @@
 //! What a case says, beside what its program did.
 
-use crate::cases::{Case, Part};
+use crate::cases::{Case, Part, kind_named};
 use crate::found::Found;
 use crate::line::Differences;
 use lio_clauses::NoMemory;
@@ -67,7 +67,8 @@ fn see_number(found: &mut Differences, part: &Part<'_>) {
 /// Compares a part of a case with what its program did.
 fn compare_part(found: &mut Differences, part: &Part<'_>, did: &Found, store: &MemStore) {
     match part.word {
-        "program" | "policy" | "script" | "input" | "words" | "cut_each" | "same" => {}
+        "program" if kind_named(part.about).is_some() => {}
+        "policy" | "script" | "input" | "words" | "cut_each" | "same" => {}
         "again" | "seen" => {}
         "cut" | "byte" | "fail" | "failsay" | "trouble" | "times" => see_number(found, part),
         "often" | "held" => see_number(found, part),
@@ -109,8 +110,8 @@ fn compare_unsaid(found: &mut Differences, case: &Case<'_>, did: &Found) {
     }
 }
 
-/// What is printed behind the name of a case: each part that doesn't hold, and what was found in its
-/// place; nothing where all hold.
+/// What is printed behind the name of a case: each part that doesn't hold, and what was found in
+/// its place; nothing where all hold.
 pub(crate) fn compare(
     alloc: Global,
     case: &Case<'_>,

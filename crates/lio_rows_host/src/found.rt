@@ -1,7 +1,7 @@
 //! What a program did with a case.
 
 use lio_clauses::NoMemory;
-use lio_host_main::HostStatus;
+use lio_front::Status;
 use std::alloc::Global;
 
 /// What a program did with a case.
@@ -68,7 +68,7 @@ impl Found {
     }
 
     /// What an answer comes to in whose place no run was made.
-    pub fn refused(alloc: Global, status: HostStatus) -> Result<Found, NoMemory> {
+    pub fn refused(alloc: Global, status: Status) -> Result<Found, NoMemory> {
         let number = status.number();
         let text = format!(in alloc; "{status}");
         drop(status);
@@ -77,7 +77,7 @@ impl Found {
 
     /// What is told of a run that was made.
     pub fn told(alloc: Global, tells: String) -> Result<Found, NoMemory> {
-        let mut found = Found::refused(alloc, HostStatus::Done)?;
+        let mut found = Found::refused(alloc, Status::Done)?;
         found.tells = tells;
         Ok(found)
     }

@@ -8,7 +8,8 @@ use crate::store::{say_of, store_of};
 use lio_async_main::{CoopOutcome, coop_main};
 use lio_clauses::NoMemory;
 use lio_events::Journal;
-use lio_host_main::{HostStatus, Outcome, host_main};
+use lio_front::Status;
+use lio_host_main::{Outcome, host_main};
 use lio_messages_refusals::{Program, Record, Texts, futures_words};
 use lio_outside::{MemSay, MemStore};
 use lio_workers::OpenGate;
@@ -35,7 +36,7 @@ fn words_of_host(
 /// What the host answers, where it isn't this answer with this journal.
 fn otherwise(
     alloc: Global,
-    status: &HostStatus,
+    status: &Status,
     journal: &Journal,
     outcome: &Outcome,
 ) -> Result<Option<String>, NoMemory> {
@@ -53,11 +54,11 @@ fn add_host<R: AllocGlobal + Threads + Wait + Sync>(
     case: &Case<'_>,
     setting: Setting<'_>,
     words: &[String],
-    status: &HostStatus,
+    status: &Status,
     journal: &Journal,
     found: &mut Found,
 ) -> Result<(), NoMemory> {
-    if let HostStatus::BadWords = status {
+    if let Status::BadWords = status {
         return Ok(());
     }
     let alloc = rt.alloc();
@@ -79,7 +80,7 @@ fn add_host<R: AllocGlobal + Threads + Wait + Sync>(
 fn found_of(
     alloc: Global,
     case: &Case<'_>,
-    status: &HostStatus,
+    status: &Status,
     journal: &Journal,
     words: &[String],
     texts: Texts<'_>,
@@ -88,7 +89,7 @@ fn found_of(
     let mut found = Found::new(alloc, format!(in alloc; "{status}")?, status.number());
     found.says = says(alloc, case, Program::Futures, status, words, texts)?;
     found.said = Vec::from_slice(alloc, say.said())?;
-    found.may_say = matches!(status, HostStatus::Done);
+    found.may_say = matches!(status, Status::Done);
     found.entries = journal.entries().len() as u64;
     Ok(found)
 }

@@ -5,8 +5,8 @@ use std::sync::atomic::{AtomicU64, Ordering};
 use std::thread;
 
 /// A gate that notes of which of the first 64 tickets and of the first 64 tasks it is told, and how
-/// often it is told of a turn. Who comes first stops at it until another comes, but for so many looks
-/// at most.
+/// often it is told of a turn. Who comes first stops at it until another comes, but for so many
+/// looks at most.
 #[derive(Drop)]
 pub(crate) struct NotingGate {
     looks: u64,

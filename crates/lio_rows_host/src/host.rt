@@ -7,7 +7,8 @@ use crate::says::says;
 use crate::store::{lines_of, say_of};
 use lio_clauses::NoMemory;
 use lio_events::Journal;
-use lio_host_main::{HostStatus, Outcome, host_main};
+use lio_front::Status;
+use lio_host_main::{Outcome, host_main};
 use lio_messages_notes::{Source, notes_text, troubles_of};
 use lio_messages_refusals::{Program, Record, Texts};
 use lio_outside::{MemSay, MemStore};
@@ -57,7 +58,7 @@ fn found_of(
     found.says = says(alloc, case, Program::Host, status, words, texts)?;
     found.said = Vec::from_slice(alloc, say.said())?;
     found.entries = outcome.journal.entries().len() as u64;
-    if let HostStatus::Done = status {
+    if let Status::Done = status {
         found.may_say = true;
         if case.part("notes").is_some() {
             found.notes = notes(alloc, &outcome.job, &outcome.journal, texts.script)?;
@@ -97,8 +98,8 @@ fn otherwise(
 ) -> Result<Option<String>, NoMemory> {
     let status = &outcome.status;
     match status {
-        HostStatus::Done if say.said() == said => Ok(None),
-        HostStatus::Done => Ok(Some(String::from_str(alloc, "another summary")?)),
+        Status::Done if say.said() == said => Ok(None),
+        Status::Done => Ok(Some(String::from_str(alloc, "another summary")?)),
         _ => Ok(Some(format!(in alloc; "{status}")?)),
     }
 }

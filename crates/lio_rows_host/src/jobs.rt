@@ -1,7 +1,7 @@
 //! The jobs that words name.
 
-use lio_front::read_command;
-use lio_host_main::{HostStatus, Loaded, Order, prepare_order};
+use lio_front::{Status, read_command};
+use lio_host_main::{Loaded, Order, prepare_order};
 use lio_outside::MemStore;
 use std::alloc::Global;
 
@@ -22,10 +22,10 @@ pub(crate) fn host_job(
     alloc: Global,
     words: &[String],
     store: &mut MemStore,
-) -> Result<Loaded, HostStatus> {
+) -> Result<Loaded, Status> {
     match read_command(words) {
         Some(command) => Ok(loaded(prepare_order(alloc, store, command)?)),
-        None => Err(HostStatus::BadWords),
+        None => Err(Status::BadWords),
     }
 }
 
@@ -34,9 +34,9 @@ pub(crate) fn futures_job(
     alloc: Global,
     words: &[String],
     store: &mut MemStore,
-) -> Result<Loaded, HostStatus> {
+) -> Result<Loaded, Status> {
     match lio_async_main::read_words(words) {
         Some(command) => Ok(loaded(prepare_order(alloc, store, command)?)),
-        None => Err(HostStatus::BadWords),
+        None => Err(Status::BadWords),
     }
 }

@@ -1,5 +1,5 @@
-//! Runs worked cases of the three programs, each over a store in memory, and prints one line a case:
-//! its name, and behind it each part that doesn't hold, with what was found in its place.
+//! Runs worked cases of the three programs, each over a store in memory, and prints one line a
+//! case: its name, and behind it each part that doesn't hold, with what was found in its place.
 #![tactic(auto)]
 
 mod blocks;

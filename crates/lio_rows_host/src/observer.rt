@@ -5,8 +5,9 @@ use crate::found::Found;
 use crate::says::says;
 use crate::store::say_of;
 use lio_clauses::NoMemory;
+use lio_front::Status;
 use lio_messages_refusals::{Program, Record, Texts};
-use lio_observe_main::{Claim, ObserveStatus, load_claim, observe_main, read_words};
+use lio_observe_main::{Claim, load_claim, observe_main, read_words};
 use lio_outside::{MemSay, MemStore};
 use std::alloc::Global;
 
@@ -20,7 +21,7 @@ fn claim_of(alloc: Global, store: &mut MemStore, words: &[String]) -> Option<Cla
 fn found_of(
     alloc: Global,
     case: &Case<'_>,
-    status: &ObserveStatus,
+    status: &Status,
     words: &[String],
     texts: Texts<'_>,
     say: &MemSay,

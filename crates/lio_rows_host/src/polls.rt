@@ -1,5 +1,5 @@
-//! Cases of the future of rounds, or of the stream of a view where the words name one: each is polled
-//! by hand, by a task that notes whether it was woken.
+//! Cases of the future of rounds, or of the stream of a view where the words name one: each is
+//! polled by hand, by a task that notes whether it was woken.
 
 use crate::cases::Case;
 use crate::found::Found;
@@ -113,8 +113,8 @@ fn poll_stream(
     }
 }
 
-/// What is told of the stream of what an observer sees of a job's rounds, beside the lines that it is
-/// to see: each poll until it has ended, and one behind it.
+/// What is told of the stream of what an observer sees of a job's rounds, beside the lines that it
+/// is to see: each poll until it has ended, and one behind it.
 fn stream_tells(
     alloc: Global,
     task: &MockTask,

@@ -1,6 +1,6 @@
 //! Runs a case by its program, and compares.
 
-use crate::cases::{Case, Program, Setting};
+use crate::cases::{Case, Kind, Setting};
 use crate::compare::compare;
 use crate::found::Found;
 use crate::store::{store_of, words_of};
@@ -22,15 +22,15 @@ fn run<R>(
 where
     R: AllocGlobal + RandomSource + Threads + Wait + Sync,
 {
-    let words = words_of(rt.alloc(), case, setting.program)?;
+    let words = words_of(rt.alloc(), case, setting.kind)?;
     let words = words.as_slice();
-    match setting.program {
-        Program::Host => host::run(rt, case, setting, words, store),
-        Program::Futures => futures::run(rt, case, setting, words, store),
-        Program::Observer => observer::run(rt.alloc(), case, setting, words, store),
-        Program::Polls => polls::run(rt, case, words, store),
-        Program::Seats => seats::run(rt.alloc(), words, store),
-        Program::Table => tables::run(rt, words, store),
+    match setting.kind {
+        Kind::Host => host::run(rt, case, setting, words, store),
+        Kind::Futures => futures::run(rt, case, setting, words, store),
+        Kind::Observer => observer::run(rt.alloc(), case, setting, words, store),
+        Kind::Polls => polls::run(rt, case, words, store),
+        Kind::Seats => seats::run(rt.alloc(), words, store),
+        Kind::Table => tables::run(rt, words, store),
     }
 }
 
@@ -53,8 +53,8 @@ where
     found
 }
 
-/// What is printed behind the name of a case that is run so often: that of the first time that a part
-/// doesn't hold.
+/// What is printed behind the name of a case that is run so often: that of the first time that a
+/// part doesn't hold.
 fn differences_often<R>(
     rt: &R,
     case: &Case<'_>,
@@ -73,8 +73,8 @@ where
     differences_under(rt, case, setting)
 }
 
-/// What is printed behind the name of a case, also where it cuts the policy at each place before its
-/// last brace: that of the first cut under which a part doesn't hold.
+/// What is printed behind the name of a case, also where it cuts the policy at each place before
+/// its last brace: that of the first cut under which a part doesn't hold.
 pub(crate) fn differences<R>(
     rt: &R,
     case: &Case<'_>,

@@ -1,5 +1,5 @@
-//! Cases of a table of nodes with two seats: the second holds the node of the only task, which the first
-//! wants, and gives it back.
+//! Cases of a table of nodes with two seats: the second holds the node of the only task, which the
+//! first wants, and gives it back.
 ghost use Rattle.std.specs.Prelude.{◌≡◌, ◌^◌, [], All, IfOk};
 ghost use Rattle.lio_events.specs.Printable.{IsPrintable};
 ghost use Rattle.lio_start.specs.Job.{first_of as start_of};
@@ -138,8 +138,8 @@ fn push_turn_beside(
     }
 }
 
-/// What the turns of a seat came to, first while a second seat held the task's node and then once it
-/// had given it back. The second seat is split off, and joined again.
+/// What the turns of a seat came to, first while a second seat held the task's node and then once
+/// it had given it back. The second seat is split off, and joined again.
 fn turns_beside(
     alloc: Global,
     table: &Table,
@@ -216,8 +216,8 @@ fn tells(alloc: Global, job: &Job) -> Result<Found, NoMemory> {
 }
 
 /// What is told of a case over a store. A turn of a task whose node another seat holds is told Busy
-/// and draws no ticket; once the node is given back, the task takes its turns until it is over, and a
-/// node with no task is over.
+/// and draws no ticket; once the node is given back, the task takes its turns until it is over, and
+/// a node with no task is over.
 pub(crate) fn run(
     alloc: Global,
     words: &[String],

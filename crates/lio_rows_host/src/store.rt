@@ -1,6 +1,6 @@
 //! The store of a case, and its words.
 
-use crate::cases::{Case, Part, Program, Setting};
+use crate::cases::{Case, Part, Kind, Setting};
 use lio_clauses::NoMemory;
 use lio_outside::{MemSay, MemStore};
 use std::alloc::Global;
@@ -119,10 +119,10 @@ pub(crate) fn lines_of(alloc: Global, text: &str) -> Result<Vec<String>, NoMemor
 pub(crate) fn words_of(
     alloc: Global,
     case: &Case<'_>,
-    program: Program,
+    kind: Kind,
 ) -> Result<Vec<String>, NoMemory> {
-    let usual = match program {
-        Program::Observer => "p.json\ns.lio\nv\nTrue %% True\n",
+    let usual = match kind {
+        Kind::Observer => "p.json\ns.lio\nv\nTrue %% True\n",
         _ => "p.json\ns.lio\n",
     };
     lines_of(alloc, case.text("words").unwrap_or(usual))

@@ -1,6 +1,6 @@
-//! Cases of a table of nodes at which two threads take turns, each with a seat of its own, until each
-//! finds no task that can take one; the joined seat takes those that are left. That both threads take
-//! turns isn't told.
+//! Cases of a table of nodes at which two threads take turns, each with a seat of its own, until
+//! each finds no task that can take one; the joined seat takes those that are left. That both
+//! threads take turns isn't told.
 ghost use Rattle.std.specs.Prelude.{◌≡◌, ◌^◌, ◌<◌, ◌≤◌, [], All, IfOk, length};
 ghost use Rattle.lio_calculus_logs.specs.Journals.{AreMergeable};
 ghost use Rattle.lio_config.specs.Logs.{log_in};

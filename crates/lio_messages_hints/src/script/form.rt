@@ -223,7 +223,7 @@ pub(crate) fn late_comment(alloc: Global, word: Word<'_>) -> Found {
 }
 
 /// A word behind a form.
-fn too_many(alloc: Global, form: &Form, first: Word<'_>, word: Word<'_>) -> Found {
+fn too_many<'l>(alloc: Global, form: &Form, first: Word<'l>, word: Word<'l>) -> Found {
     if word.text.starts_with(b"#") || word.text.starts_with(b"//") {
         return late_comment(alloc, word);
     }

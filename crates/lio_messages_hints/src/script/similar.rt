@@ -135,7 +135,8 @@ fn is_near(one: &[u8], other: &[u8]) -> bool {
     }
 }
 
-/// The first word of a form that was meant by a word, if one is the same but for upper-case letters.
+/// The first word of a form that was meant by a word, if one is the same but for upper-case
+/// letters.
 pub(crate) fn same_word(word: &[u8]) -> Option<Keyword> {
     for keyword in WORDS {
         if are_same(word, keyword.word()) {
