@@ -298,7 +298,8 @@ where
     let number = expected.about.as_str().parse::<u8>()?;
     let mut store = store(rt.alloc(), case, source)?;
     let mut say = MemSay::new(rt.alloc(), failing(rt.alloc(), case, "failsay")?);
-    let exit = respond(rt, words, &mut store, &mut say);
+    let (status, exit) = respond(rt, words, &mut store, &mut say);
+    drop(status);
     drop(store);
     drop(say);
     Ok(exit == ExitCode::from(number))

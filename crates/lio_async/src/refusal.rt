@@ -84,7 +84,7 @@ pub fn print_refusal<R: AllocGlobal + Files + Eprint, S: Store>(
     rt: &R,
     words: &[String],
     store: &mut S,
-    status: HostStatus,
+    status: &HostStatus,
 )
     ensures files { S.holds store.new ≡ S.holds store.old }
     ensures count { S.faults store.old ≤ S.faults store.new }
@@ -94,9 +94,9 @@ pub fn print_refusal<R: AllocGlobal + Files + Eprint, S: Store>(
     }
     let alloc = rt.alloc();
     let host = host_words(alloc, words).unwrap_or(Vec::new(alloc));
-    let detail = refusal_detail(alloc, rt, store, &status, host.as_slice(), &None);
+    let detail = refusal_detail(alloc, rt, store, status, host.as_slice(), &None);
     // A refusal that can't be printed still has its exit status.
-    let _ = match refusal_text(alloc, &status, words, &detail) {
+    let _ = match refusal_text(alloc, status, words, &detail) {
         Ok(text) => eprintln!(rt; "{text}"),
         Err(_) => eprintln!(rt; "lio_async: {status}"),
     };

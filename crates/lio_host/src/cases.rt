@@ -336,7 +336,8 @@ fn ends_as_said<R: AllocGlobal + Files + Eprint + Threads + Wait + Sync>(
     let number = expected.about.as_str().parse::<u8>()?;
     let mut store = store(rt.alloc(), case, policy, script)?;
     let mut say = MemSay::new(rt.alloc(), failing(rt.alloc(), case, "failsay")?);
-    let exit = respond(rt, words, &mut store, &mut say, &OpenGate);
+    let (status, exit) = respond(rt, words, &mut store, &mut say, &OpenGate);
+    drop(status);
     drop(store);
     drop(say);
     Ok(exit == ExitCode::from(number))

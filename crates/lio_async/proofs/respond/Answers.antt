@@ -16,7 +16,6 @@ returns g c =
       after = outside g.S.Store.holds g.S.Store.faults g.W.Say.said g.W.Say.faults c.coop_main-status.new.store c.coop_main-status.new.say;
       journal = journal;
     } in record {
-      status = c.coop_main-status.result.status;
       journal = journal;
       says = says-at_last call c.coop_main-status.result.status (g.S.Store.holds c.print_refusal.new.store) (g.S.Store.faults c.print_refusal.new.store) c.print_refusal.ensures.files c.coop_main-status.ensures.count
           c.print_refusal.ensures.count c.coop_main-status.ensures.says;

@@ -15,8 +15,7 @@ returns g c =
       after = outside g.S.Store.holds g.S.Store.faults g.W.Say.said g.W.Say.faults c.host_main-status.new.store c.host_main-status.new.say;
       journal = journal;
     } in record {
-      status = c.host_main-status.result.status;
       journal = journal;
       says = says-at_last call c.host_main-status.result.status (g.S.Store.holds c.report.new.store) (g.S.Store.faults c.report.new.store) c.report.ensures.files c.host_main-status.ensures.count c.report.ensures.count c.host_main-status.ensures.says;
-      exit_is = c.exit_code.ensures;
+      exit_is = c.exit_code-exit.ensures;
     }

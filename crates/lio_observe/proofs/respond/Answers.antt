@@ -18,10 +18,9 @@ returns-clause-ends g c =
     let whole : Call = later call told faults in
     let says : Says whole status = says-later call status told faults c.observe_main-status.ensures.count c.report.ensures.count c.observe_main-status.ensures.says in
     record {
-      status = status;
       says = says;
       follows = follows_verdict whole status whole.before.told refl says;
       completes = completes_verdict whole status whole.before.told refl says;
       bad_words = bad_words whole status says;
-      exit_is = c.exit_code.ensures;
+      exit_is = c.exit_code-exit.ensures;
     }
