@@ -42,8 +42,13 @@ fn exit_code(status: &CoopStatus) -> ExitCode
 }
 
 /// Runs the script that the words name, says on standard error what was refused, if anything was,
-/// and gives the exit status of the answer.
-fn respond<R, S: Store, W: Say>(rt: &R, words: &[String], store: &mut S, say: &mut W) -> ExitCode
+/// and gives the answer and its exit status.
+fn respond<R, S: Store, W: Say>(
+    rt: &R,
+    words: &[String],
+    store: &mut S,
+    say: &mut W,
+) -> (CoopStatus, ExitCode)
 where
     R: AllocGlobal + Files + Eprint + RandomSource + Threads + Wait + Sync,
     ensures { EndsWith (λ (journal : List Entry). record {
@@ -51,13 +56,14 @@ where
       before = outside S.holds S.faults W.said W.faults store.old say.old;
       after = outside S.holds S.faults W.said W.faults store.new say.new;
       journal = journal;
-    }) (exit_status result) }
+    }) result.0 (exit_status result.1) }
 {
     let CoopOutcome { status, journal } = coop_main(rt, rt.alloc(), words, store, say);
     // Giving back a long journal piece by piece would take a good part of the run.
     mem::forget(journal);
+    let exit = exit_code(&status);
     print_refusal(rt, Program::Futures, words, store, &status, &None);
-    exit_code(&status)
+    (status, exit)
 }
 
 /// The answer where there is no memory for the words themselves.
@@ -72,5 +78,7 @@ fn main(rt: HostRuntime) -> ExitCode {
     };
     let mut store = RealStore::new(rt.alloc(), &rt);
     let mut say = RealSay::new(&rt);
-    respond(&rt, words.as_slice(), &mut store, &mut say)
+    let (status, exit) = respond(&rt, words.as_slice(), &mut store, &mut say);
+    drop(status);
+    exit
 }

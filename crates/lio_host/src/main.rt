@@ -108,14 +108,14 @@ fn report<R: AllocGlobal + Files + Eprint, S: Store>(
 }
 
 /// Runs the script that the words name, says on standard error what was refused or went wrong, if
-/// anything was or did, and gives the exit status of the answer.
+/// anything was or did, and gives the answer and its exit status.
 fn respond<R, S: Store, W: Say, G: Gate + Sync>(
     rt: &R,
     words: &[String],
     store: &mut S,
     say: &mut W,
     gate: &G,
-) -> ExitCode
+) -> (HostStatus, ExitCode)
 where
     R: AllocGlobal + Files + Eprint + Threads + Wait + Sync,
     ensures { EndsWith (λ (journal : List Entry). record {
@@ -123,7 +123,7 @@ where
       before = outside S.holds S.faults W.said W.faults store.old say.old;
       after = outside S.holds S.faults W.said W.faults store.new say.new;
       journal = journal;
-    }) (exit_status result) }
+    }) result.0 (exit_status result.1) }
 {
     let Outcome {
         status,
@@ -133,7 +133,8 @@ where
     report(rt, words, store, &status, &job, &journal);
     // Giving back a long journal piece by piece would take a good part of the run.
     mem::forget(journal);
-    exit_code(&status)
+    let exit = exit_code(&status);
+    (status, exit)
 }
 
 /// The answer where there is no memory for the words themselves.
@@ -148,5 +149,7 @@ fn main(rt: HostRuntime) -> ExitCode {
     };
     let mut store = RealStore::new(rt.alloc(), &rt);
     let mut say = RealSay::new(&rt);
-    respond(&rt, words.as_slice(), &mut store, &mut say, &OpenGate)
+    let (status, exit) = respond(&rt, words.as_slice(), &mut store, &mut say, &OpenGate);
+    drop(status);
+    exit
 }

@@ -158,9 +158,8 @@ IsFault call status = Failed call.before call.after status
 pub record Follows (call : Call) (status : Status) (files : FileMap) : Type 0 where
   pub answer : (status ≡ answer_of (verdict files call.words)) ⊎ ((status ≡ NoMemory) ⊎ IsFault call status)
 
--- a call ends the program with an exit status: that of an answer that says of the call, with some journal, what it is to say
-pub record EndsWith (call : List Entry → Call) (exit : ℕ) : Type 0 where
-  pub status : Status
+-- a call ends the program with an answer and its exit status: the answer says of the call, with some journal, what it is to say
+pub record EndsWith (call : List Entry → Call) (status : Status) (exit : ℕ) : Type 0 where
   pub journal : List Entry
   pub says : Says (call journal) status
   pub exit_is : exit ≡ exit_status status

@@ -36,23 +36,24 @@ fn exit_code(status: &ObserveStatus) -> ExitCode
 }
 
 /// Checks what the words name, says on standard error what was refused, if anything was, and gives
-/// the exit status of the answer.
+/// the answer and its exit status.
 fn respond<R: AllocGlobal + Files + Eprint, S: Store, W: Say>(
     rt: &R,
     words: &[String],
     store: &mut S,
     say: &mut W,
-) -> ExitCode
+) -> (ObserveStatus, ExitCode)
     ensures files { S.holds store.new ≡ S.holds store.old }
     ensures ends { EndsWith (record {
       words = bytes_of_words words.now;
       before = outside S.holds S.faults W.said W.faults store.old say.old;
       after = outside S.holds S.faults W.said W.faults store.new say.new;
-    }) (exit_status result) }
+    }) result.0 (exit_status result.1) }
 {
     let status = observe_main(rt.alloc(), words, store, say);
     print_refusal(rt, Program::Observer, words, store, &status, &None);
-    exit_code(&status)
+    let exit = exit_code(&status);
+    (status, exit)
 }
 
 /// The answer where there is no memory for the words themselves.
@@ -67,5 +68,7 @@ fn main(rt: HostRuntime) -> ExitCode {
     };
     let mut store = RealStore::new(rt.alloc(), &rt);
     let mut say = RealSay::new(&rt);
-    respond(&rt, words.as_slice(), &mut store, &mut say)
+    let (status, exit) = respond(&rt, words.as_slice(), &mut store, &mut say);
+    drop(status);
+    exit
 }

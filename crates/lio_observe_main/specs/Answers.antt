@@ -94,9 +94,8 @@ StopsTheCheck claim (NotAView line) = IsWrongAt claim line
 StopsTheCheck claim NoMemory = Unit {0}
 StopsTheCheck claim other = ⊥
 
--- A call ends the program with the exit status of an answer, which says of the call what it is to say, and where the store tells its files follows the verdict and is Done where it has to be.
-pub record EndsWith (call : Call) (exit : ℕ) : Type 0 where
-  pub status : Status
+-- A call ends the program with an answer and its exit status: the answer says of the call what it is to say, and where the store tells its files follows the verdict and is Done where it has to be.
+pub record EndsWith (call : Call) (status : Status) (exit : ℕ) : Type 0 where
   pub says : Says call status
   pub follows : IfSome call.before.told (Follows call status)
   pub completes : IfSome call.before.told (Completes call status)

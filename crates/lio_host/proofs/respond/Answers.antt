@@ -1,5 +1,6 @@
 use Rattle.std.proofs.Common.{List}
 use Rattle.lio_values.specs.declared.entry.Entry.{Entry}
+use Rattle.lio_outside.specs.Call.{outside}
 use Rattle.lio_front.specs.Sorted.{bytes_of_words}
 use Rattle.lio_host_main.specs.Answers.{Call}
 use Rattle.lio_host_main.proofs.Says.{says-at_last}
@@ -10,22 +11,11 @@ returns g c =
     let journal : List Entry = c.host_main-status.result.journal in
     let call : Call = record {
       words = bytes_of_words c.args.words.now;
-      before = record {
-        told = g.S.Store.holds c.args.store.now;
-        faults = g.S.Store.faults c.args.store.now;
-        said = g.W.Say.said c.args.say.now;
-        say_faults = g.W.Say.faults c.args.say.now;
-      };
-      after = record {
-        told = g.S.Store.holds c.host_main-status.new.store;
-        faults = g.S.Store.faults c.host_main-status.new.store;
-        said = g.W.Say.said c.host_main-status.new.say;
-        say_faults = g.W.Say.faults c.host_main-status.new.say;
-      };
+      before = outside g.S.Store.holds g.S.Store.faults g.W.Say.said g.W.Say.faults c.args.store.now c.args.say.now;
+      after = outside g.S.Store.holds g.S.Store.faults g.W.Say.said g.W.Say.faults c.host_main-status.new.store c.host_main-status.new.say;
       journal = journal;
     } in record {
-      status = c.host_main-status.result.status;
       journal = journal;
       says = says-at_last call c.host_main-status.result.status (g.S.Store.holds c.report.new.store) (g.S.Store.faults c.report.new.store) c.report.ensures.files c.host_main-status.ensures.count c.report.ensures.count c.host_main-status.ensures.says;
-      exit_is = c.exit_code.ensures;
+      exit_is = c.exit_code-exit.ensures;
     }

@@ -4,7 +4,7 @@ use Rattle.lio_rounds.specs.Runs.{ran_of}
 use Rattle.lio_front.specs.Command.{Rounds}
 use Rattle.lio_front.specs.Sorted.{bytes_of_words, named}
 use Rattle.lio_host_main.specs.Order.{Order, order_of}
-use Rattle.lio_outside.specs.Call.{Outside}
+use Rattle.lio_outside.specs.Call.{Outside, outside}
 use Rattle.lio_front.specs.declared.status.Status.TheVariants.{BadWords, Done, NoMemory}
 use Rattle.lio_host_main.specs.Answers.{Call}
 use Rattle.lio_host_main.proofs.Finishes.{finishes-from}
@@ -15,7 +15,7 @@ use Rattle.lio_async_main.proofs.coop.answer.Goals as goal
 
 pub returns-in_default-clause-says : goal.returns-in_default-clause-says
 returns-in_default-clause-says g c =
-    let outside : Outside = record { told = g.S.Store.holds c.args.store.now; faults = g.S.Store.faults c.args.store.now; said = g.W.Say.said c.args.say.now; say_faults = g.W.Say.faults c.args.say.now } in
+    let outside : Outside = outside g.S.Store.holds g.S.Store.faults g.W.Say.said g.W.Say.faults c.args.store.now c.args.say.now in
     let call : Call = record { words = host_words (bytes_of_words c.args.words.now); before = outside; after = outside; journal = c.refused.result.journal } in
     says-same call BadWords c.refused.result.status c.refused.ensures.status
     (inl (none-commanded call.words c.in_default.ensures.command, record { files = refl; said = refl; journal = c.refused.ensures.journal }))
@@ -26,8 +26,8 @@ finish_seen-finished-requires-clause-printable g c =
 
 pub returns-in-Ok-finished-clause-says : goal.returns-in-Ok-finished-clause-says
 returns-in-Ok-finished-clause-says g c =
-    let before : Outside = record { told = g.S.Store.holds c.args.store.now; faults = g.S.Store.faults c.args.store.now; said = g.W.Say.said c.args.say.now; say_faults = g.W.Say.faults c.args.say.now } in
-    let after : Outside = record { told = g.S.Store.holds c.finish_seen-finished.new.store; faults = g.S.Store.faults c.finish_seen-finished.new.store; said = g.W.Say.said c.finish_seen-finished.new.say; say_faults = g.W.Say.faults c.finish_seen-finished.new.say } in
+    let before : Outside = outside g.S.Store.holds g.S.Store.faults g.W.Say.said g.W.Say.faults c.args.store.now c.args.say.now in
+    let after : Outside = outside g.S.Store.holds g.S.Store.faults g.W.Say.said g.W.Say.faults c.finish_seen-finished.new.store c.finish_seen-finished.new.say in
     let call : Call = record { words = host_words (bytes_of_words c.args.words.now); before = before; after = after; journal = c.in-Ok-run_seen.both.0.journal } in
     let order : Order = order_of c.in-Ok.order in
     let ran : Ran = ran_of c.in-Ok.order.job.script c.in-Ok-run_seen.both.0 in
@@ -39,8 +39,8 @@ returns-in-Ok-finished-clause-says g c =
 
 pub returns-in-Err-finished-clause-says : goal.returns-in-Err-finished-clause-says
 returns-in-Err-finished-clause-says g c =
-    let before : Outside = record { told = g.S.Store.holds c.args.store.now; faults = g.S.Store.faults c.args.store.now; said = g.W.Say.said c.args.say.now; say_faults = g.W.Say.faults c.args.say.now } in
-    let after : Outside = record { told = g.S.Store.holds c.finish_seen-finished.new.store; faults = g.S.Store.faults c.finish_seen-finished.new.store; said = g.W.Say.said c.finish_seen-finished.new.say; say_faults = g.W.Say.faults c.finish_seen-finished.new.say } in
+    let before : Outside = outside g.S.Store.holds g.S.Store.faults g.W.Say.said g.W.Say.faults c.args.store.now c.args.say.now in
+    let after : Outside = outside g.S.Store.holds g.S.Store.faults g.W.Say.said g.W.Say.faults c.finish_seen-finished.new.store c.finish_seen-finished.new.say in
     let call : Call = record { words = host_words (bytes_of_words c.args.words.now); before = before; after = after; journal = c.unfinished.result.journal } in
     let order : Order = order_of c.in-Ok.order in
     let ran : Ran = ran_of c.in-Ok.order.job.script c.in-Ok-run_seen.both.0 in
@@ -55,8 +55,8 @@ returns-in-Err-finished-clause-says g c =
 
 pub returns-in-Err-clause-says : goal.returns-in-Err-clause-says
 returns-in-Err-clause-says g c =
-    let before : Outside = record { told = g.S.Store.holds c.args.store.now; faults = g.S.Store.faults c.args.store.now; said = g.W.Say.said c.args.say.now; say_faults = g.W.Say.faults c.args.say.now } in
-    let after : Outside = record { told = g.S.Store.holds c.prepare_order.new.store; faults = g.S.Store.faults c.prepare_order.new.store; said = g.W.Say.said c.args.say.now; say_faults = g.W.Say.faults c.args.say.now } in
+    let before : Outside = outside g.S.Store.holds g.S.Store.faults g.W.Say.said g.W.Say.faults c.args.store.now c.args.say.now in
+    let after : Outside = outside g.S.Store.holds g.S.Store.faults g.W.Say.said g.W.Say.faults c.prepare_order.new.store c.args.say.now in
     let call : Call = record { words = host_words (bytes_of_words c.args.words.now); before = before; after = after; journal = c.refused-in-Err.result.journal } in
     says-same call c.in-Err.status c.refused-in-Err.result.status c.refused-in-Err.ensures.status
     (says-refused call c.in-Err.status (record {
@@ -68,8 +68,8 @@ returns-in-Err-clause-says g c =
 
 pub returns-in-Err-run_seen-clause-says : goal.returns-in-Err-run_seen-clause-says
 returns-in-Err-run_seen-clause-says g c =
-    let before : Outside = record { told = g.S.Store.holds c.args.store.now; faults = g.S.Store.faults c.args.store.now; said = g.W.Say.said c.args.say.now; say_faults = g.W.Say.faults c.args.say.now } in
-    let after : Outside = record { told = g.S.Store.holds c.prepare_order.new.store; faults = g.S.Store.faults c.prepare_order.new.store; said = g.W.Say.said c.args.say.now; say_faults = g.W.Say.faults c.args.say.now } in
+    let before : Outside = outside g.S.Store.holds g.S.Store.faults g.W.Say.said g.W.Say.faults c.args.store.now c.args.say.now in
+    let after : Outside = outside g.S.Store.holds g.S.Store.faults g.W.Say.said g.W.Say.faults c.prepare_order.new.store c.args.say.now in
     let call : Call = record { words = host_words (bytes_of_words c.args.words.now); before = before; after = after; journal = c.refused-in-Err-run_seen.result.journal } in
     let order : Order = order_of c.in-Ok.order in
     says-same call NoMemory c.refused-in-Err-run_seen.result.status c.refused-in-Err-run_seen.ensures.status

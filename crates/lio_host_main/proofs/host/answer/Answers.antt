@@ -3,7 +3,7 @@ use Rattle.lio_calculus.specs.Run.{Ran}
 use Rattle.lio_rounds.specs.Runs.{ran_of}
 use Rattle.lio_front.specs.Sorted.{bytes_of_words, named}
 use Rattle.lio_host_main.specs.Order.{Order, order_of}
-use Rattle.lio_outside.specs.Call.{Outside}
+use Rattle.lio_outside.specs.Call.{Outside, outside}
 use Rattle.lio_host_main.specs.Answers.{Call}
 use Rattle.lio_front.specs.declared.status.Status.TheVariants.{Done}
 use Rattle.lio_host_main.proofs.Finishes.{finishes-from}
@@ -15,8 +15,8 @@ finish_run-finished-requires g c = c.in-Ok-run_order.ensures.run.keeps.printable
 
 pub returns-in-Ok-finished-clause-says : goal.returns-in-Ok-finished-clause-says
 returns-in-Ok-finished-clause-says g c =
-    let before : Outside = record { told = g.S.Store.holds c.args.store.now; faults = g.S.Store.faults c.args.store.now; said = g.W.Say.said c.args.say.now; say_faults = g.W.Say.faults c.args.say.now } in
-    let after : Outside = record { told = g.S.Store.holds c.finish_run-finished.new.store; faults = g.S.Store.faults c.finish_run-finished.new.store; said = g.W.Say.said c.finish_run-finished.new.say; say_faults = g.W.Say.faults c.finish_run-finished.new.say } in
+    let before : Outside = outside g.S.Store.holds g.S.Store.faults g.W.Say.said g.W.Say.faults c.args.store.now c.args.say.now in
+    let after : Outside = outside g.S.Store.holds g.S.Store.faults g.W.Say.said g.W.Say.faults c.finish_run-finished.new.store c.finish_run-finished.new.say in
     let call : Call = record { words = bytes_of_words c.args.words.now; before = before; after = after; journal = c.in-Ok-run_order.ran.journal } in
     let order : Order = order_of c.in-Ok.order in
     let ran : Ran = ran_of c.in-Ok.order.job.script c.in-Ok-run_order.ran in
@@ -26,8 +26,8 @@ returns-in-Ok-finished-clause-says g c =
 
 pub returns-in-Err-finished-clause-says : goal.returns-in-Err-finished-clause-says
 returns-in-Err-finished-clause-says g c =
-    let before : Outside = record { told = g.S.Store.holds c.args.store.now; faults = g.S.Store.faults c.args.store.now; said = g.W.Say.said c.args.say.now; say_faults = g.W.Say.faults c.args.say.now } in
-    let after : Outside = record { told = g.S.Store.holds c.finish_run-finished.new.store; faults = g.S.Store.faults c.finish_run-finished.new.store; said = g.W.Say.said c.finish_run-finished.new.say; say_faults = g.W.Say.faults c.finish_run-finished.new.say } in
+    let before : Outside = outside g.S.Store.holds g.S.Store.faults g.W.Say.said g.W.Say.faults c.args.store.now c.args.say.now in
+    let after : Outside = outside g.S.Store.holds g.S.Store.faults g.W.Say.said g.W.Say.faults c.finish_run-finished.new.store c.finish_run-finished.new.say in
     let call : Call = record { words = bytes_of_words c.args.words.now; before = before; after = after; journal = c.unfinished.result.journal } in
     let order : Order = order_of c.in-Ok.order in
     let ran : Ran = ran_of c.in-Ok.order.job.script c.in-Ok-run_order.ran in
@@ -39,8 +39,8 @@ returns-in-Err-finished-clause-says g c =
 
 pub returns-in-Err-clause-says : goal.returns-in-Err-clause-says
 returns-in-Err-clause-says g c =
-    let before : Outside = record { told = g.S.Store.holds c.args.store.now; faults = g.S.Store.faults c.args.store.now; said = g.W.Say.said c.args.say.now; say_faults = g.W.Say.faults c.args.say.now } in
-    let after : Outside = record { told = g.S.Store.holds c.prepare_order.new.store; faults = g.S.Store.faults c.prepare_order.new.store; said = g.W.Say.said c.args.say.now; say_faults = g.W.Say.faults c.args.say.now } in
+    let before : Outside = outside g.S.Store.holds g.S.Store.faults g.W.Say.said g.W.Say.faults c.args.store.now c.args.say.now in
+    let after : Outside = outside g.S.Store.holds g.S.Store.faults g.W.Say.said g.W.Say.faults c.prepare_order.new.store c.args.say.now in
     let call : Call = record { words = bytes_of_words c.args.words.now; before = before; after = after; journal = c.refused-in-Err.result.journal } in
     says-same call c.in-Err.status c.refused-in-Err.result.status c.refused-in-Err.ensures.status
     (says-refused call c.in-Err.status (record {
@@ -52,8 +52,8 @@ returns-in-Err-clause-says g c =
 
 pub returns-in-Err-run_order-clause-says : goal.returns-in-Err-run_order-clause-says
 returns-in-Err-run_order-clause-says g c =
-    let before : Outside = record { told = g.S.Store.holds c.args.store.now; faults = g.S.Store.faults c.args.store.now; said = g.W.Say.said c.args.say.now; say_faults = g.W.Say.faults c.args.say.now } in
-    let after : Outside = record { told = g.S.Store.holds c.prepare_order.new.store; faults = g.S.Store.faults c.prepare_order.new.store; said = g.W.Say.said c.args.say.now; say_faults = g.W.Say.faults c.args.say.now } in
+    let before : Outside = outside g.S.Store.holds g.S.Store.faults g.W.Say.said g.W.Say.faults c.args.store.now c.args.say.now in
+    let after : Outside = outside g.S.Store.holds g.S.Store.faults g.W.Say.said g.W.Say.faults c.prepare_order.new.store c.args.say.now in
     let call : Call = record { words = bytes_of_words c.args.words.now; before = before; after = after; journal = c.stopped.result.journal } in
     let order : Order = order_of c.in-Ok.order in
     says-same call c.in-Err-run_order.status c.stopped.result.status c.stopped.ensures.status
