@@ -69,12 +69,16 @@ fn future_tells(alloc: Global, task: &MockTask, job: &Job) -> Result<String, NoM
 struct Lines<'t> {
     text: &'t [u8],
     names: &'t Names,
+    /// The place of the next line among all, from 0.
+    place: u64,
 }
 
 impl Lines<'_> {
     /// Whether the next line is that of an entry.
     fn next_is(&mut self, alloc: Global, entry: &Entry) -> bool {
-        match read_seen(alloc, self.text, self.names, 0) {
+        let place = self.place;
+        self.place = place.saturating_add(1);
+        match read_seen(alloc, self.text, self.names, place) {
             Ok((expected, length)) => {
                 self.text = self.text.get(length..).unwrap_or(b"");
                 let same = expected == *entry;
@@ -129,6 +133,7 @@ fn stream_tells(
     let mut lines = Lines {
         text: seen.as_bytes(),
         names: &policy.names,
+        place: 0,
     };
     for _poll in 0..MOST_POLLS {
         if poll_stream(alloc, task, &mut stream, &mut lines, &mut text)? {

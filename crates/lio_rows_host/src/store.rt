@@ -1,6 +1,6 @@
 //! The store of a case, and its words.
 
-use crate::cases::{Case, Part, Kind, Setting};
+use crate::cases::{Case, Kind, Part, Setting};
 use lio_clauses::NoMemory;
 use lio_outside::{MemSay, MemStore};
 use std::alloc::Global;
