@@ -14,9 +14,9 @@ use Rattle.lio_events.specs.Views.{view}
 use Rattle.lio_events.proofs.ViewLemmas.{view-none, view-seen, view-unseen}
 use Rattle.lio_calculus.specs.Run.{Ran, run}
 use Rattle.lio_calculus.specs.Step.{Configuration}
-use Rattle.lio_calculus_logs.specs.Journals.{AreNumberedFrom}
-use Rattle.lio_calculus_logs.proofs.JournalLemmas.{numbered-rising}
-use Rattle.lio_calculus_rounds.specs.Rounds.{rounds}
+use Rattle.lio_calculus.specs.Journals.{AreNumberedFrom}
+use Rattle.lio_calculus.proofs.JournalLemmas.{numbered-rising}
+use Rattle.lio_calculus_runs.specs.Rounds.{rounds}
 use Rattle.lio_rounds.specs.MachineState.{MachineState}
 use Rattle.lio_rounds.specs.Runs.{RunsRounds}
 use Rattle.lio_async_rounds.specs.Laws.{IsFreshStream}

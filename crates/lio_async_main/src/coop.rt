@@ -15,7 +15,7 @@ use crate::running::{run_polled, seen_polled};
 use crate::words::read_words;
 use lio_clauses::NoMemory;
 use lio_events::Journal;
-use lio_events_fits::journal_fits;
+use lio_events_reading::journal_fits;
 use lio_host_main::{Order, finish_seen, prepare_order};
 use lio_labels::Label;
 use lio_outside::{Say, Store};

@@ -2,7 +2,7 @@
 
 ghost use Rattle.std.specs.Prelude.{◌≡◌, IfOk};
 ghost use Rattle.lio_events.specs.Views.{view as view_of};
-ghost use Rattle.lio_calculus_rounds.specs.WellFormed.{IsWellFormed};
+ghost use Rattle.lio_calculus_runs.specs.WellFormed.{IsWellFormed};
 ghost use Rattle.lio_start.specs.Job.{IsJob, first_of};
 ghost use Rattle.lio_rounds.specs.MachineParts.{machine_of};
 ghost use Rattle.lio_rounds.specs.Runs.{RunsRounds, ran_of};

@@ -1,12 +1,12 @@
 -- What a poll of the future says of what it gives.
-use Rattle.std.proofs.Common.{◌≡◌, sym, subst, Option, None, Some, Result, Ok, Err}
+use Rattle.std.proofs.Common.{sym, subst, Option, None, Some, Result, Ok, Err}
 use Rattle.futures.specs.Poll.{OnPending}
 use Rattle.futures.specs.declared.task.Poll.{Poll}
 use Rattle.futures.specs.declared.task.Poll.TheVariants.{Ready, Pending}
 use Rattle.lio_clauses.specs.declared.faults.NoMemory.{NoMemory}
 use Rattle.lio_rounds.specs.MachineParts.{MachineParts, machine_of}
 use Rattle.lio_rounds.specs.MachineState.{HasRun, MachineState}
-use Rattle.lio_calculus_rounds.specs.Rounds.{rounds_from}
+use Rattle.lio_calculus_runs.specs.Rounds.{rounds_from}
 use Rattle.lio_async_rounds.proofs.RoundLemmas.{rounds-on, rounds-still}
 use Rattle.lio_async_rounds.specs.RoundsFuture.{Gives, IsRunOut, MovesNone, Polls}
 

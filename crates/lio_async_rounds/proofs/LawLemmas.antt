@@ -1,16 +1,16 @@
 -- The laws of the future and of the stream over a machine that was just made.
-use Rattle.std.proofs.Common.{◌≡◌, ◌∙◌, refl, sym, ap, subst, ℕ, List, [], ◌∷◌, ◌++◌, length, drop, map, All, Option, None, Some, Result, Ok, Err}
+use Rattle.std.proofs.Common.{◌≡◌, ◌∙◌, sym, ap, subst, ℕ, List, [], ◌∷◌, ◌++◌, length, drop, map, All, Option, None, Some, Result, Ok, Err}
 use Rattle.std.proofs.lemmas.List.Elements.{All-head, All-tail}
 use Rattle.lio_clauses.specs.declared.faults.NoMemory.{NoMemory}
 use Rattle.lio_values.specs.declared.entry.Entry.{Entry}
 use Rattle.lio_events.specs.Views.{view}
 use Rattle.lio_calculus.specs.Run.{Ran, run}
 use Rattle.lio_calculus.specs.Step.{Configuration}
-use Rattle.lio_calculus_rounds.proofs.LowEndLemmas.{rounds_are_erased_rounds}
-use Rattle.lio_calculus_rounds.specs.Rounds.{rounds, rounds_from, tasks}
-use Rattle.lio_rounds.specs.MachineParts.{MachineParts, machine_of}
+use Rattle.lio_calculus_runs.proofs.LowEndLemmas.{rounds_are_erased_rounds}
+use Rattle.lio_calculus_runs.specs.Rounds.{rounds, rounds_from}
+use Rattle.lio_rounds.specs.MachineParts.{machine_of}
 use Rattle.lio_rounds.specs.MachineState.{HasRun, MachineState}
-use Rattle.lio_async_rounds.specs.Laws.{AreViewOf, FuturesGiveTheRun, IsFresh, StreamsYieldTheView, ran_by}
+use Rattle.lio_async_rounds.specs.Laws.{FuturesGiveTheRun, IsFresh, StreamsYieldTheView, ran_by}
 use Rattle.lio_async_rounds.specs.ViewStream.{Come, IsEntry, YieldsOf}
 
 -- what a fresh machine has run is the run of its rounds

@@ -5,11 +5,11 @@ use Rattle.lio_values.specs.declared.entry.Entry.{Entry}
 use Rattle.lio_calculus.specs.Run.{Ran}
 use Rattle.lio_calculus.specs.Step.{Configuration}
 use Rattle.lio_syntax.specs.Statements.{Procedure}
-use Rattle.lio_calculus_rounds.proofs.EndLemmas.{rounds_go_on}
-use Rattle.lio_calculus_rounds.proofs.OrderLaws.{rounds-end_from}
-use Rattle.lio_calculus_rounds.specs.Laws.{IsOrderOf}
-use Rattle.lio_calculus_rounds.specs.Round.{Round, born_in, followed, order_after, round}
-use Rattle.lio_calculus_rounds.specs.Rounds.{rounds_from, stepped}
+use Rattle.lio_calculus_runs.proofs.EndLemmas.{rounds_go_on}
+use Rattle.lio_calculus_runs.proofs.OrderLaws.{rounds-end_from}
+use Rattle.lio_calculus_runs.specs.RoundLaws.{IsOrderOf}
+use Rattle.lio_calculus_runs.specs.Round.{Round, born_in, followed, order_after, round}
+use Rattle.lio_calculus_runs.specs.Rounds.{rounds_from, stepped}
 use Rattle.lio_rounds.proofs.MachineRuns.{has_run-append, has_run-nothing, run-nothing}
 use Rattle.lio_rounds.proofs.RoundLemmas.{rounds-complete, rounds-last, rounds-more, rounds-none}
 use Rattle.lio_rounds.specs.MachineState.{HasRun, HasWalked, MachineState}

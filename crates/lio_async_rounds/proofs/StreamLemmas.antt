@@ -14,11 +14,11 @@ use Rattle.lio_values.specs.declared.entry.Entry.{Entry}
 use Rattle.lio_values.specs.Erasure.{erase_entry}
 use Rattle.lio_events.specs.Views.{is_visible, view}
 use Rattle.lio_events.proofs.ViewLemmas.{view-none, view-seen}
-use Rattle.lio_calculus_rounds.specs.Rounds.{IsComplete, rounds_from}
+use Rattle.lio_calculus_runs.specs.Rounds.{IsComplete, rounds_from}
 use Rattle.lio_rounds.specs.MachineParts.{MachineParts, machine_of}
 use Rattle.lio_rounds.specs.MachineState.{HasRun, MachineState}
 use Rattle.lio_async_rounds.specs.RoundsFuture.{MovesNone, MovesSome}
-use Rattle.lio_async_rounds.specs.ViewStream.{Come, Gave, GivesNext, Goes, HasCome, HasGiven, IsFound, IsLeft, IsUnseen, RunsMachine, Yields, YieldsOf, machine_in, waiting}
+use Rattle.lio_async_rounds.specs.ViewStream.{Come, Gave, GivesNext, HasCome, HasGiven, IsFound, IsLeft, IsUnseen, RunsMachine, Yields, YieldsOf, machine_in, waiting}
 use Rattle.lio_async_rounds.specs.declared.view_stream.ViewStream.{ViewStream}
 use Rattle.lio_async_rounds.proofs.RoundLemmas.{RunsOut, rounds-on, rounds-run_out, rounds-still}
 use Rattle.lio_async_rounds.proofs.ViewLemmas.{view-from}

@@ -1,12 +1,12 @@
 -- What the future gives and the stream yields of a machine that was just made.
-use Rattle.std.specs.Prelude.{◌≡◌, ℕ, List, [], All, Option, None, Some, Result, Ok, map}
+use Rattle.std.specs.Prelude.{◌≡◌, List, [], All, None, Some, Result, Ok, map}
 use Rattle.lio_clauses.specs.declared.faults.NoMemory.{NoMemory}
 use Rattle.lio_values.specs.declared.entry.Entry.{Entry}
 use Rattle.lio_events.specs.Views.{view}
 use Rattle.lio_calculus.specs.Run.{Ran, run}
 use Rattle.lio_calculus.specs.Sound.{IsSound}
-use Rattle.lio_calculus_rounds.specs.LowLaws.{RoundsSeenAs}
-use Rattle.lio_calculus_rounds.specs.Rounds.{IsComplete, rounds, tasks}
+use Rattle.lio_calculus_runs.specs.LowLaws.{RoundsSeenAs}
+use Rattle.lio_calculus_runs.specs.Rounds.{IsComplete, rounds, tasks}
 use Rattle.lio_rounds.specs.MachineParts.{MachineParts, machine_of}
 use Rattle.lio_rounds.specs.MachineState.{MachineState}
 use Rattle.lio_async_rounds.specs.RoundsFuture.{Gives}

@@ -1,10 +1,10 @@
 -- The rounds of a machine as a future: what it gives, and what each poll of it does.
-use Rattle.std.specs.Prelude.{◌≡◌, ◌≢◌, List, [], Option, None, Some, Result, Ok, Err}
+use Rattle.std.specs.Prelude.{◌≡◌, ◌≢◌, [], Option, None, Some, Result, Ok, Err}
 use Rattle.futures.specs.declared.task.Poll.{Poll}
 use Rattle.futures.specs.declared.task.Poll.TheVariants.{Ready, Pending}
 use Rattle.lio_clauses.specs.declared.faults.NoMemory.{NoMemory}
-use Rattle.lio_calculus_rounds.specs.Round.{round}
-use Rattle.lio_calculus_rounds.specs.Rounds.{IsComplete, rounds_from, stepped}
+use Rattle.lio_calculus_runs.specs.Round.{round}
+use Rattle.lio_calculus_runs.specs.Rounds.{IsComplete, rounds_from, stepped}
 use Rattle.lio_rounds.specs.MachineParts.{MachineParts, machine_of}
 use Rattle.lio_rounds.specs.MachineState.{HasRun, HasWalked, MachineState}
 

@@ -7,10 +7,10 @@ use Rattle.futures.specs.Runs.{Ends}
 use Rattle.lio_clauses.specs.declared.faults.NoMemory.{NoMemory}
 use Rattle.lio_values.specs.declared.entry.Entry.{Entry}
 use Rattle.lio_events.specs.Views.{is_visible, view}
-use Rattle.lio_calculus_rounds.specs.Laws.{IsOrderOf}
-use Rattle.lio_calculus_rounds.specs.Rounds.{rounds_from}
+use Rattle.lio_calculus_runs.specs.RoundLaws.{IsOrderOf}
+use Rattle.lio_calculus_runs.specs.Rounds.{rounds_from}
 use Rattle.lio_rounds.specs.MachineParts.{machine_of}
-use Rattle.lio_rounds.specs.MachineState.{HasRun, HasWalked, MachineState}
+use Rattle.lio_rounds.specs.MachineState.{HasRun, MachineState}
 use Rattle.lio_async_rounds.specs.RoundsFuture.{MovesNone, MovesSome}
 use Rattle.lio_async_rounds.specs.declared.view_stream.ViewStream.{ViewStream}
 

@@ -7,11 +7,11 @@ use Rattle.lio_events.specs.JournalText.{entry_text}
 use Rattle.lio_events.specs.Printable.{IsPrintable}
 use Rattle.lio_events_reading.specs.Lines.{IsActorOf}
 use Rattle.lio_calculus.specs.Step.{Configuration, Turn, step}
-use Rattle.lio_calculus_names.specs.Configuration.{NamesOnly}
-use Rattle.lio_calculus_names.proofs.Turns.{turn_names_only}
-use Rattle.lio_config.specs.declared.config.Config.{Config}
-use Rattle.lio_config.specs.Configuration.{configuration_of}
-use Rattle.lio_config.specs.Takes.{WouldShow}
+use Rattle.lio_calculus_runs.specs.Configuration.{NamesOnly}
+use Rattle.lio_calculus_runs.proofs.NamedTurns.{turn_names_only}
+use Rattle.lio_task.specs.declared.config.Config.{Config}
+use Rattle.lio_task.specs.Configuration.{configuration_of}
+use Rattle.lio_task.specs.Takes.{WouldShow}
 use Rattle.lio_audit.specs.Expected.{CouldGoOn, IsLineOf}
 use Rattle.lio_audit.proofs.ReplayLemmas.{IsSoFar}
 

@@ -1,11 +1,9 @@
 -- Which bytes are the history of a run.
-use Rattle.std.proofs.Common.{◌≡◌, ◌∙◌, sym, ap, subst, ℕ, ◌+◌, ◌<◌, ◌^◌, ◌⊎◌, inl, inr, true, true≢false, List, [], ◌∷◌, ◌++◌, length, length-append, append-nil, arith}
-use Rattle.lio_values.specs.declared.entry.Entry.{Entry}
+use Rattle.std.proofs.Common.{◌≡◌, ◌∙◌, sym, ap, subst, ℕ, ◌+◌, ◌<◌, ◌^◌, inl, inr, true, true≢false, List, [], ◌∷◌, ◌++◌, length, length-append, append-nil, arith}
 use Rattle.lio_events.specs.JournalText.{entry_text, journal_text}
 use Rattle.lio_calculus.specs.Run.{Ran}
-use Rattle.lio_calculus.specs.Sound.{IsSound}
 use Rattle.lio_calculus.specs.Step.{Configuration, can}
-use Rattle.lio_audit.specs.History.{BeginsTurn, CanGoOn, IsHistoryOf, Stops, StopsAt}
+use Rattle.lio_audit.specs.History.{BeginsTurn, CanGoOn, Stops}
 use Rattle.lio_audit.specs.Laws.{HistoryIsOfOneRun, HistoryStopsNowhere, StopsAtOneLine}
 use Rattle.lio_audit.proofs.MeetLemmas.{Meets, meet}
 use Rattle.lio_audit.proofs.TextLemmas.{text-some}

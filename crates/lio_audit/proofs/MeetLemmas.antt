@@ -1,14 +1,14 @@
 -- Two runs whose lines stand at the front of the same bytes.
-use Rattle.std.proofs.Common.{◌≡◌, ◌∙◌, refl, sym, ap, subst, ℕ, suc, ◌+◌, ◌<◌, ◌^◌, ◌⊎◌, inl, inr, true, List, [], ◌∷◌, ◌++◌, length, length-append, get_or, drop, append_assoc, Some, arith}
+use Rattle.std.proofs.Common.{◌≡◌, ◌∙◌, sym, ap, subst, ℕ, suc, ◌+◌, ◌<◌, ◌^◌, ◌⊎◌, inl, inr, true, List, [], ◌∷◌, ◌++◌, length, length-append, get_or, drop, append_assoc, Some, arith}
 use Rattle.std.proofs.lemmas.List.{append_cancel_left}
 use Rattle.lio_values.specs.declared.entry.Entry.{Entry}
 use Rattle.lio_events.specs.JournalText.{entry_text, journal_text}
 use Rattle.lio_calculus.specs.Run.{Ran, ran_after, run}
 use Rattle.lio_calculus.specs.Step.{Configuration, Turn, step}
 use Rattle.lio_calculus.proofs.LocalityLemmas.{step_changes_two_cells}
-use Rattle.lio_calculus_logs.specs.Journals.{actors}
+use Rattle.lio_calculus.specs.Journals.{actors}
 use Rattle.lio_audit.specs.History.{BeginsTurn}
-use Rattle.lio_audit.proofs.RunLemmas.{First, first, run-nothing, step-has_ticket, step-small}
+use Rattle.lio_audit.proofs.RunLemmas.{first, run-nothing, step-has_ticket, step-small}
 use Rattle.lio_audit.proofs.TextLemmas.{same-actor, text-some}
 
 -- they are one run, and the same is left behind them; or a turn after one of them is the next that the other took

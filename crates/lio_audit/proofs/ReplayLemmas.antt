@@ -12,21 +12,21 @@ use Rattle.lio_events.specs.Tickets.{AreBelow}
 use Rattle.lio_calculus.specs.Effect.{touches}
 use Rattle.lio_calculus.specs.Sound.{IsSound}
 use Rattle.lio_calculus.specs.Step.{Configuration, Turn, step}
-use Rattle.lio_calculus_names.specs.Configuration.{NamesOnly}
+use Rattle.lio_calculus_runs.specs.Configuration.{NamesOnly}
 use Rattle.lio_calculus.specs.Run.{Ran, run}
-use Rattle.lio_calculus_logs.specs.Journals.{actors, of_cell}
-use Rattle.lio_calculus_rounds.specs.Rounds.{IsComplete}
-use Rattle.lio_config.specs.declared.config.Config.{Config}
-use Rattle.lio_config.specs.Configuration.{configuration_of}
-use Rattle.lio_config.specs.Takes.{Steps}
-use Rattle.lio_config.specs.Logs.{Appends, AreFresh, IsLaterThanLogs, log_in}
-use Rattle.lio_config.proofs.LogLemmas.{fresh-log}
+use Rattle.lio_calculus.specs.Journals.{actors, of_cell}
+use Rattle.lio_calculus_runs.specs.Rounds.{IsComplete}
+use Rattle.lio_task.specs.declared.config.Config.{Config}
+use Rattle.lio_task.specs.Configuration.{configuration_of}
+use Rattle.lio_task.specs.Takes.{Steps}
+use Rattle.lio_task.specs.Logs.{Appends, AreFresh, IsLaterThanLogs, log_in}
+use Rattle.lio_task.proofs.LogLemmas.{fresh-log}
 use Rattle.lio_audit.specs.declared.fault.AuditFault.{AuditFault}
 use Rattle.lio_audit.specs.declared.fault.AuditFault.TheVariants.{NotARun, NoMemory}
 use Rattle.lio_audit.specs.History.{CanGoOn, IsHistoryOf, IsRunFrom, Says, StopsAt, most_history_bytes}
 use Rattle.lio_audit.specs.Replay.{LineEndsAt, Refuses, Stands, TakesLine}
 use Rattle.lio_calculus.proofs.LocalityLemmas.{step_changes_two_cells}
-use Rattle.lio_calculus_names.proofs.Turns.{turn_names_only}
+use Rattle.lio_calculus_runs.proofs.NamedTurns.{turn_names_only}
 use Rattle.lio_audit.proofs.RunLemmas.{run-nothing, run-push, step-has_ticket}
 use Rattle.lio_audit.proofs.LineLemmas.{stops-begins}
 use Rattle.lio_audit.proofs.TextLemmas.{text-some}

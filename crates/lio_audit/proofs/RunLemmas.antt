@@ -6,7 +6,7 @@ use Rattle.std.proofs.Math.ListN.{get_or-eq_default}
 use Rattle.lio_calculus.specs.Step.{Cell, Configuration, Turn, blank, can, step}
 use Rattle.lio_calculus.specs.Run.{Ran, ran_after, run}
 use Rattle.lio_calculus.proofs.EnabledLemmas.{can-absent}
-use Rattle.lio_calculus_rounds.proofs.TurnLemmas.{step-ticket, with_ticket}
+use Rattle.lio_calculus_runs.proofs.TurnLemmas.{step-ticket, with_ticket}
 
 run-step : (ticket : ℕ) (c : Configuration) (k : ℕ) (ks : List ℕ) (turn : Turn) (rest : Ran) → step ticket c k ≡ Some turn → run (ticket + 1) turn.next ks ≡ Some rest → run ticket c (k ∷ ks) ≡ Some (ran_after turn.entry rest)
 unfolding run

@@ -3,8 +3,8 @@ use Rattle.std.specs.Prelude.{◌≡◌, ◌⊎◌, ℕ, ◌+◌, ◌<◌, ◌�
 use Rattle.lio_events.specs.JournalText.{entry_text, journal_text}
 use Rattle.lio_calculus.specs.Run.{Ran, run}
 use Rattle.lio_calculus.specs.Step.{Configuration, Turn, can, step}
-use Rattle.lio_calculus_logs.specs.Journals.{actors}
-use Rattle.lio_calculus_rounds.specs.Rounds.{IsComplete}
+use Rattle.lio_calculus.specs.Journals.{actors}
+use Rattle.lio_calculus_runs.specs.Rounds.{IsComplete}
 use Rattle.lio_audit.specs.declared.fault.AuditFault.{AuditFault}
 use Rattle.lio_audit.specs.declared.fault.AuditFault.TheVariants.{NotARun, NoMemory}
 

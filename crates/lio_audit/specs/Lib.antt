@@ -2,3 +2,8 @@ pub mod History
 pub mod Expected
 pub mod Replay
 pub mod Laws
+pub mod View
+pub mod Rerun
+pub mod Seen
+pub mod Asking
+pub mod RunLaws

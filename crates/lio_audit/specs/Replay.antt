@@ -6,11 +6,11 @@ use Rattle.lio_events.specs.JournalText.{entry_text}
 use Rattle.lio_events.specs.Tickets.{AreBelow}
 use Rattle.lio_calculus.specs.Sound.{IsSound}
 use Rattle.lio_calculus.specs.Step.{Configuration}
-use Rattle.lio_calculus_names.specs.Configuration.{NamesOnly}
-use Rattle.lio_config.specs.declared.config.Config.{Config}
-use Rattle.lio_config.specs.Configuration.{configuration_of}
-use Rattle.lio_config.specs.Logs.{IsLaterThanLogs}
-use Rattle.lio_config.specs.Takes.{Steps}
+use Rattle.lio_calculus_runs.specs.Configuration.{NamesOnly}
+use Rattle.lio_task.specs.declared.config.Config.{Config}
+use Rattle.lio_task.specs.Configuration.{configuration_of}
+use Rattle.lio_task.specs.Logs.{IsLaterThanLogs}
+use Rattle.lio_task.specs.Takes.{Steps}
 use Rattle.lio_audit.specs.declared.fault.AuditFault.{AuditFault}
 use Rattle.lio_audit.specs.declared.fault.AuditFault.TheVariants.{NotARun, NoMemory}
 use Rattle.lio_audit.specs.History.{BeginsTurn}

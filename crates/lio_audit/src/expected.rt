@@ -2,9 +2,9 @@
 
 ghost use Rattle.std.specs.Prelude.{◌≡◌, ◌⊎◌, ◌≤◌, [], length, IfOk, IfSome};
 ghost use Rattle.lio_calculus.specs.Sound.{IsSound};
-ghost use Rattle.lio_calculus_names.specs.Configuration.{NamesOnly};
-ghost use Rattle.lio_config.specs.Configuration.{configuration_of};
-ghost use Rattle.lio_config.specs.Logs.{AreFresh};
+ghost use Rattle.lio_calculus_runs.specs.Configuration.{NamesOnly};
+ghost use Rattle.lio_task.specs.Configuration.{configuration_of};
+ghost use Rattle.lio_task.specs.Logs.{AreFresh};
 ghost use Rattle.lio_events_reading.specs.Lines.{IsActorOf};
 ghost use Rattle.lio_audit.specs.Expected.{CouldGoOn, IsLineOf};
 ghost use Rattle.lio_audit.specs.History.{most_history_bytes};
@@ -13,10 +13,10 @@ ghost use Rattle.lio_audit.specs.Replay.{Stands};
 use crate::fault::AuditFault;
 use crate::replay::{first_to_move, take_line};
 use lio_clauses::{Names, NoMemory};
-use lio_config::{Config, StepFault};
 use lio_events::{Journal, print_entry};
 use lio_events_reading::actor_of;
 use lio_syntax::Script;
+use lio_task::{Config, StepFault};
 use std::alloc::Global;
 
 /// The task whose turn comes next: the one that these bytes show, or where there are none, the first

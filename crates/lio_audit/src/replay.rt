@@ -6,19 +6,19 @@ ghost use Rattle.lio_events.specs.JournalText.{entry_text};
 ghost use Rattle.lio_events.specs.Printable.{IsPrintable};
 ghost use Rattle.lio_calculus.specs.Sound.{IsSound};
 ghost use Rattle.lio_calculus.specs.Step.{can};
-ghost use Rattle.lio_calculus_names.specs.Configuration.{NamesOnly};
-ghost use Rattle.lio_calculus_rounds.specs.Rounds.{IsComplete};
-ghost use Rattle.lio_config.specs.Configuration.{configuration_of};
-ghost use Rattle.lio_config.specs.Logs.{AreFresh};
+ghost use Rattle.lio_calculus_runs.specs.Configuration.{NamesOnly};
+ghost use Rattle.lio_calculus_runs.specs.Rounds.{IsComplete};
+ghost use Rattle.lio_task.specs.Configuration.{configuration_of};
+ghost use Rattle.lio_task.specs.Logs.{AreFresh};
 ghost use Rattle.lio_audit.specs.History.{IsHistoryOf, Says, most_history_bytes};
 ghost use Rattle.lio_audit.specs.Replay.{LineEndsAt, Refuses, Stands, TakesLine};
 
 use crate::fault::AuditFault;
 use lio_clauses::{Names, NoMemory};
-use lio_config::{Config, StepFault};
 use lio_events::{Journal, print_entry};
 use lio_events_reading::actor_of;
 use lio_syntax::Script;
+use lio_task::{Config, StepFault};
 use lio_values::Entry;
 use std::alloc::Global;
 

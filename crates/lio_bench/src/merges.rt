@@ -1,12 +1,11 @@
 //! Merges of the logs of a long run, repeated.
-ghost use Rattle.lio_calculus_logs.specs.Journals.{AreMergeable};
-ghost use Rattle.lio_config.specs.Logs.{log_in};
+ghost use Rattle.lio_calculus.specs.Journals.{AreMergeable};
+ghost use Rattle.lio_task.specs.Logs.{log_in};
 
 use crate::turns::{CountFault, counting_job};
 use lio_clauses::NoMemory;
-use lio_config::Config;
-use lio_merge::merge;
-use lio_rounds::{Ran, run};
+use lio_rounds::{Ran, merge, run};
+use lio_task::Config;
 use std::alloc::Global;
 
 /// So many merges.

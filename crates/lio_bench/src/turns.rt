@@ -1,11 +1,10 @@
 //! Turns of a task that counts, in the calculus and in the erased calculus, repeated.
 ghost use Rattle.std.specs.Prelude.{◌≡◌, IfOk};
 ghost use Rattle.lio_calculus.specs.Sound.{IsSound};
-ghost use Rattle.lio_config.specs.Configuration.{configuration_of};
-ghost use Rattle.lio_config.specs.Logs.{AreFresh};
+ghost use Rattle.lio_task.specs.Configuration.{configuration_of};
+ghost use Rattle.lio_task.specs.Logs.{AreFresh};
 
 use lio_clauses::{NoMemory, beside};
-use lio_config::{Config, StepFault};
 use lio_erasure::{Low, LowFault, erase_config};
 use lio_events::Contents;
 use lio_labels::Label;
@@ -13,6 +12,7 @@ use lio_policy::{Policy, read_policy};
 use lio_policy_draft::PolicyFault;
 use lio_start::{Job, fits, start};
 use lio_syntax::{Script, ScriptFault, read_script};
+use lio_task::{Config, StepFault};
 use lio_values::List;
 use std::alloc::Global;
 

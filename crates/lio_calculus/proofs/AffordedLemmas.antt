@@ -4,7 +4,7 @@ use Rattle.std.specs.Prelude.{bytes_eq}
 use Rattle.lio_labels.specs.Flow.{flows}
 use Rattle.lio_values.specs.declared.act.Op.TheVariants as op
 use Rattle.lio_syntax_lines.specs.declared.line.Simple.{Simple}
-use Rattle.lio_syntax.specs.Statements.{Statement, Statements, Procedure}
+use Rattle.lio_syntax.specs.Statements.{Procedure}
 use Rattle.lio_syntax.specs.Statements as statement
 use Rattle.lio_syntax.proofs.BeginningLemmas.{position_from-within}
 use Rattle.lio_guards.proofs.GuardLemmas.{current_flows_to_written, label_flows_to_clearance, current_flows_to_lowered, exposed_flows_to_clearance}

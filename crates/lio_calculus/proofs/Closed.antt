@@ -1,5 +1,5 @@
 -- Properties of values that a turn keeps: that handles name cells, and that no content is hidden or keeps an impure value.
-use Rattle.std.proofs.Common.{◌≡◌, IsTrue, All, subst, sym, true≢false}
+use Rattle.std.proofs.Common.{IsTrue, All, subst, sym, true≢false}
 use Rattle.std.proofs.lemmas.Bool.{and_parts}
 use Rattle.std.proofs.lemmas.List.Elements.{All-nil, All-head, All-tail, All-cons}
 use Rattle.lio_labels.specs.declared.label.Label.{Label}
@@ -9,7 +9,7 @@ use Rattle.lio_values.specs.declared.fault.FaultKind.TheVariants.{User}
 use Rattle.lio_values.specs.declared.value.Plain.{Plain}
 use Rattle.lio_values.specs.declared.value.Plain.TheVariants.{Unit as unit, Flag, Whole, Bytes, Lab, Power, RefOf, VarOf, ResultOf, ChanOf, Items}
 use Rattle.lio_values.specs.declared.value.Content.{Content}
-use Rattle.lio_values.specs.declared.value.Content.TheVariants.{Kept, Faulted, Hidden}
+use Rattle.lio_values.specs.declared.value.Content.TheVariants.{Kept, Faulted}
 use Rattle.lio_values.specs.declared.value.Value.{Value}
 use Rattle.lio_values.specs.declared.value.Value.TheVariants.{Bare, Sealed}
 use Rattle.lio_values.specs.Forest as forest

@@ -42,3 +42,6 @@ pub mod SendLemmas
 pub mod EffectLemmas
 pub mod TurnEach
 pub mod PurityLemmas
+pub mod JournalLemmas
+pub mod FoldLemmas
+pub mod LocalRunLemmas

@@ -19,3 +19,6 @@ pub mod Handles
 pub mod Sends
 pub mod Effect
 pub mod Purity
+pub mod Logs
+pub mod Journals
+pub mod LogLaws

@@ -1,13 +1,10 @@
 -- Runs: the turns of tasks in order, and the run of the erased calculus (the concurrent calculus of LIO and its erasure, ICFP 2012).
-use Rattle.std.specs.Prelude.{ℕ, ◌+◌, Bool, List, [], ◌∷◌, ◌++◌, Option, Some, option_and_then, if◌then◌else◌}
+use Rattle.std.specs.Prelude.{ℕ, ◌+◌, List, [], ◌∷◌, Option, Some, option_and_then}
 use Rattle.std.specs.Option.{option_map}
 use Rattle.lio_labels.specs.declared.label.Label.{Label}
-use Rattle.lio_labels.specs.Flow.{flows}
 use Rattle.lio_values.specs.declared.value.Content.{Content}
 use Rattle.lio_values.specs.declared.entry.Entry.{Entry}
-use Rattle.lio_values.specs.Erasure.{erase_entry}
 use Rattle.lio_calculus.specs.Step.{Configuration, step}
-use Rattle.lio_events.specs.Views.{released_to}
 use Rattle.lio_calculus.specs.Erased.{low}
 
 -- what a run gives: its journal, and its last configuration

@@ -1,4 +1,5 @@
-//! The calculus: definitions, and the laws of what observers see.
+//! The calculus: definitions, the laws of what observers see, and the laws of logs of cells.
 #![tactic(auto)]
 
 pub mod laws;
+pub mod log_laws;

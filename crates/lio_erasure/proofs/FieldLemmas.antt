@@ -8,7 +8,7 @@ use Rattle.lio_cells.specs.State.{answer, is_absent}
 use Rattle.lio_calculus.specs.Step.{Configuration, blank, cell_at, met_after, waits}
 use Rattle.lio_task_turns.specs.StateOf.{program_of}
 use Rattle.lio_task.specs.declared.task.Task.{Task}
-use Rattle.lio_config.specs.declared.config.Holder.{Holder}
+use Rattle.lio_task.specs.declared.config.Holder.{Holder}
 use Rattle.lio_erasure.specs.Low.{IsErased, low_cell_of, low_configuration_of, low_task_in, seen_cell}
 use Rattle.lio_erasure.specs.LowParts.{LowParts, ErasedState, low_of}
 use Rattle.lio_erasure.specs.Turn.{CanAdvance, Follows, IsShown, Moves, PlansOwn, VisitsNew, VisitsNode, placed, served}

@@ -10,7 +10,7 @@ use Rattle.lio_syntax.specs.Statements.{Procedure}
 use Rattle.lio_calculus.specs.Step.{Cell, Configuration, blank, cell_at, with_cell}
 use Rattle.lio_task_turns.specs.StateOf.{program_of}
 use Rattle.lio_task.specs.declared.task.Task.{Task}
-use Rattle.lio_config.specs.declared.config.Holder.{Holder}
+use Rattle.lio_task.specs.declared.config.Holder.{Holder}
 use Rattle.lio_task.specs.StateOf.{state_in}
 use Rattle.lio_erasure.specs.Low.{holder_in, low_cell_of, low_configuration_of, low_task_in, seen_cell}
 use Rattle.lio_erasure.specs.Turn.{Advances, CanServe, HasGoneOn, Serves, Settles, node_of_holder, serving}

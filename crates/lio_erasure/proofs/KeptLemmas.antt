@@ -17,8 +17,8 @@ use Rattle.lio_calculus.specs.Step.{Cell}
 use Rattle.lio_calculus.specs.Hiding.{hide_task}
 use Rattle.lio_calculus.specs.Erased.{erase_cell, hide_cell, hide_state, sees}
 use Rattle.lio_task.specs.declared.task.Task.{Task}
-use Rattle.lio_config.specs.declared.config.Holder.{Holder}
-use Rattle.lio_config.specs.Configuration.{cell_of}
+use Rattle.lio_task.specs.declared.config.Holder.{Holder}
+use Rattle.lio_task.specs.Configuration.{cell_of}
 use Rattle.lio_task.specs.StateOf.{state_in}
 use Rattle.lio_erasure.specs.Low.{LeavesOutBlanks, is_kept, low_cell_of}
 

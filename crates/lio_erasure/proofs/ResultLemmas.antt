@@ -1,6 +1,6 @@
 -- What holds of the value that a call gives, if it gives one.
 use Rattle.std.proofs.Common.{◌≡◌, ap}
-use Rattle.std.specs.Prelude.{Result, Ok, Err, IsErr, IfOk, OnOk, OnErr, MatchResult}
+use Rattle.std.specs.Prelude.{Result, Ok, Err, IsErr, OnOk, OnErr, MatchResult}
 use Rattle.std.proofs.lemmas.Result.{IfOk-from_err}
 
 pub on_err : {T E : Type 0} (P : Type 0) (result : Result T E) → P → OnErr result P

@@ -8,7 +8,7 @@ use Rattle.lio_cells.specs.State.{is_job, ready}
 use Rattle.lio_calculus.specs.Task.{TaskState}
 use Rattle.lio_calculus.specs.Step.{Cell, cell_at}
 use Rattle.lio_task.specs.declared.task.Task.{Task}
-use Rattle.lio_config.specs.declared.config.Holder.{Holder}
+use Rattle.lio_task.specs.declared.config.Holder.{Holder}
 use Rattle.lio_erasure.specs.Low.{TasksAreJobs, holder_in, low_configuration_of, low_task_in}
 use Rattle.lio_erasure.specs.Turn.{CanServe, HasRoom, node_of_holder}
 use Rattle.lio_erasure.proofs.HolderLemmas.{cell-low, task-holder, task-low}

@@ -38,9 +38,9 @@ use Rattle.lio_calculus.proofs.TurnParts.{own-moves, own_move, visit-moves, visi
 use Rattle.lio_calculus.proofs.VisitLemmas.{answer-done}
 use Rattle.lio_task_turns.specs.StateOf.{program_of}
 use Rattle.lio_task.specs.Births.{CanBear}
-use Rattle.lio_config.proofs.MoveLemmas.{act-bears}
+use Rattle.lio_task.proofs.MoveLemmas.{act-bears}
 use Rattle.lio_task.specs.declared.task.Task.{Task}
-use Rattle.lio_config.specs.declared.config.Holder.{Holder}
+use Rattle.lio_task.specs.declared.config.Holder.{Holder}
 use Rattle.lio_task.specs.declared.next.Next.TheVariants as next
 use Rattle.lio_task.specs.Next.{next_by, resumed_by}
 use Rattle.lio_task.specs.StateOf.{state_in}

@@ -14,8 +14,8 @@ use Rattle.lio_calculus.specs.Sound.{IsSound}
 use Rattle.lio_calculus.specs.Purity.{ContentsArePure}
 use Rattle.lio_task_turns.specs.StateOf.{program_of}
 use Rattle.lio_task.specs.declared.task.Task.{Task}
-use Rattle.lio_config.specs.declared.config.Holder.{Holder}
-use Rattle.lio_config.specs.Configuration.{cell_of}
+use Rattle.lio_task.specs.declared.config.Holder.{Holder}
+use Rattle.lio_task.specs.Configuration.{cell_of}
 
 -- the cell that a holder stands for; where there is none, the cell is left out
 abbrev pub low_cell_of : List Procedure → Option Holder → Cell

@@ -6,8 +6,8 @@ use Rattle.lio_labels.specs.contracts.label.Label as label_contract
 use Rattle.lio_syntax.specs.Statements.{Procedure}
 use Rattle.lio_syntax.specs.ScriptCode.{script_code}
 use Rattle.lio_calculus.specs.Step.{Configuration}
-use Rattle.lio_config.specs.declared.config.Holder.{Holder}
-use Rattle.lio_config.specs.contracts.config.Holder as holder_contract
+use Rattle.lio_task.specs.declared.config.Holder.{Holder}
+use Rattle.lio_task.specs.contracts.config.Holder as holder_contract
 use Rattle.lio_erasure.specs.Low.{low_configuration_of}
 
 -- the parts of the erased calculus: the script, how long a text may become, the observer, and the holders

@@ -23,7 +23,7 @@ use Rattle.lio_calculus.specs.Sound.{IsTaskOf}
 use Rattle.lio_calculus.specs.Afforded.{kind_met, makes}
 use Rattle.lio_task_turns.specs.StateOf.{program_of}
 use Rattle.lio_task.specs.declared.task.Task.{Task}
-use Rattle.lio_config.specs.declared.config.Holder.{Holder}
+use Rattle.lio_task.specs.declared.config.Holder.{Holder}
 use Rattle.lio_task.specs.StateOf.{state_in}
 use Rattle.lio_task.specs.Next.{resumed}
 use Rattle.lio_erasure.specs.declared.low.LowFault.{LowFault}

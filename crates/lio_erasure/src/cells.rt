@@ -20,10 +20,9 @@ use crate::acts::{has_label, is_absent};
 use crate::gone::advance;
 use crate::hidden::is_seen;
 use lio_clauses::{NoMemory, assign};
-use lio_config::Holder;
 use lio_labels::Label;
 use lio_syntax::Script;
-use lio_task::Task;
+use lio_task::{Holder, Task};
 use lio_values::{Act, Entry, Handle};
 use std::alloc::Global;
 use std::marker::Model;
@@ -37,8 +36,8 @@ pub struct LowConfig {
 
 impl Model for LowConfig {
     ghost use Rattle.std.specs.Prelude.{List, Option};
-    ghost use Rattle.lio_config.specs.declared.config.Holder.{Holder};
-    ghost use Rattle.lio_config.specs.contracts.config.Holder as holder;
+    ghost use Rattle.lio_task.specs.declared.config.Holder.{Holder};
+    ghost use Rattle.lio_task.specs.contracts.config.Holder as holder;
     ghost use Rattle.std.specs.Coded.{coded_list, coded_option};
 
     ghost Value = { List (Option Holder) };

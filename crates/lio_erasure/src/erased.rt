@@ -4,15 +4,15 @@
 ghost use Rattle.std.specs.Prelude.{◌≡◌, IfOk, IsTrue, List};
 ghost use Rattle.lio_syntax.specs.Statements.{Procedure};
 ghost use Rattle.lio_calculus.specs.Erased.{erase, erase_cell};
-ghost use Rattle.lio_config.specs.Configuration.{cell_of, configuration_of};
+ghost use Rattle.lio_task.specs.Configuration.{cell_of, configuration_of};
 ghost use Rattle.lio_erasure.specs.Low.{LeavesOutBlanks, is_kept, low_cell_of};
 ghost use Rattle.lio_erasure.specs.Low.{low_configuration_of};
 
 use crate::cells::LowConfig;
 use crate::hidden::{hidden, is_seen};
 use lio_clauses::NoMemory;
-use lio_config::{Config, Holder};
 use lio_labels::Label;
+use lio_task::{Config, Holder};
 use std::alloc::Global;
 
 /// A holder as an observer sees it: left out where nothing is or its label doesn't flow to the

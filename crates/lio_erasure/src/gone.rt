@@ -6,7 +6,7 @@
 ghost use Rattle.std.specs.Prelude.{◌≡◌, IfOk, IsSome, OnOk, OnErr, false};
 ghost use Rattle.lio_calculus.specs.Hiding.{hide_task};
 ghost use Rattle.lio_task_turns.specs.StateOf.{program_of};
-ghost use Rattle.lio_config.specs.Configuration.{cell_of};
+ghost use Rattle.lio_task.specs.Configuration.{cell_of};
 ghost use Rattle.lio_task.specs.Next.{resumed};
 ghost use Rattle.lio_task.specs.StateOf.{state_in};
 ghost use Rattle.lio_erasure.specs.Acts.{hides};
@@ -14,10 +14,9 @@ ghost use Rattle.lio_erasure.specs.Turn.{CanGoOn, HasGoneOn};
 
 use crate::acts::hides;
 use lio_clauses::{NoMemory, assign};
-use lio_config::Holder;
 use lio_labels::Label;
 use lio_syntax::Script;
-use lio_task::Task;
+use lio_task::{Holder, Task};
 use lio_values::{Act, Entry, Reply};
 use std::alloc::Global;
 

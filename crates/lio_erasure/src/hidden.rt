@@ -9,15 +9,14 @@ ghost use Rattle.lio_syntax.specs.Statements.{Procedure};
 ghost use Rattle.lio_cells.specs.State.{label_of};
 ghost use Rattle.lio_calculus.specs.Hiding.{hide_task};
 ghost use Rattle.lio_calculus.specs.Erased.{hide_cell, hide_state, sees};
-ghost use Rattle.lio_config.specs.Configuration.{cell_of};
+ghost use Rattle.lio_task.specs.Configuration.{cell_of};
 ghost use Rattle.lio_task.specs.StateOf.{state_in};
 ghost use Rattle.lio_erasure.specs.Low.{is_kept, low_cell_of, seen_cell};
 
 use lio_cells::{Node, State};
 use lio_clauses::{NoMemory, beside};
-use lio_config::Holder;
 use lio_labels::Label;
-use lio_task::Task;
+use lio_task::{Holder, Task};
 use lio_values::Value;
 use std::alloc::Global;
 

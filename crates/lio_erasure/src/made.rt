@@ -5,14 +5,13 @@ ghost use Rattle.lio_calculus.specs.Afforded.{makes};
 ghost use Rattle.lio_calculus.specs.Step.{blank, met_after};
 ghost use Rattle.lio_task_turns.specs.StateOf.{program_of};
 ghost use Rattle.lio_task.specs.Births.{CanBear};
-ghost use Rattle.lio_config.specs.Configuration.{cell_of};
+ghost use Rattle.lio_task.specs.Configuration.{cell_of};
 
 use lio_cells::{Node, State};
 use lio_clauses::{NoMemory, beside};
-use lio_config::Holder;
 use lio_labels::Label;
 use lio_syntax::Script;
-use lio_task::Task;
+use lio_task::{Holder, Task};
 use lio_values::Act;
 use std::alloc::Global;
 

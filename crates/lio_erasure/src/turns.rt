@@ -16,9 +16,9 @@ ghost use Rattle.lio_erasure.specs.Turn.{CanAdvance, Follows, placed, served};
 
 use crate::cells::LowConfig;
 use lio_clauses::NoMemory;
-use lio_config::Holder;
 use lio_labels::Label;
 use lio_syntax::Script;
+use lio_task::Holder;
 use lio_values::Entry;
 use std::alloc::Global;
 

@@ -10,3 +10,5 @@ pub mod ReplyLemmas
 pub mod ActLemmas
 pub mod BirthLemmas
 pub mod LineLemmas
+mod AllLemmas
+mod ItemLemmas

@@ -1,5 +1,5 @@
 -- Lists are found.
-use Rattle.std.proofs.Common.{◌≡◌, ◌≢◌, ℕ, ◌+◌, ◌-◌, ◌^◌, ◌<◌, ◌≤◌, ◌==◌, ◌&&◌, max, true, false, zero, suc, All, IsTrue, List, [], ◌∷◌, ◌++◌, length, drop, refl, ap, sym, subst, ◌∙◌, arith, append_assoc, codes, true≢false, not, ne_eqb, append-nil, ℤ, pos, negsuc}
+use Rattle.std.proofs.Common.{◌≡◌, ◌≢◌, ℕ, ◌+◌, ◌-◌, ◌^◌, ◌<◌, ◌≤◌, ◌==◌, true, false, zero, suc, All, IsTrue, List, [], ◌∷◌, ◌++◌, length, drop, refl, ap, sym, subst, ◌∙◌, arith, append_assoc, codes, true≢false, not, ne_eqb, append-nil, ℤ, pos, negsuc}
 use Rattle.std.specs.Prelude.{decimal}
 use Rattle.std.specs.Fmt.{signed_decimal}
 use Rattle.std.specs.List.{list_all}
@@ -16,14 +16,14 @@ use Rattle.lio_values.specs.Measures.{item_is_pure, items_are_pure, value_depth}
 use Rattle.lio_values.specs.PlainText.{plain_text}
 use Rattle.lio_values.specs.Purity.{KeepsPureItem, KeepPureItems}
 use Rattle.lio_values.specs.ValueText.{value_text}
-use Rattle.lio_values.specs.Views.{tree_of, item_of, forest_of, value_of, values_of, item_of-value_of, values_of-forest_of, forest_of-values_of}
+use Rattle.lio_values.specs.Views.{tree_of, item_of, forest_of, values_of, item_of-value_of, forest_of-values_of}
 use Rattle.lio_syntax_lines.specs.Literals.{is_digit, is_whole}
 use Rattle.lio_syntax_lines.proofs.PrintedLemmas.{own}
 use Rattle.lio_events_reading.specs.declared.start.Start.TheVariants as start
 use Rattle.lio_events_reading.specs.Start.{start_of}
 use Rattle.lio_events_reading.specs.Fits.{PlainFits, ValueFits, ItemFits, ItemsFit}
 use Rattle.lio_events_reading.specs.Lists.{is_no_end, begins_item, sign_len}
-use Rattle.lio_events_reading.specs.Over.{IsValueOver, IsValueWithin, IsPureWithin}
+use Rattle.lio_events_reading.specs.Over.{IsValueWithin, IsPureWithin}
 use Rattle.lio_events_reading.specs.Plains.{list, IsSingle, IsSingleOver}
 use Rattle.lio_events_reading.specs.Reading.{Ends, Finds}
 use Rattle.lio_events_reading.specs.Values.{list_value, IsSealedOver}

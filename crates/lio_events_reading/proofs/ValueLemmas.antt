@@ -4,12 +4,11 @@ use Rattle.lio_labels.specs.declared.label.Label.{Label}
 use Rattle.lio_values.specs.declared.value.Plain.{Plain}
 use Rattle.lio_values.specs.declared.value.Content.{Content}
 use Rattle.lio_values.specs.declared.value.Content.TheVariants.{Kept, Faulted, Hidden}
-use Rattle.lio_values.specs.declared.value.Value.{Value}
 use Rattle.lio_values.specs.declared.value.Value.TheVariants.{Bare, Sealed}
 use Rattle.lio_values.specs.declared.fault.Fault.{Fault}
 use Rattle.lio_values.specs.declared.fault.FaultKind.{FaultKind}
 use Rattle.lio_values.specs.PlainText.{label_in_brackets}
-use Rattle.lio_values.specs.ValueText.{kind_text, fault_text, content_text, value_text}
+use Rattle.lio_values.specs.ValueText.{kind_text, fault_text, content_text}
 use Rattle.lio_events.specs.EntryText.{option_text}
 use Rattle.lio_values.specs.declared.value.Plain.TheVariants as plain
 use Rattle.lio_events_reading.specs.declared.start.Start.{Start}

@@ -12,6 +12,7 @@ mod cursor;
 mod entry;
 mod fault;
 mod faults;
+mod fits;
 mod labels;
 pub mod laws;
 mod lists;
@@ -24,3 +25,4 @@ mod words;
 
 pub use entry::{actor_of, read_entry, read_seen};
 pub use fault::EntryFault;
+pub use fits::journal_fits;

@@ -3,13 +3,13 @@
 ghost use Rattle.std.specs.Prelude.{◌≡◌, ◌<◌, ◌+◌, ◌^◌, ◌++◌, cond, List as list, IfOk, OnOk};
 ghost use Rattle.std.specs.List.{count_by};
 ghost use Rattle.lio_syntax.specs.Statements.{Procedure};
-ghost use Rattle.lio_config.specs.Configuration.{cell_of, configuration_of};
+ghost use Rattle.lio_task.specs.Configuration.{cell_of, configuration_of};
 ghost use Rattle.lio_front.specs.Summary as spec;
 
 use lio_clauses::NoMemory;
-use lio_config::{Config, Holder};
 use lio_events::{Journal, channel_bytes};
 use lio_policy::Policy;
+use lio_task::{Config, Holder};
 use lio_values::print_number;
 use std::alloc::Global;
 

@@ -8,9 +8,9 @@ use Rattle.lio_calculus.specs.Sound.{IsSound}
 use Rattle.lio_calculus.specs.Step.{Configuration}
 use Rattle.lio_host_main.specs.Answers.{IsNone}
 use Rattle.lio_calculus.specs.Run.{Ran}
-use Rattle.lio_calculus_logs.specs.Journals.{actors}
-use Rattle.lio_calculus_rounds.specs.WellFormed.{IsWellFormed}
-use Rattle.lio_calculus_rounds.proofs.Turns.{run_keeps_well_formed}
+use Rattle.lio_calculus.specs.Journals.{actors}
+use Rattle.lio_calculus_runs.specs.WellFormed.{IsWellFormed}
+use Rattle.lio_calculus_runs.proofs.WellFormedTurns.{run_keeps_well_formed}
 use Rattle.lio_rounds.specs.Headline.{IsRunOf}
 use Rattle.lio_rounds.proofs.RunLemmas.{complete-run_of_job}
 use Rattle.lio_start.specs.Job.{IsJob, JobParts, first_of}

@@ -4,10 +4,10 @@ use Rattle.lio_events.specs.Printable.{IsPrintable}
 use Rattle.lio_events_reading.specs.Fits.{EntryFits}
 use Rattle.lio_events_reading.specs.Over.{IsEntryOver}
 use Rattle.lio_calculus.specs.Run.{Ran, run}
-use Rattle.lio_calculus_logs.specs.Journals.{actors}
+use Rattle.lio_calculus.specs.Journals.{actors}
 use Rattle.lio_rounds.specs.Headline.{IsRunOf}
 use Rattle.lio_start.specs.Job.{JobParts, first_of}
-use Rattle.lio_views.proofs.RunViewLemmas.{complete_run_is_seen, rounds_are_rerun, view_releases_the_same}
+use Rattle.lio_audit.proofs.RunViewLemmas.{complete_run_is_seen, rounds_are_rerun, view_releases_the_same}
 use Rattle.lio_host_main.specs.Answers.{RanBy}
 use Rattle.lio_host_main.specs.Observed.{IsRerunByEach, IsSeenByEach}
 use Rattle.lio_host_main.specs.Order.{Order, Way, InRounds, ByWorkers, AsTold}

@@ -5,7 +5,7 @@ use Rattle.lio_events.specs.Views.{releases}
 use Rattle.lio_calculus.specs.Erased.{erase}
 use Rattle.lio_calculus.specs.Run.{LowRan}
 use Rattle.lio_calculus.specs.Step.{Configuration}
-use Rattle.lio_calculus_rounds.specs.LowRounds.{low_run_by_rounds}
+use Rattle.lio_calculus_runs.specs.LowRounds.{low_run_by_rounds}
 use Rattle.lio_host_main.specs.Laws.{ViewFilesAreAlike}
 
 same_Some : {A : Type 0} (x y : A) → Some x ≡ Some y → x ≡ y

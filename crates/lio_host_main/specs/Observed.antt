@@ -6,8 +6,8 @@ use Rattle.lio_calculus.specs.Erased.{erase}
 use Rattle.lio_calculus.specs.Run.{Ran}
 use Rattle.lio_calculus.specs.Step.{Configuration}
 use Rattle.lio_audit.specs.History.{most_history_bytes}
-use Rattle.lio_views.specs.RunLaws.{IsRerun, seen_of, seen_text}
-use Rattle.lio_views.specs.View.{IsViewOf}
+use Rattle.lio_audit.specs.RunLaws.{IsRerun, seen_of, seen_text}
+use Rattle.lio_audit.specs.View.{IsViewOf}
 use Rattle.lio_host_main.specs.Order.{Way, InRounds, ByWorkers, AsTold}
 
 -- A run from a configuration is seen by each observer.

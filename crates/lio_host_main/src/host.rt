@@ -12,7 +12,7 @@ use crate::order::Order;
 use crate::prepare::prepare_order;
 use crate::running::run_order;
 use lio_events::Journal;
-use lio_events_fits::journal_fits;
+use lio_events_reading::journal_fits;
 use lio_front::read_command;
 use lio_outside::{Say, Store};
 use lio_rounds::Ran;

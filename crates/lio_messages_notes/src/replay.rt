@@ -1,19 +1,18 @@
 //! The run taken again, as far as its troubles ask: where each task stood, and why.
 
 ghost use Rattle.lio_calculus.specs.Sound.{IsSound};
-ghost use Rattle.lio_config.specs.Configuration.{configuration_of};
-ghost use Rattle.lio_config.specs.Logs.{AreFresh};
+ghost use Rattle.lio_task.specs.Configuration.{configuration_of};
+ghost use Rattle.lio_task.specs.Logs.{AreFresh};
 
 use crate::printer::Printer;
 use crate::reason::{kind_word, print_reason};
 use crate::trace::{fault_of, told_fault};
 use crate::troubles::{Ending, Trouble};
 use lio_clauses::NoMemory;
-use lio_config::{Config, StepFault};
 use lio_messages_hints::{Piece, filled};
 use lio_start::{Job, start};
 use lio_syntax::Script;
-use lio_task::Task;
+use lio_task::{Config, StepFault, Task};
 use lio_task_control::Front;
 use lio_values::{Entry, FaultKind};
 use std::alloc::Global;

@@ -4,8 +4,8 @@ use Rattle.lio_calculus.specs.Step.{Configuration}
 use Rattle.lio_erasure.specs.Low.{low_configuration_of}
 use Rattle.lio_erasure.specs.declared.cells.LowConfig.{LowConfig}
 use Rattle.lio_syntax.specs.Statements.{Procedure}
-use Rattle.lio_views.specs.View.{IsOneViewOfTurns, SeenSays}
-use Rattle.lio_views.specs.declared.fault.ViewFault.TheVariants.{NotAView}
+use Rattle.lio_audit.specs.View.{IsOneViewOfTurns, SeenSays}
+use Rattle.lio_audit.specs.declared.view_fault.ViewFault.TheVariants.{NotAView}
 use Rattle.lio_observe_main.specs.Claim.{Agrees, Claim, IsRight, IsViewFrom, IsWrongAt, StopsFrom, seen_first}
 
 -- the texts that were read agree with themselves

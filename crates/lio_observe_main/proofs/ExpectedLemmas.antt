@@ -3,11 +3,11 @@ use Rattle.std.proofs.Common.{◌≡◌, sym, subst, ℕ, List, All, Result, Ok,
 use Rattle.std.specs.Prelude.{IfOk, OnErr}
 use Rattle.lio_values.specs.declared.value.Content.{Content}
 use Rattle.lio_values.specs.declared.entry.Entry.{Entry}
-use Rattle.lio_calculus_names.specs.NameLaws.{IsContentPrintable}
+use Rattle.lio_calculus_runs.specs.NameLaws.{IsContentPrintable}
 use Rattle.lio_events.specs.Printable.{IsPrintable}
 use Rattle.lio_calculus.specs.Erased.{LowTurn}
-use Rattle.lio_calculus_names.specs.Configuration.{NamesOnly}
-use Rattle.lio_calculus_names.proofs.LowTurns.{low_turn_names_only}
+use Rattle.lio_calculus_runs.specs.Configuration.{NamesOnly}
+use Rattle.lio_calculus_runs.proofs.NamedLowTurns.{low_turn_names_only}
 use Rattle.lio_erasure.specs.declared.low.LowFault.{LowFault}
 use Rattle.lio_erasure.specs.LowParts.{ErasedState}
 use Rattle.lio_erasure.specs.Turn.{TakesTurn}

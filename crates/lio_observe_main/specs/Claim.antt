@@ -6,8 +6,8 @@ use Rattle.lio_calculus.specs.Step.{Configuration}
 use Rattle.lio_start.specs.Job.{JobParts}
 use Rattle.lio_start.specs.Laws.{AreAlike}
 use Rattle.lio_start.specs.Start.{start_of}
-use Rattle.lio_views.specs.View.{IsOneViewOfTurns, SeenSays}
-use Rattle.lio_views.specs.declared.fault.ViewFault.TheVariants as view_fault
+use Rattle.lio_audit.specs.View.{IsOneViewOfTurns, SeenSays}
+use Rattle.lio_audit.specs.declared.view_fault.ViewFault.TheVariants as view_fault
 use Rattle.lio_observe_main.specs.declared.claim.Claim as declared
 
 -- a policy, a script, the texts of the inputs that an observer sees, its label, and the bytes that are to be its view

@@ -5,8 +5,8 @@ ghost use Rattle.lio_observe_main.specs.Answers.{StopsTheCheck};
 ghost use Rattle.lio_observe_main.specs.Claim.{IsRight, claim_of};
 
 use crate::claim::Claim;
+use lio_audit::{ViewFault, check_view, low_start};
 use lio_front::Status;
-use lio_views::{ViewFault, check_view, low_start};
 use std::alloc::Global;
 
 /// Checks the view of a claim, and gives the number of its lines.

@@ -1,19 +1,19 @@
 //! The line with which a view that stops could go on, for messages.
 
 ghost use Rattle.std.specs.Prelude.{All, IfOk, IfSome};
-ghost use Rattle.lio_calculus_names.specs.NameLaws.{IsContentPrintable};
+ghost use Rattle.lio_calculus_runs.specs.NameLaws.{IsContentPrintable};
 ghost use Rattle.lio_events.specs.Printable.{IsPrintable};
-ghost use Rattle.lio_calculus_names.specs.Configuration.{NamesOnly};
+ghost use Rattle.lio_calculus_runs.specs.Configuration.{NamesOnly};
 ghost use Rattle.lio_erasure.specs.LowParts.{low_of};
 
 use crate::claim::Claim;
+use lio_audit::low_start;
 use lio_clauses::{Names, NoMemory};
 use lio_erasure::{Low, LowFault};
 use lio_events::{Contents, Journal, print_entry, releases};
 use lio_events_reading::{EntryFault, read_seen};
 use lio_labels::Label;
 use lio_values::Entry;
-use lio_views::low_start;
 use std::alloc::Global;
 
 /// A line of a view: its task, what it releases to the observer, and how long it is.

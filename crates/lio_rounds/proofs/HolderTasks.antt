@@ -2,18 +2,18 @@
 use Rattle.std.proofs.Common.{◌≡◌, ◌∙◌, refl, sym, ap, ℕ, zero, suc, ◌+◌, ◌≤◌, true, true≢false, cond, List, [], ◌∷◌, ◌++◌, append-nil, drop, length, map, Option, Some, None, is_some, option_and_then, arith}
 use Rattle.std.specs.Option.{option_map}
 use Rattle.lio_syntax.specs.Statements.{Procedure}
-use Rattle.lio_calculus_rounds.specs.Rounds.{tasks_from}
+use Rattle.lio_calculus_runs.specs.Rounds.{tasks_from}
 use Rattle.lio_task.specs.declared.task.Task.{Task}
-use Rattle.lio_config.specs.declared.config.Holder.{Holder}
+use Rattle.lio_task.specs.declared.config.Holder.{Holder}
 use Rattle.lio_task.specs.StateOf.{state_in}
 use Rattle.lio_calculus.specs.Task.{TaskState}
-use Rattle.lio_calculus.specs.Step.{Cell, Configuration, cell_at}
+use Rattle.lio_calculus.specs.Step.{Configuration, cell_at}
 use Rattle.lio_calculus.specs.Sound.{IsTaskOf}
 use Rattle.lio_task.specs.Status.{status_of}
-use Rattle.lio_config.specs.declared.config.Config.{Config}
-use Rattle.lio_config.specs.Takes.{awaited_at, awaited_by}
-use Rattle.lio_config.specs.Configuration.{cell_of, configuration_of, task_in}
-use Rattle.lio_config.proofs.HolderLemmas.{no-task-cell, task-cell}
+use Rattle.lio_task.specs.declared.config.Config.{Config}
+use Rattle.lio_task.specs.Takes.{awaited_at, awaited_by}
+use Rattle.lio_task.specs.Configuration.{cell_of, configuration_of, task_in}
+use Rattle.lio_task.proofs.HolderLemmas.{no-task-cell, task-cell}
 
 -- the numbers of the holders that have a task, from this number on
 abbrev pub holders_from : ℕ → List Holder → List ℕ

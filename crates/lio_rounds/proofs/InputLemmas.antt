@@ -4,11 +4,10 @@ use Rattle.lio_values.specs.declared.entry.Entry.{Entry}
 use Rattle.lio_events.specs.ChannelBytes.{channel_bytes}
 use Rattle.lio_policy.specs.Policy.{PolicyParts}
 use Rattle.lio_syntax.specs.Statements.{Procedure}
-use Rattle.lio_events.specs.Views.{view}
 use Rattle.lio_calculus.specs.Run.{Ran, run}
-use Rattle.lio_calculus_rounds.specs.Rounds.{rounds}
-use Rattle.lio_calculus_rounds.specs.LowLaws.{LookAlike}
-use Rattle.lio_calculus_rounds.proofs.LowEndLemmas.{rounds_look_alike}
+use Rattle.lio_calculus_runs.specs.Rounds.{rounds}
+use Rattle.lio_calculus_runs.specs.LowLaws.{LookAlike}
+use Rattle.lio_calculus_runs.proofs.LowEndLemmas.{rounds_look_alike}
 use Rattle.lio_start.specs.Start.{start_of}
 use Rattle.lio_start.proofs.AlikeLemmas.{starts_look_alike}
 use Rattle.lio_rounds.specs.Laws.{IsRunOver, OtherInputsChangeNothing}

@@ -9,3 +9,5 @@ pub mod InputLemmas
 pub mod WordLemmas
 pub mod ListLemmas
 pub mod SleepLemmas
+pub mod MergeLemmas
+pub mod OrderLemmas

@@ -1,19 +1,19 @@
 -- What a machine keeps when it takes a turn.
-use Rattle.std.proofs.Common.{◌≡◌, ◌∙◌, refl, sym, ap, subst, ℕ, ◌<◌, ◌+◌, List, [], ◌∷◌, ◌++◌, length, arith, All, Some}
+use Rattle.std.proofs.Common.{◌≡◌, ◌∙◌, sym, ap, subst, ℕ, ◌<◌, ◌+◌, List, [], ◌∷◌, ◌++◌, length, arith, All, Some}
 use Rattle.std.proofs.lemmas.List.Elements.{All-contains_itself, filter-append}
 use Rattle.lio_values.specs.declared.entry.Entry.{Entry}
 use Rattle.lio_calculus.specs.Effect.{touches}
 use Rattle.lio_calculus.specs.Run as calculus
 use Rattle.lio_calculus.specs.Run.{Ran}
 use Rattle.lio_calculus.specs.Step.{Configuration, Turn, step}
-use Rattle.lio_calculus_rounds.specs.Round.{born_in}
-use Rattle.lio_calculus_rounds.proofs.TurnLemmas.{Parts, parts}
-use Rattle.lio_calculus_rounds.proofs.OrderLaws.{turn-keeps_order}
-use Rattle.lio_calculus_rounds.specs.Laws.{IsOrderOf}
-use Rattle.lio_calculus_rounds.proofs.Turns.{turn_keeps_well_formed}
-use Rattle.lio_calculus_logs.specs.Journals.{AreNumberedFrom, ArePartsOf, of_cell}
-use Rattle.lio_calculus_logs.specs.Logs.{Logs}
-use Rattle.lio_calculus_logs.proofs.JournalLemmas.{numbered-push, numbered-up_to, part-in}
+use Rattle.lio_calculus_runs.specs.Round.{born_in}
+use Rattle.lio_calculus_runs.proofs.TurnLemmas.{Parts, parts}
+use Rattle.lio_calculus_runs.proofs.OrderLaws.{turn-keeps_order}
+use Rattle.lio_calculus_runs.specs.RoundLaws.{IsOrderOf}
+use Rattle.lio_calculus_runs.proofs.WellFormedTurns.{turn_keeps_well_formed}
+use Rattle.lio_calculus.specs.Journals.{AreNumberedFrom, ArePartsOf, of_cell}
+use Rattle.lio_calculus.specs.Logs.{Logs}
+use Rattle.lio_calculus.proofs.JournalLemmas.{numbered-push, numbered-up_to, part-in}
 use Rattle.lio_rounds.specs.Invariant.{IsMachine, IsRunTo}
 use Rattle.lio_rounds.proofs.MachineRuns.{run-append, run-nothing, run-step}
 

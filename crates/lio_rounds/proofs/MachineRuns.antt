@@ -6,7 +6,7 @@ use Rattle.std.specs.Option.{option_map}
 use Rattle.lio_values.specs.declared.entry.Entry.{Entry}
 use Rattle.lio_calculus.specs.Step.{Configuration, Turn, step}
 use Rattle.lio_calculus.specs.Run.{Ran, ran_after, run}
-use Rattle.lio_calculus_rounds.specs.Round.{born_in}
+use Rattle.lio_calculus_runs.specs.Round.{born_in}
 use Rattle.lio_rounds.specs.MachineState.{MachineState, HasBegun, HasTaken, HasRun}
 
 -- the first step of a run, and the run after it

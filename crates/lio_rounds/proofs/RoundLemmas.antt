@@ -8,13 +8,13 @@ use Rattle.std.specs.Option.{option_map}
 use Rattle.lio_values.specs.declared.entry.Entry.{Entry}
 use Rattle.lio_calculus.specs.Step.{Configuration, Turn, can, step}
 use Rattle.lio_calculus.specs.Run.{Ran}
-use Rattle.lio_calculus_rounds.specs.Round.{Round, born_in, followed, joined, order_after, round}
-use Rattle.lio_calculus_rounds.specs.Rounds.{IsComplete, rounds_from, stepped, taken}
-use Rattle.lio_calculus_rounds.specs.Laws.{IsOrderOf}
-use Rattle.lio_calculus_rounds.proofs.TurnLemmas.{step-ticket, with_ticket}
-use Rattle.lio_calculus_rounds.proofs.RoundLemmas.{round-append, round-moves, round-nobody, round-skips}
-use Rattle.lio_calculus_rounds.proofs.EndLemmas.{Ends, rounds_go_on}
-use Rattle.lio_calculus_rounds.proofs.OrderLaws.{rounds-end_from}
+use Rattle.lio_calculus_runs.specs.Round.{Round, born_in, followed, joined, order_after, round}
+use Rattle.lio_calculus_runs.specs.Rounds.{IsComplete, rounds_from, stepped, taken}
+use Rattle.lio_calculus_runs.specs.RoundLaws.{IsOrderOf}
+use Rattle.lio_calculus_runs.proofs.TurnLemmas.{step-ticket, with_ticket}
+use Rattle.lio_calculus_runs.proofs.RoundLemmas.{round-append, round-moves, round-nobody, round-skips}
+use Rattle.lio_calculus_runs.proofs.EndLemmas.{Ends, rounds_go_on}
+use Rattle.lio_calculus_runs.proofs.OrderLaws.{rounds-end_from}
 use Rattle.lio_rounds.specs.MachineState.{MachineState, HasBegun, HasTaken, HasRun, HasWalked}
 use Rattle.lio_rounds.specs.Schedule.{HasGoneOn}
 use Rattle.lio_rounds.proofs.MachineRuns.{StandsBefore, first-before, has_begun, has_run-append, has_run-nothing, has_run-one}

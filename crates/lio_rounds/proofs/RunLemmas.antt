@@ -10,8 +10,8 @@ use Rattle.lio_calculus.proofs.EnabledLemmas.{seen_task_is_enabled_below}
 use Rattle.lio_calculus.proofs.LawLemmas.{run_is_erased_run}
 use Rattle.lio_calculus.proofs.LocalityLemmas.{step_changes_two_cells}
 use Rattle.lio_rounds.proofs.MachineRuns.{first, run-nothing}
-use Rattle.lio_calculus_rounds.specs.Rounds.{rounds}
-use Rattle.lio_calculus_rounds.proofs.LowEndLemmas.{rounds_are_erased_rounds}
+use Rattle.lio_calculus_runs.specs.Rounds.{rounds}
+use Rattle.lio_calculus_runs.proofs.LowEndLemmas.{rounds_are_erased_rounds}
 use Rattle.lio_policy.specs.Policy.{PolicyParts}
 use Rattle.lio_start.specs.Job.{IsJob, JobParts, first_of}
 use Rattle.lio_start.specs.Start.{start_of}
@@ -20,7 +20,7 @@ use Rattle.lio_start.proofs.NameLemmas.{runs_are_printable}
 use Rattle.lio_start.proofs.PowerLemmas.{releases_are_of_policy}
 use Rattle.lio_calculus.proofs.SendLemmas.{sends_are_seen}
 use Rattle.lio_rounds.specs.Headline.{IsRunOf, KeepsToPolicy}
-use Rattle.lio_calculus_logs.specs.Journals.{actors}
+use Rattle.lio_calculus.specs.Journals.{actors}
 use Rattle.lio_rounds.specs.Runs.{IsByRounds, IsCompleteRun, RunsRounds, SeesChannels}
 
 -- the actors of a run's journal are those that it was to run

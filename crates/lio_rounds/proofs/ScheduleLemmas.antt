@@ -8,8 +8,8 @@ use Rattle.lio_syntax.specs.Statements.{Procedure}
 use Rattle.lio_start.specs.Job.{IsJob, JobParts, first_of}
 use Rattle.lio_calculus.specs.Step.{Configuration, Turn, can, step}
 use Rattle.lio_calculus.specs.Run.{Ran, run}
-use Rattle.lio_calculus_rounds.proofs.TurnLemmas.{step-ticket, with_ticket}
-use Rattle.lio_rounds.specs.MachineState.{HasTaken, MachineState}
+use Rattle.lio_calculus_runs.proofs.TurnLemmas.{step-ticket}
+use Rattle.lio_rounds.specs.MachineState.{MachineState}
 use Rattle.lio_rounds.proofs.MachineRuns.{run-nothing, run-step}
 use Rattle.lio_rounds.specs.declared.by_schedule.Scheduled.{Scheduled}
 use Rattle.lio_rounds.specs.Headline.{KeepsToPolicy}

@@ -1,5 +1,5 @@
 -- What each observer sees of a machine.
-use Rattle.std.proofs.Common.{◌≡◌, ◌∙◌, ap, sym, subst, ℕ, List, [], ◌++◌, length, Some}
+use Rattle.std.proofs.Common.{◌≡◌, ◌∙◌, ap, sym, subst, List, ◌++◌, length, Some}
 use Rattle.lio_values.specs.declared.entry.Entry.{Entry}
 use Rattle.lio_calculus.specs.Run.{Ran, run}
 use Rattle.lio_calculus.specs.Laws.{RunSeenAs}

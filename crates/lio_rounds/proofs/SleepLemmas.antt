@@ -1,9 +1,9 @@
 -- Who may sleep, and that a turn that doesn't meet what a sleeper waits for leaves it so.
-use Rattle.std.proofs.Common.{◌≡◌, ◌≢◌, ◌∙◌, refl, sym, ap, subst, ℕ, zero, suc, ◌+◌, ◌<◌, ◌≤◌, ◌==◌, ◌⊎◌, inl, inr, Bool, true, false, true≢false, ◌&&◌, ◌||◌, not, if◌then◌else◌, List, [], ◌∷◌, ◌++◌, length, length-append, get_or, Option, Some, None, is_some, Vec, arith}
+use Rattle.std.proofs.Common.{◌≡◌, ◌≢◌, ◌∙◌, refl, sym, ap, subst, ℕ, ◌+◌, ◌<◌, ◌==◌, ◌⊎◌, inl, inr, Bool, true, false, true≢false, ◌&&◌, ◌||◌, not, if◌then◌else◌, List, [], ◌∷◌, ◌++◌, length, length-append, get_or, Option, Some, None, is_some, Vec, arith}
 use Rattle.std.specs.Prelude.{option_map}
 use Rattle.std.specs.Option.{option_map_or}
 use Rattle.std.specs.declared.alloc.Global.{Global}
-use Rattle.std.proofs.lemmas.Bool.{cases_Bool, cases_eq}
+use Rattle.std.proofs.lemmas.Bool.{cases_eq}
 use Rattle.std.proofs.lemmas.List.{get_or-set_other}
 use Rattle.std.proofs.Math.ListN.{get_or-append}
 use Rattle.lio_values.specs.declared.act.Act.{Act}
@@ -21,22 +21,21 @@ use Rattle.lio_calculus.specs.Task.{TaskState}
 use Rattle.lio_calculus.specs.Plan.{Target}
 use Rattle.lio_calculus.specs.Step.{Cell, Configuration, Move, Turn, blank, cell_at, with_cell, number_of, actor_after, target_after, can, step}
 use Rattle.lio_calculus.specs.Sound.{IsSound, IsTaskOf}
-use Rattle.lio_calculus.specs.Waiting.{handle_met, is_ready_for, is_held_up, is_waiting, is_still}
+use Rattle.lio_calculus.specs.Waiting.{handle_met, is_ready_for, is_held_up, is_waiting}
 use Rattle.lio_calculus.proofs.InvisibleLemmas.{other-cell}
 use Rattle.lio_calculus.proofs.LocalityLemmas.{step_changes_two_cells}
 use Rattle.lio_calculus.proofs.MeetingLemmas.{actor-unchanged}
 use Rattle.lio_calculus.proofs.PlanKept.{is_ended}
 use Rattle.lio_calculus.proofs.WaitingLemmas.{task_can_unless_still}
-use Rattle.lio_calculus_rounds.proofs.AfterLemmas.{Changed, Here, Elsewhere, changed, task-met}
-use Rattle.lio_calculus_rounds.proofs.TurnLemmas.{Parts, parts, step-ticket, with_ticket}
-use Rattle.lio_task.specs.declared.status.Status.{Status}
+use Rattle.lio_calculus_runs.proofs.AfterLemmas.{Changed, Here, Elsewhere, changed, task-met}
+use Rattle.lio_calculus_runs.proofs.TurnLemmas.{Parts, parts, step-ticket}
 use Rattle.lio_task.specs.declared.status.Status.TheVariants as status
 use Rattle.lio_task.specs.Status.{reading, waiting, status_at, status_by, status_of}
 use Rattle.lio_cells.specs.declared.wish.Wish.{Wish}
-use Rattle.lio_config.specs.Takes.{awaited_by}
+use Rattle.lio_task.specs.Takes.{awaited_by}
 use Rattle.lio_rounds.specs.Births.{ended_by, ended_in}
 use Rattle.lio_rounds.specs.Awake.{IsAsleep, IsNoted, Meets, Waits}
-use Rattle.lio_rounds.specs.Sleep.{IsNotedAt, MaySleep, SleepersMay}
+use Rattle.lio_rounds.specs.Sleep.{MaySleep, SleepersMay}
 use Rattle.lio_rounds.specs.declared.awake.Awake.{Awake}
 
 -- the number that a handle names

@@ -1,5 +1,5 @@
 -- What is promised of a run.
-use Rattle.std.specs.Prelude.{ℕ, List, All}
+use Rattle.std.specs.Prelude.{ℕ, All}
 use Rattle.lio_labels.specs.declared.label.Label.{Label}
 use Rattle.lio_events.specs.Printable.{IsPrintable}
 use Rattle.lio_calculus.specs.Enabled.{EnabledBelow}
@@ -7,7 +7,7 @@ use Rattle.lio_calculus.specs.Laws.{RunSeenAs}
 use Rattle.lio_calculus.specs.Run.{Ran}
 use Rattle.lio_start.specs.Job.{JobParts, first_of}
 use Rattle.lio_start.specs.Powers.{powers_of}
-use Rattle.lio_calculus_names.specs.PowerLaws.{ReleasesByPowers}
+use Rattle.lio_calculus_runs.specs.PowerLaws.{ReleasesByPowers}
 use Rattle.lio_rounds.specs.Runs.{IsCompleteRun, SeesChannels}
 
 -- What each run of a job keeps to, whether it is complete or not.

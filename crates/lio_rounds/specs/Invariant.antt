@@ -3,11 +3,11 @@ use Rattle.std.specs.Prelude.{◌≡◌, ℕ, List, Some}
 use Rattle.lio_values.specs.declared.entry.Entry.{Entry}
 use Rattle.lio_calculus.specs.Run.{run}
 use Rattle.lio_calculus.specs.Step.{Configuration}
-use Rattle.lio_calculus_logs.specs.Journals.{AreNumberedFrom, ArePartsOf}
-use Rattle.lio_calculus_rounds.specs.Laws.{IsOrderOf}
-use Rattle.lio_calculus_rounds.specs.WellFormed.{IsWellFormed}
-use Rattle.lio_config.specs.declared.config.Config.{Config}
-use Rattle.lio_config.specs.Logs.{log_in}
+use Rattle.lio_calculus.specs.Journals.{AreNumberedFrom, ArePartsOf}
+use Rattle.lio_calculus_runs.specs.RoundLaws.{IsOrderOf}
+use Rattle.lio_calculus_runs.specs.WellFormed.{IsWellFormed}
+use Rattle.lio_task.specs.declared.config.Config.{Config}
+use Rattle.lio_task.specs.Logs.{log_in}
 
 -- the entries are a run that leads to the configuration, from a well-formed one in which no turn was taken
 pub record IsRunTo (c : Configuration) (entries : List Entry) : Type 0 where

@@ -8,7 +8,7 @@ use Rattle.lio_policy.specs.declared.policy.FileEntry.{FileEntry}
 use Rattle.lio_syntax.specs.Statements.{Procedure}
 use Rattle.lio_events.specs.Views.{releases}
 use Rattle.lio_calculus.specs.Run.{Ran}
-use Rattle.lio_calculus_rounds.specs.LowLaws.{LookAlike}
+use Rattle.lio_calculus_runs.specs.LowLaws.{LookAlike}
 use Rattle.lio_start.specs.Start.{start_of}
 use Rattle.lio_start.specs.Laws.{AreAlike}
 use Rattle.lio_rounds.specs.Runs.{IsByRounds, IsCompleteRun}

@@ -10,3 +10,4 @@ pub mod Runs
 pub mod Schedule
 pub mod Headline
 pub mod Laws
+pub mod Acted

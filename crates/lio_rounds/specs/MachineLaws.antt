@@ -7,7 +7,7 @@ use Rattle.lio_calculus.specs.Laws.{RunSeenAs}
 use Rattle.lio_calculus.specs.Run.{run}
 use Rattle.lio_calculus.specs.Sound.{IsSound}
 use Rattle.lio_calculus.specs.Step.{Configuration}
-use Rattle.lio_calculus_rounds.specs.WellFormed.{IsWellFormed}
+use Rattle.lio_calculus_runs.specs.WellFormed.{IsWellFormed}
 use Rattle.lio_rounds.specs.MachineState.{MachineState, HasTaken, HasRun}
 
 -- a machine as it stands has run nothing

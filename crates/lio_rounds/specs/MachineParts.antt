@@ -5,9 +5,9 @@ use Rattle.lio_values.specs.declared.entry.Entry.{Entry}
 use Rattle.lio_values.specs.contracts.entry.Entry as entry_contract
 use Rattle.lio_syntax.specs.Statements.{Procedure}
 use Rattle.lio_syntax.specs.ScriptCode.{script_code}
-use Rattle.lio_config.specs.declared.config.Config.{Config}
-use Rattle.lio_config.specs.contracts.config.Config as config_contract
-use Rattle.lio_config.specs.Configuration.{configuration_of}
+use Rattle.lio_task.specs.declared.config.Config.{Config}
+use Rattle.lio_task.specs.contracts.config.Config as config_contract
+use Rattle.lio_task.specs.Configuration.{configuration_of}
 use Rattle.lio_rounds.specs.MachineState.{MachineState}
 
 -- a machine's script, its configuration in the code's words, its entries and its order

@@ -4,8 +4,8 @@ use Rattle.lio_values.specs.declared.entry.Entry.{Entry}
 use Rattle.lio_syntax.specs.Statements.{Procedure}
 use Rattle.lio_calculus.specs.Step.{Configuration, step}
 use Rattle.lio_calculus.specs.Run.{run}
-use Rattle.lio_calculus_rounds.specs.Round.{born_in, round}
-use Rattle.lio_calculus_rounds.specs.Rounds.{stepped}
+use Rattle.lio_calculus_runs.specs.Round.{born_in, round}
+use Rattle.lio_calculus_runs.specs.Rounds.{stepped}
 
 -- a machine: its script, its configuration, the entries of the turns that it has taken, and the order of its tasks
 pub record MachineState : Type 0 where

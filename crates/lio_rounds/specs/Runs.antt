@@ -11,12 +11,12 @@ use Rattle.lio_calculus.specs.Step.{Configuration}
 use Rattle.lio_calculus.specs.Run as calculus
 use Rattle.lio_events.specs.Views.{view}
 use Rattle.lio_calculus.specs.Run.{run}
-use Rattle.lio_calculus_logs.specs.Journals.{AreMergeable, IsMerged, actors}
-use Rattle.lio_calculus_rounds.specs.Rounds.{IsComplete, rounds}
-use Rattle.lio_calculus_rounds.specs.LowLaws.{RoundsSeenAs}
-use Rattle.lio_calculus_rounds.specs.WellFormed.{IsWellFormed}
-use Rattle.lio_config.specs.Configuration.{configuration_of}
-use Rattle.lio_config.specs.Logs.{log_in}
+use Rattle.lio_calculus.specs.Journals.{AreMergeable, IsMerged, actors}
+use Rattle.lio_calculus_runs.specs.Rounds.{IsComplete, rounds}
+use Rattle.lio_calculus_runs.specs.LowLaws.{RoundsSeenAs}
+use Rattle.lio_calculus_runs.specs.WellFormed.{IsWellFormed}
+use Rattle.lio_task.specs.Configuration.{configuration_of}
+use Rattle.lio_task.specs.Logs.{log_in}
 use Rattle.lio_rounds.specs.declared.by_rounds.Ran.{Ran}
 
 -- the run that the code's journal and configuration stand for, with a script

@@ -5,7 +5,7 @@ use Rattle.lio_values.specs.declared.entry.Entry.{Entry}
 use Rattle.lio_syntax.specs.Statements.{Procedure}
 use Rattle.lio_calculus.specs.Run.{run}
 use Rattle.lio_calculus.specs.Step.{Configuration, can, step}
-use Rattle.lio_config.specs.Configuration.{configuration_of}
+use Rattle.lio_task.specs.Configuration.{configuration_of}
 use Rattle.lio_rounds.specs.MachineState.{HasTaken, MachineState}
 use Rattle.lio_start.specs.Job.{JobParts, first_of}
 use Rattle.lio_rounds.specs.Runs.{ran_of}

@@ -5,7 +5,7 @@ use Rattle.lio_calculus.specs.Task.{TaskState}
 use Rattle.lio_calculus.specs.Step.{Configuration, can}
 use Rattle.lio_calculus.specs.Sound.{IsTaskOf}
 use Rattle.lio_task.specs.Status.{status_of}
-use Rattle.lio_config.specs.Takes.{awaited_by}
+use Rattle.lio_task.specs.Takes.{awaited_by}
 use Rattle.lio_rounds.specs.Awake.{IsAsleep, Waits}
 use Rattle.lio_rounds.specs.declared.awake.Awake.{Awake}
 

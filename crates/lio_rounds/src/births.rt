@@ -1,6 +1,6 @@
 //! The children and the ends of turns.
 ghost use Rattle.std.specs.Prelude.{◌≡◌};
-ghost use Rattle.lio_calculus_rounds.specs.Round.{born_in};
+ghost use Rattle.lio_calculus_runs.specs.Round.{born_in};
 ghost use Rattle.lio_rounds.specs.Births.{ended_in, listed};
 
 use lio_values::{Act, Entry};

@@ -6,9 +6,9 @@ ghost use Rattle.lio_rounds.specs.Runs.{HasItsLogs, IsByRounds, RunsRounds, ran_
 
 use crate::Machine;
 use lio_clauses::NoMemory;
-use lio_config::Config;
 use lio_events::Journal;
 use lio_start::{Job, start};
+use lio_task::Config;
 use std::alloc::Global;
 
 /// What a run gives: its journal, and the configuration after it.

@@ -1,6 +1,6 @@
 //! A run in an order that the caller chooses.
 ghost use Rattle.std.specs.Prelude.{IfOk};
-ghost use Rattle.lio_calculus_rounds.specs.WellFormed.{IsWellFormed};
+ghost use Rattle.lio_calculus_runs.specs.WellFormed.{IsWellFormed};
 ghost use Rattle.lio_start.specs.Job.{IsJob};
 ghost use Rattle.lio_rounds.specs.MachineParts.{machine_of};
 ghost use Rattle.lio_rounds.specs.Headline.{KeepsToPolicy};

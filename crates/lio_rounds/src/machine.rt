@@ -4,9 +4,9 @@ ghost use Rattle.std.specs.Prelude.{◌≡◌};
 use crate::awake::Awake;
 use crate::births::born_in;
 use lio_clauses::NoMemory;
-use lio_config::{Config, StepFault as TurnFault, blank_entry};
 use lio_events::Journal;
 use lio_syntax::Script;
+use lio_task::{Config, StepFault as TurnFault, blank_entry};
 use lio_values::Entry;
 use std::alloc::Global;
 use std::marker::Model;
@@ -24,7 +24,7 @@ pub struct Machine {
 }
 
 impl Model for Machine {
-    ghost use Rattle.lio_config.specs.Configuration.{configuration_of};
+    ghost use Rattle.lio_task.specs.Configuration.{configuration_of};
     ghost use Rattle.lio_rounds.specs.MachineParts.{MachineParts, machine_code};
     ghost use Rattle.lio_rounds.specs.Invariant.{HasLogsOf, IsMachine};
     ghost use Rattle.lio_rounds.specs.Sleep.{SleepersMay};
@@ -48,16 +48,16 @@ impl Model for Machine {
 impl Machine {
     ghost use Rattle.std.specs.Prelude.{◌≡◌, ℕ, ◌<◌, ◌≤◌, ◌^◌, false, [], length, slice_index};
     ghost use Rattle.std.specs.Prelude.{slice_index_or, IfOk, IfErr, OnOk, OnErr};
-    ghost use Rattle.lio_config.specs.Configuration.{configuration_of};
+    ghost use Rattle.lio_task.specs.Configuration.{configuration_of};
     ghost use Rattle.lio_calculus.specs.Step.{can};
-    ghost use Rattle.lio_calculus_rounds.specs.WellFormed.{IsWellFormed};
-    ghost use Rattle.lio_calculus_rounds.specs.Round.{round};
-    ghost use Rattle.lio_calculus_rounds.specs.Laws.{IsOrderOf};
-    ghost use Rattle.lio_calculus_rounds.specs.Rounds.{IsComplete, rounds_from, stepped, tasks};
-    ghost use Rattle.lio_calculus_logs.specs.Journals.{AreMergeable, AreNumberedFrom};
-    ghost use Rattle.lio_calculus_logs.specs.Journals.{ArePartsOf, IsMerged};
-    ghost use Rattle.lio_config.specs.Logs.{AreFresh, log_in};
-    ghost use Rattle.lio_config.specs.Takes.{Stays};
+    ghost use Rattle.lio_calculus_runs.specs.WellFormed.{IsWellFormed};
+    ghost use Rattle.lio_calculus_runs.specs.Round.{round};
+    ghost use Rattle.lio_calculus_runs.specs.RoundLaws.{IsOrderOf};
+    ghost use Rattle.lio_calculus_runs.specs.Rounds.{IsComplete, rounds_from, stepped, tasks};
+    ghost use Rattle.lio_calculus.specs.Journals.{AreMergeable, AreNumberedFrom};
+    ghost use Rattle.lio_calculus.specs.Journals.{ArePartsOf, IsMerged};
+    ghost use Rattle.lio_task.specs.Logs.{AreFresh, log_in};
+    ghost use Rattle.lio_task.specs.Takes.{Stays};
     ghost use Rattle.lio_rounds.specs.Invariant.{IsRunTo};
     ghost use Rattle.lio_rounds.specs.MachineState.{HasBegun, HasRun, HasTaken, HasWalked};
     ghost use Rattle.lio_rounds.specs.Schedule.{HasGoneOn};

@@ -4,12 +4,12 @@ use Rattle.std.proofs.lemmas.Bool.Decides.{nat_tests}
 use Rattle.std.proofs.lemmas.List.Elements.{All-contains, All-contains_itself}
 use Rattle.lio_values.specs.declared.entry.Entry.{Entry}
 use Rattle.lio_events.specs.Printable.{IsPrintable}
-use Rattle.lio_calculus_logs.specs.Journals.{IsMerged}
-use Rattle.lio_calculus_logs.proofs.JournalLemmas.{one_merge}
-use Rattle.lio_config.specs.declared.config.Config.{Config}
-use Rattle.lio_config.specs.declared.config.Holder.{Holder}
-use Rattle.lio_config.specs.Logs.{log_in}
-use Rattle.lio_config.proofs.LogLemmas.{log-at}
+use Rattle.lio_calculus.specs.Journals.{IsMerged}
+use Rattle.lio_calculus.proofs.JournalLemmas.{one_merge}
+use Rattle.lio_task.specs.declared.config.Config.{Config}
+use Rattle.lio_task.specs.declared.config.Holder.{Holder}
+use Rattle.lio_task.specs.Logs.{log_in}
+use Rattle.lio_task.proofs.LogLemmas.{log-at}
 use Rattle.lio_rounds.specs.declared.by_rounds.Ran.{Ran}
 use Rattle.lio_rounds.specs.Runs.{HasItsLogs}
 

@@ -4,17 +4,17 @@ use Rattle.std.specs.Prelude.{IfOk, OnErr}
 use Rattle.lio_labels.specs.declared.label.Label.{Label}
 use Rattle.lio_values.specs.declared.value.Content.{Content}
 use Rattle.lio_values.specs.declared.entry.Entry.{Entry}
-use Rattle.lio_calculus_names.specs.NameLaws.{IsContentPrintable}
+use Rattle.lio_calculus_runs.specs.NameLaws.{IsContentPrintable}
 use Rattle.lio_events.specs.Printable.{IsPrintable}
 use Rattle.lio_syntax.specs.Statements.{Procedure}
 use Rattle.lio_calculus.specs.Step.{Configuration}
 use Rattle.lio_calculus.specs.Erased.{LowTurn, erase}
 use Rattle.lio_start.specs.Job.{IsJob, JobParts, first_of}
 use Rattle.lio_start.proofs.LawLemmas.{start_is_sound}
-use Rattle.lio_calculus_names.specs.Configuration.{NamesOnly}
-use Rattle.lio_calculus_names.proofs.LowTurns.{erased_names_only, low_turn_names_only}
+use Rattle.lio_calculus_runs.specs.Configuration.{NamesOnly}
+use Rattle.lio_calculus_runs.proofs.NamedLowTurns.{erased_names_only, low_turn_names_only}
 use Rattle.lio_start.proofs.NameLemmas.{start_names_only}
-use Rattle.lio_config.specs.declared.config.Holder.{Holder}
+use Rattle.lio_task.specs.declared.config.Holder.{Holder}
 use Rattle.lio_erasure.specs.declared.low.LowFault.{LowFault}
 use Rattle.lio_erasure.specs.Low.{IsSeenOfSound, low_configuration_of}
 use Rattle.lio_erasure.specs.LowParts.{ErasedState}

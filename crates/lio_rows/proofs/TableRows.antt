@@ -5,19 +5,19 @@ use Rattle.lio_events.specs.Printable.{IsPrintable}
 use Rattle.lio_syntax.specs.Statements.{Procedure}
 use Rattle.lio_calculus.specs.Step.{Configuration}
 use Rattle.lio_calculus.specs.Run.{Ran, run}
-use Rattle.lio_calculus_logs.specs.Journals.{IsMerged, actors}
-use Rattle.lio_calculus_logs.proofs.JournalLemmas.{one_merge}
-use Rattle.lio_config.specs.declared.config.Config.{Config}
-use Rattle.lio_config.specs.Configuration.{configuration_of}
-use Rattle.lio_config.specs.Logs.{log_in}
+use Rattle.lio_calculus.specs.Journals.{IsMerged, actors}
+use Rattle.lio_calculus.proofs.JournalLemmas.{one_merge}
+use Rattle.lio_task.specs.declared.config.Config.{Config}
+use Rattle.lio_task.specs.Configuration.{configuration_of}
+use Rattle.lio_task.specs.Logs.{log_in}
 use Rattle.lio_start.specs.Job.{IsJob, JobParts, first_of as start_of}
 use Rattle.lio_start.proofs.NameLemmas.{runs_are_printable}
 use Rattle.lio_table.specs.Closing.{HasRunTo}
 use Rattle.lio_table.specs.Tables.{beginning_with, first_of}
 use Rattle.lio_table.specs.declared.table.Table.{Table}
-use Rattle.lio_table_rule.specs.declared.view.Beginning.{Beginning}
-use Rattle.lio_table_rule.specs.declared.view.View.{View}
-use Rattle.lio_table_rule.specs.Views.{configuration_from}
+use Rattle.lio_table.specs.declared.view.Beginning.{Beginning}
+use Rattle.lio_table.specs.declared.view.View.{View}
+use Rattle.lio_table.specs.Views.{configuration_from}
 use Rattle.lio_rows.specs.Tables.{Begins}
 
 -- what a table began with, as a configuration

@@ -4,7 +4,7 @@ use Rattle.lio_start.specs.Job.{JobParts, first_of as start_of}
 use Rattle.lio_table.specs.declared.seat.LioSeat.{LioSeat}
 use Rattle.lio_table.specs.declared.table.Table.{Table}
 use Rattle.lio_table.specs.Tables.{IsSeatOf, first_of, view_of}
-use Rattle.lio_table_rule.specs.Views.{configuration_from, rights}
+use Rattle.lio_table.specs.Views.{configuration_from, rights}
 
 -- A table began with the first configuration of a job.
 pub record Begins (job : JobParts) (table : Table) : Type 0 where

@@ -1,18 +1,18 @@
 //! Commands that check histories.
 ghost use Rattle.std.specs.Prelude.{IfOk};
 ghost use Rattle.lio_calculus.specs.Sound.{IsSound};
-ghost use Rattle.lio_calculus_names.specs.Configuration.{NamesOnly};
-ghost use Rattle.lio_config.specs.Configuration.{configuration_of};
-ghost use Rattle.lio_config.specs.Logs.{AreFresh};
+ghost use Rattle.lio_calculus_runs.specs.Configuration.{NamesOnly};
+ghost use Rattle.lio_task.specs.Configuration.{configuration_of};
+ghost use Rattle.lio_task.specs.Logs.{AreFresh};
 
 use crate::refusal::{Answered, Refusal};
 use crate::runs::{Source, read_job};
 use lio_audit::{AuditFault, check_journal};
 use lio_clauses::NoMemory;
-use lio_config::Config;
 use lio_events::Journal;
 use lio_rows_commands::Answer;
 use lio_start::{Job, start};
+use lio_task::Config;
 use std::alloc::Global;
 
 /// What a command on histories answers, if the word and the number of fields are those of one.

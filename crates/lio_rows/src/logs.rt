@@ -1,20 +1,19 @@
 //! Commands on the logs of the nodes after a run.
 ghost use Rattle.std.specs.Prelude.{ℕ, All, IfOk};
 ghost use Rattle.lio_events.specs.Printable.{IsPrintable};
-ghost use Rattle.lio_config.specs.Logs.{log_in};
+ghost use Rattle.lio_task.specs.Logs.{log_in};
 ghost use Rattle.lio_rounds.specs.Runs.{HasItsLogs};
 
 use crate::refusal::{Answered, Refusal};
 use crate::runs::{Source, read_job};
 use crate::turns::push_refused;
 use lio_clauses::{Names, NoMemory};
-use lio_config::Config;
 use lio_events::{Journal, print_entry, print_journal};
-use lio_merge::merge;
-use lio_rounds::{Ran, run};
+use lio_rounds::{Ran, merge, run};
 use lio_rows_commands::Answer;
 use lio_rows_fields::read_number;
 use lio_start::Job;
+use lio_task::Config;
 use lio_values::Entry;
 use std::alloc::Global;
 

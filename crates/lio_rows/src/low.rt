@@ -1,12 +1,12 @@
 //! Commands on turns of the erased calculus.
 ghost use Rattle.std.specs.Prelude.{◌≡◌, All, IfOk};
 ghost use Rattle.lio_values.specs.Purity.{IsContentPure};
-ghost use Rattle.lio_calculus_names.specs.NameLaws.{IsContentPrintable};
+ghost use Rattle.lio_calculus_runs.specs.NameLaws.{IsContentPrintable};
 ghost use Rattle.lio_events.specs.Printable.{IsPrintable};
 ghost use Rattle.lio_calculus.specs.Erased.{erase};
-ghost use Rattle.lio_config.specs.Configuration.{configuration_of};
+ghost use Rattle.lio_task.specs.Configuration.{configuration_of};
 ghost use Rattle.lio_start.specs.Job.{first_of};
-ghost use Rattle.lio_calculus_names.specs.Configuration.{NamesOnly};
+ghost use Rattle.lio_calculus_runs.specs.Configuration.{NamesOnly};
 ghost use Rattle.lio_erasure.specs.Low.{LeavesOutBlanks, low_configuration_of};
 ghost use Rattle.lio_erasure.specs.LowParts.{low_of};
 
@@ -14,13 +14,13 @@ use crate::refusal::{Answered, Refusal};
 use crate::runs::{Source, read_viewer, released};
 use crate::turns::push_refused;
 use lio_clauses::{Names, NoMemory};
-use lio_config::{Config, Holder};
 use lio_erasure::{Low, LowConfig, LowFault, erase_config};
 use lio_events::{Contents, print_entry};
 use lio_labels::Label;
 use lio_rows_commands::Answer;
 use lio_rows_fields::read_numbers;
 use lio_start::{Job, start};
+use lio_task::{Config, Holder};
 use lio_values::Entry;
 use std::alloc::{AllocError, Global};
 use std::fmt::Write;

@@ -1,16 +1,16 @@
 //! Commands by which an observer checks its view, and computes it.
 ghost use Rattle.std.specs.Prelude.{All, IfOk};
-ghost use Rattle.lio_calculus_names.specs.NameLaws.{IsContentPrintable};
+ghost use Rattle.lio_calculus_runs.specs.NameLaws.{IsContentPrintable};
 ghost use Rattle.lio_events.specs.Printable.{IsPrintable};
 
 use crate::refusal::{Answered, Refusal};
 use crate::runs::{Source, read_viewer, released};
+use lio_audit::{RerunFault, ViewFault, check_view, low_start, rerun_view};
 use lio_clauses::NoMemory;
 use lio_events::{Contents, Journal, print_journal};
 use lio_labels::Label;
 use lio_rows_commands::Answer;
 use lio_start::Job;
-use lio_views::{RerunFault, ViewFault, check_view, low_start, rerun_view};
 use std::alloc::Global;
 
 /// What a command of an observer answers, if the word and the number of fields are those of one.

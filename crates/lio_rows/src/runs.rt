@@ -1,7 +1,7 @@
 //! Commands on runs.
 ghost use Rattle.std.specs.Prelude.{◌≡◌, All, IfOk, None, length};
 ghost use Rattle.lio_values.specs.Named.{IsContentNamed};
-ghost use Rattle.lio_calculus_names.specs.NameLaws.{IsContentPrintable};
+ghost use Rattle.lio_calculus_runs.specs.NameLaws.{IsContentPrintable};
 ghost use Rattle.lio_events.specs.Printable.{IsPrintable};
 ghost use Rattle.lio_start.specs.Fits.{fits};
 ghost use Rattle.lio_syntax.specs.Verdict.{IsOver};

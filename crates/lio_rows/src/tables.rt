@@ -10,14 +10,14 @@ use crate::runs::{Source, read_job};
 use crate::turns::push_refused;
 use lio_cells::{Waiter, Wish};
 use lio_clauses::NoMemory;
-use lio_config::Config;
 use lio_events::{Journal, print_journal};
-use lio_merge::merge;
+use lio_rounds::merge;
 use lio_rows_commands::Answer;
 use lio_rows_fields::read_numbers;
 use lio_start::{Job, start};
 use lio_syntax::Script;
 use lio_table::{LioSeat, Table, TurnEnd};
+use lio_task::Config;
 use std::alloc::{AllocError, Global};
 
 /// What a command on tables answers, if the word and the number of fields are those of one.

@@ -9,7 +9,7 @@ use Rattle.lio_operators.specs.declared.faults.OpFault.{OpFault}
 use Rattle.lio_operators.specs.declared.faults.OpFault.TheVariants.{Kind, NoMemory}
 use Rattle.lio_operators.specs.Answers.{Answers}
 use Rattle.lio_operators.specs.Operators.{operate1, operate2}
-use Rattle.lio_calculus_names.proofs.Operators.{IsGivenNamed as IsNamed, one_named, two_named}
+use Rattle.lio_calculus_runs.proofs.Operators.{IsGivenNamed as IsNamed, one_named, two_named}
 use Rattle.lio_rows_commands.specs.Given.{IsGivenNamed}
 
 -- what is answered is as what is given

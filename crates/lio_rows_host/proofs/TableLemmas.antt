@@ -5,20 +5,20 @@ use Rattle.lio_events.specs.Printable.{IsPrintable}
 use Rattle.lio_syntax.specs.Statements.{Procedure}
 use Rattle.lio_calculus.specs.Step.{Configuration}
 use Rattle.lio_calculus.specs.Run.{Ran, run}
-use Rattle.lio_calculus_logs.specs.Journals.{IsMerged, actors}
-use Rattle.lio_calculus_logs.proofs.JournalLemmas.{has-first, one_merge}
-use Rattle.lio_config.specs.declared.config.Config.{Config}
-use Rattle.lio_config.specs.Configuration.{configuration_of}
-use Rattle.lio_config.specs.Logs.{log_in}
+use Rattle.lio_calculus.specs.Journals.{IsMerged, actors}
+use Rattle.lio_calculus.proofs.JournalLemmas.{has-first, one_merge}
+use Rattle.lio_task.specs.declared.config.Config.{Config}
+use Rattle.lio_task.specs.Configuration.{configuration_of}
+use Rattle.lio_task.specs.Logs.{log_in}
 use Rattle.lio_start.specs.Job.{IsJob, JobParts, first_of as start_of}
 use Rattle.lio_start.proofs.NameLemmas.{runs_are_printable}
 use Rattle.lio_table.specs.Claims.{HasClaimed}
 use Rattle.lio_table.specs.Closing.{HasRunTo}
 use Rattle.lio_table.specs.Tables.{beginning_with}
-use Rattle.lio_table_rule.specs.declared.view.Beginning.{Beginning}
-use Rattle.lio_table_rule.specs.declared.view.Claimed.{Claimed}
-use Rattle.lio_table_rule.specs.declared.view.View.{View}
-use Rattle.lio_table_rule.specs.Views.{HoldsNode, configuration_from}
+use Rattle.lio_table.specs.declared.view.Beginning.{Beginning}
+use Rattle.lio_table.specs.declared.view.Claimed.{Claimed}
+use Rattle.lio_table.specs.declared.view.View.{View}
+use Rattle.lio_table.specs.Views.{HoldsNode, configuration_from}
 
 -- what a table began with, as a configuration
 begins_with : (script : List Procedure) (config : Config) → configuration_from (beginning_with script config) ≡ configuration_of script config

@@ -4,7 +4,7 @@ ghost use Rattle.std.specs.Prelude.{◌≡◌, ◌^◌, [], All, IfOk};
 ghost use Rattle.lio_events.specs.Printable.{IsPrintable};
 ghost use Rattle.lio_start.specs.Job.{first_of as start_of};
 ghost use Rattle.lio_table.specs.Tables.{IsSeatOf, first_of, view_of};
-ghost use Rattle.lio_table_rule.specs.Views.{configuration_from, rights};
+ghost use Rattle.lio_table.specs.Views.{configuration_from, rights};
 ghost use Rattle.lio_workers.specs.Seated.{HasRights};
 
 use crate::found::Found;
@@ -13,8 +13,8 @@ use crate::tables::close;
 use lio_clauses::NoMemory;
 use lio_events::{Journal, print_journal};
 use lio_host_main::Loaded;
-use lio_merge::merge;
 use lio_outside::MemStore;
+use lio_rounds::merge;
 use lio_start::{Job, start};
 use lio_syntax::Script;
 use lio_table::{Claim, LioSeat, Table, TurnEnd};

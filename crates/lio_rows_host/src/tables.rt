@@ -2,24 +2,24 @@
 //! each finds no task that can take one; the joined seat takes those that are left. That both
 //! threads take turns isn't told.
 ghost use Rattle.std.specs.Prelude.{◌≡◌, ◌^◌, ◌<◌, ◌≤◌, [], All, IfOk, length};
-ghost use Rattle.lio_calculus_logs.specs.Journals.{AreMergeable};
-ghost use Rattle.lio_config.specs.Logs.{log_in};
+ghost use Rattle.lio_calculus.specs.Journals.{AreMergeable};
+ghost use Rattle.lio_task.specs.Logs.{log_in};
 ghost use Rattle.lio_table.specs.Closing.{HasRunTo};
 ghost use Rattle.lio_table.specs.Tables.{IsSeatOf, first_of, view_of};
-ghost use Rattle.lio_table_rule.specs.Views.{rights};
+ghost use Rattle.lio_table.specs.Views.{rights};
 ghost use Rattle.lio_workers.specs.Seated.{HasRights};
 
 use crate::found::Found;
 use crate::jobs::host_job;
 use lio_clauses::NoMemory;
-use lio_config::Config;
 use lio_events::{Journal, channel_bytes};
 use lio_host_main::Loaded;
-use lio_merge::merge;
 use lio_outside::MemStore;
+use lio_rounds::merge;
 use lio_start::{Job, start};
 use lio_syntax::Script;
 use lio_table::{LioSeat, Table, TurnEnd};
+use lio_task::Config;
 use std::alloc::{AllocError, Global};
 use std::sync::Wait;
 use std::thread;

@@ -1,5 +1,5 @@
 -- What an observer sees of a first configuration goes by the sealed inputs with their contents hidden.
-use Rattle.std.proofs.Common.{◌≡◌, ◌∙◌, refl, sym, ap, subst, ℕ, zero, suc, ◌+◌, Bool, true, false, IsTrue, List, [], ◌∷◌, ◌++◌, map, Option, Some, None, arith}
+use Rattle.std.proofs.Common.{◌≡◌, ◌∙◌, refl, sym, ap, subst, ℕ, zero, suc, ◌+◌, Bool, true, false, IsTrue, List, [], ◌∷◌, ◌++◌, map, Some, None, arith}
 use Rattle.std.specs.Prelude.{replicate, slice_index_or}
 use Rattle.std.proofs.Math.ListN.{get_or-map}
 use Rattle.std.proofs.lemmas.List.{map-append}
@@ -18,7 +18,6 @@ use Rattle.lio_cells.specs.declared.state.State.TheVariants.{Job}
 use Rattle.lio_task_control.specs.Environment.{bind_all}
 use Rattle.lio_task_control.specs.Items.{enter}
 use Rattle.lio_task_control.specs.Hiding.{hide_environment, hide_item}
-use Rattle.lio_task_control.proofs.HidingLemmas.{enter-hidden}
 use Rattle.lio_calculus.specs.Task.{TaskState}
 use Rattle.lio_calculus.specs.Hiding.{hide_task}
 use Rattle.lio_calculus.specs.Step.{Cell, blank, body_of, parameters_of}

@@ -15,9 +15,9 @@ use Rattle.lio_task_control.proofs.EnvironmentLemmas.{drop_at}
 use Rattle.lio_calculus.specs.Task.{TaskState}
 use Rattle.lio_calculus.specs.Step.{Cell, blank, body_of, child_of, parameters_of}
 use Rattle.lio_task_turns.specs.StateOf.{program_of}
-use Rattle.lio_config.specs.declared.config.Holder.{Holder}
-use Rattle.lio_config.specs.Configuration.{cell_of}
-use Rattle.lio_config.specs.Logs.{HaveNoLogs}
+use Rattle.lio_task.specs.declared.config.Holder.{Holder}
+use Rattle.lio_task.specs.Configuration.{cell_of}
+use Rattle.lio_task.specs.Logs.{HaveNoLogs}
 use Rattle.lio_policy.proofs.PolicyLemmas.{limits_are_small}
 use Rattle.lio_policy.specs.Policy.{PolicyParts, IsPolicy}
 use Rattle.lio_policy.specs.declared.policy.FileEntry.{FileEntry}

@@ -27,13 +27,13 @@ use Rattle.lio_start.specs.Start.{content_by, input_content, sealed_inputs, inpu
 use Rattle.lio_start.proofs.SoundLemmas.{start-pure}
 use Rattle.lio_start.proofs.ArgumentLemmas.{arguments-have}
 use Rattle.lio_start.proofs.PlaceLemmas.{Stands, Channel as channel, Task as job, Nothing as nothing, stands, begun}
-use Rattle.lio_calculus_names.specs.Script.{IsScriptNamed}
-use Rattle.lio_calculus_names.specs.Configuration.{IsTaskNamed, IsStateNamed}
+use Rattle.lio_calculus_runs.specs.Script.{IsScriptNamed}
+use Rattle.lio_calculus_runs.specs.Configuration.{IsTaskNamed, IsStateNamed}
 use Rattle.lio_start.specs.Laws.{StartNamesOnly, RunsArePrintable}
-use Rattle.lio_calculus_names.proofs.Plans.{found_named}
-use Rattle.lio_calculus_names.proofs.Tasks.{enter_named}
-use Rattle.lio_calculus_names.proofs.Turns.{run_names_only}
-use Rattle.lio_calculus_names.proofs.Literals.{script_named}
+use Rattle.lio_calculus_runs.proofs.NamedPlans.{found_named}
+use Rattle.lio_calculus_runs.proofs.NamedTasks.{enter_named}
+use Rattle.lio_calculus_runs.proofs.NamedTurns.{run_names_only}
+use Rattle.lio_calculus_runs.proofs.Literals.{script_named}
 
 -- the inputs
 content_named : (names : List (List ℕ)) (longest : ℕ) (label : Label) (text : List ℕ) → AreNamed names label → IsContentNamed names (input_content longest label text)

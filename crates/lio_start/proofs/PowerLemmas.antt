@@ -27,7 +27,7 @@ use Rattle.lio_policy.specs.declared.policy.Arg.TheVariants.{Fixed}
 use Rattle.lio_start.specs.Fits.{procedure_of}
 use Rattle.lio_start.specs.Start.{content_by, input_content, sealed_inputs, inputs_of, argument_of, task_of, start_of}
 use Rattle.lio_start.proofs.PlaceLemmas.{Stands, Channel as channel, Task as job, Nothing as nothing, stands, begun}
-use Rattle.lio_calculus_names.proofs.PowerLaws.{run_releases_by_powers}
+use Rattle.lio_calculus_runs.proofs.PowerLaws.{run_releases_by_powers}
 use Rattle.lio_start.specs.Laws.{ReleasesAreOfPolicy}
 use Rattle.lio_start.proofs.ArgumentLemmas.{arguments-have}
 use Rattle.lio_start.specs.Powers.{power_of, power_in, task_powers, powers_of}

@@ -1,19 +1,18 @@
 -- An argument of a policy's tasks is no deeper and no larger than is counted of it: an input is sealed and a value of the policy is no list, so both have depth 0.
-use Rattle.std.proofs.Common.{◌≡◌, ◌∙◌, ℕ, zero, suc, ◌+◌, ◌<◌, ◌≤◌, max, List, [], ◌∷◌, ◌++◌, length, take, get_or, All, arith, map, refl, ap, sym, subst}
+use Rattle.std.proofs.Common.{◌≡◌, ◌∙◌, ℕ, zero, suc, ◌+◌, ◌<◌, ◌≤◌, List, [], ◌∷◌, ◌++◌, length, take, get_or, All, arith, map, ap, sym, subst}
 use Rattle.std.specs.Prelude.{slice_index_or}
-use Rattle.std.proofs.lemmas.List.Elements.{All-nil, All-cons, All-head, All-tail, All-weaker}
+use Rattle.std.proofs.lemmas.List.Elements.{All-nil, All-cons, All-head}
 use Rattle.std.proofs.lemmas.List.{map-append, take_more}
 use Rattle.lio_values.specs.Forest.{Forest, deepest}
-use Rattle.lio_values.specs.Measures.{label_size, tree_size, items_size, value_depth, value_size}
+use Rattle.lio_values.specs.Measures.{tree_size, items_size, value_depth, value_size}
 use Rattle.lio_values.specs.Views.{tree_of, forest_of, values_of, values_of-forest_of}
 use Rattle.lio_values.specs.declared.value.Plain.{Plain}
 use Rattle.lio_values.specs.declared.value.Plain.TheVariants.{Unit as unit, Flag, Whole, Bytes, Lab, Power, RefOf, VarOf, ResultOf, ChanOf, Items as listed}
 use Rattle.lio_values.specs.declared.value.Value.{Value}
-use Rattle.lio_values.specs.declared.value.Value.TheVariants.{Bare, Sealed}
+use Rattle.lio_values.specs.declared.value.Value.TheVariants.{Bare}
 use Rattle.lio_policy.specs.Lists.{singles, input_size, extent, in_all}
 use Rattle.lio_policy.specs.Policy.{PolicyParts, IsFixed, IsSingle, IsArgument, IsPolicy}
 use Rattle.lio_policy.specs.declared.policy.FileEntry.{FileEntry}
-use Rattle.lio_policy.specs.declared.policy.TaskEntry.{TaskEntry}
 use Rattle.lio_policy.specs.declared.policy.Arg.{Arg, map-Arg, roll-Arg}
 use Rattle.lio_policy.specs.declared.policy.Arg.TheVariants as arg
 use Rattle.lio_policy.specs.declared.policy.Arg.TheOpen.{Arg-F}

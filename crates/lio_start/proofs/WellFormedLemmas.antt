@@ -11,11 +11,11 @@ use Rattle.lio_syntax.specs.Kept.{KeepsRules}
 use Rattle.lio_syntax.specs.Lines.{script_lines}
 use Rattle.lio_calculus.specs.Task.{TaskState}
 use Rattle.lio_calculus.specs.Step.{Cell, blank, body_of}
-use Rattle.lio_calculus_rounds.specs.Calls.{ItemFits, ScriptFits, CallsFit}
-use Rattle.lio_calculus_rounds.specs.Turns.{turns_of, turns_left}
-use Rattle.lio_calculus_rounds.proofs.LineCalls.{rules_fit_calls}
-use Rattle.lio_calculus_rounds.proofs.Plans.{found-fits}
-use Rattle.lio_calculus_rounds.proofs.Tasks.{enter-fits}
+use Rattle.lio_calculus_runs.specs.Calls.{ItemFits, ScriptFits, CallsFit}
+use Rattle.lio_calculus_runs.specs.Turns.{turns_of, turns_left}
+use Rattle.lio_calculus_runs.proofs.LineCalls.{rules_fit_calls}
+use Rattle.lio_calculus_runs.proofs.PlanCalls.{found-fits}
+use Rattle.lio_calculus_runs.proofs.TaskCalls.{enter-fits}
 use Rattle.lio_policy.proofs.PolicyLemmas.{limits_are_small}
 use Rattle.lio_policy.specs.Policy.{PolicyParts}
 use Rattle.lio_policy.specs.declared.policy.FileEntry.{FileEntry}

@@ -20,9 +20,9 @@ use Rattle.lio_calculus.specs.Step.{blank, cell_at}
 use Rattle.lio_calculus.specs.Sound.{block_says, EachBound, IsTaskOf, IsSound}
 use Rattle.lio_calculus.specs.Erased.{erase}
 use Rattle.lio_calculus.specs.Run.{Ran, run}
-use Rattle.lio_calculus_rounds.specs.WellFormed.{IsWellFormed}
-use Rattle.lio_calculus_names.specs.PowerLaws.{ReleasesByPowers}
-use Rattle.lio_calculus_names.specs.Configuration.{NamesOnly}
+use Rattle.lio_calculus_runs.specs.WellFormed.{IsWellFormed}
+use Rattle.lio_calculus_runs.specs.PowerLaws.{ReleasesByPowers}
+use Rattle.lio_calculus_runs.specs.Configuration.{NamesOnly}
 use Rattle.lio_policy.specs.Policy.{PolicyParts, IsPolicy}
 use Rattle.lio_policy.specs.declared.policy.FileEntry.{FileEntry}
 use Rattle.lio_policy.specs.declared.policy.TaskEntry.{TaskEntry}

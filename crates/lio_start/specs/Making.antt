@@ -7,9 +7,9 @@ use Rattle.lio_values.specs.declared.act.Birth.{Birth}
 use Rattle.lio_syntax.specs.Statements.{Procedure}
 use Rattle.lio_calculus.specs.Step.{Cell, child_of}
 use Rattle.lio_task_turns.specs.StateOf.{program_of}
-use Rattle.lio_config.specs.declared.config.Holder.{Holder}
+use Rattle.lio_task.specs.declared.config.Holder.{Holder}
 use Rattle.lio_task.specs.Births.{CanBeBorn}
-use Rattle.lio_config.specs.Configuration.{cell_of}
+use Rattle.lio_task.specs.Configuration.{cell_of}
 use Rattle.lio_policy.specs.declared.policy.TaskEntry.{TaskEntry}
 use Rattle.lio_start.specs.Fits.{Fits}
 use Rattle.lio_start.specs.Start.{argument_of, cells_in_all, task_of}

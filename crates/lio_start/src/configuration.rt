@@ -1,15 +1,15 @@
 //! The first configuration of a job.
 ghost use Rattle.std.specs.Prelude.{◌≡◌, IfOk};
-ghost use Rattle.lio_calculus_rounds.specs.WellFormed.{IsWellFormed};
-ghost use Rattle.lio_config.specs.Configuration.{configuration_of};
-ghost use Rattle.lio_config.specs.Logs.{AreFresh};
+ghost use Rattle.lio_calculus_runs.specs.WellFormed.{IsWellFormed};
+ghost use Rattle.lio_task.specs.Configuration.{configuration_of};
+ghost use Rattle.lio_task.specs.Logs.{AreFresh};
 ghost use Rattle.lio_start.specs.Job.{first_of};
 
 use crate::holders::{add_channels, add_free, add_jobs, cells_in_all};
 use crate::inputs::sealed_inputs;
 use crate::job::Job;
 use lio_clauses::NoMemory;
-use lio_config::Config;
+use lio_task::Config;
 use std::alloc::Global;
 
 /// Makes the first configuration of a job: the channels, then the tasks, then the numbers that the

@@ -3,17 +3,17 @@
 ghost use Rattle.std.specs.Prelude.{◌≡◌, ◌<◌, ◌^◌, [], IfOk, OnOk, List, map, replicate};
 ghost use Rattle.lio_syntax.specs.Statements.{Procedure};
 ghost use Rattle.lio_calculus.specs.Step.{blank};
-ghost use Rattle.lio_config.specs.Configuration.{cell_of};
-ghost use Rattle.lio_config.specs.Logs.{HaveNoLogs};
+ghost use Rattle.lio_task.specs.Configuration.{cell_of};
+ghost use Rattle.lio_task.specs.Logs.{HaveNoLogs};
 ghost use Rattle.lio_start.specs.Start.{cells_in_all, channel_cell, job_cells};
 ghost use Rattle.lio_start.specs.Making.{Adds, CanBeginAll};
 
 use crate::beginning::job;
 use lio_cells::{Bytes, Node, State};
 use lio_clauses::NoMemory;
-use lio_config::Holder;
 use lio_policy::{FileEntry, TaskEntry};
 use lio_syntax::Script;
+use lio_task::Holder;
 use lio_values::Values;
 use std::alloc::Global;
 

@@ -12,15 +12,15 @@ use Rattle.lio_task.specs.declared.task.Task.{Task}
 use Rattle.lio_task.specs.StateOf.{state_in}
 use Rattle.lio_task_turns.specs.declared.turn.Onward.{Onward}
 use Rattle.lio_task_turns.specs.StateOf.{program_of}
-use Rattle.lio_config.specs.declared.config.Holder.{Holder}
-use Rattle.lio_config.specs.Takes.{PlansVisit}
-use Rattle.lio_config.specs.Turns.{ends, looks}
-use Rattle.lio_config.proofs.MoveLemmas.{no-task-still, over-still}
-use Rattle.lio_table_rule.specs.declared.view.Beginning.{Beginning}
-use Rattle.lio_table_rule.specs.declared.view.Claimed.{Claimed}
-use Rattle.lio_table_rule.specs.declared.view.View.{View}
-use Rattle.lio_table_rule.specs.Views.{HoldsNode, rights}
-use Rattle.lio_table_rule.specs.Steps.{FindsTaken, SeatState, with_busy, with_ticket}
+use Rattle.lio_task.specs.declared.config.Holder.{Holder}
+use Rattle.lio_task.specs.Takes.{PlansVisit}
+use Rattle.lio_task.specs.Turns.{ends, looks}
+use Rattle.lio_task.proofs.MoveLemmas.{no-task-still, over-still}
+use Rattle.lio_table.specs.declared.view.Beginning.{Beginning}
+use Rattle.lio_table.specs.declared.view.Claimed.{Claimed}
+use Rattle.lio_table.specs.declared.view.View.{View}
+use Rattle.lio_table.specs.Views.{HoldsNode, rights}
+use Rattle.lio_table.specs.Steps.{FindsTaken, SeatState, with_busy, with_ticket}
 use Rattle.lio_table.specs.declared.table.Table.{Table}
 use Rattle.lio_table.specs.declared.turn.TurnEnd.{TurnEnd}
 use Rattle.lio_table.specs.declared.turn.TurnEnd.TheVariants.{Moved, Busy, Still}

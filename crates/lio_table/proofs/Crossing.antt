@@ -2,8 +2,8 @@
 use denote.Param.Send.{IsSend, IsSync, sendable}
 use denote.Param.SendFields.{declared_sync, as_row_sync}
 use Rattle.std.proofs.Crossing.{crosses}
-use Rattle.lio_config.proofs.Crossing.{holder-send}
-use Rattle.lio_config.specs.contracts.config.Holder as G
+use Rattle.lio_task.proofs.Crossing.{holder-send}
+use Rattle.lio_task.specs.contracts.config.Holder as G
 use Rattle.lio_values.proofs.held.Held.TheSendSync as held
 use Rattle.lio_values.specs.contracts.held.Held as D
 use Rattle.atomic_table.proofs.owned.Table.TheSendSync as nodes

@@ -17,23 +17,23 @@ use Rattle.lio_calculus.specs.Sound.{IsTaskOf}
 use Rattle.lio_calculus.specs.Step.{Cell, Configuration, Move, can, cell_at, entry_of, met as met_state, move_of, number_of, visit, waits}
 use Rattle.lio_calculus.specs.Task.{TaskState}
 use Rattle.lio_calculus.proofs.MeetingLemmas.{visit_meets_node}
-use Rattle.lio_calculus_logs.specs.Journals.{of_cell}
-use Rattle.lio_calculus_logs.proofs.JournalLemmas.{has-cases, has-first, has-later}
+use Rattle.lio_calculus.specs.Journals.{of_cell}
+use Rattle.lio_calculus.proofs.JournalLemmas.{has-cases, has-first, has-later}
 use Rattle.lio_task.specs.declared.task.Task.{Task}
 use Rattle.lio_task.specs.StateOf.{state_in}
 use Rattle.lio_task_plan.specs.Planned.{simple_of}
 use Rattle.lio_task_turns.specs.declared.turn.Onward.{Onward}
 use Rattle.lio_task_turns.specs.Turns.{onward_of}
-use Rattle.lio_config.specs.declared.config.Holder.{Holder}
-use Rattle.lio_config.specs.Takes.{PlansVisit}
-use Rattle.lio_config.specs.Turns.{ends, looks}
-use Rattle.lio_config.proofs.MoveLemmas.{waits-still}
-use Rattle.lio_table_rule.specs.declared.view.Beginning.{Beginning}
-use Rattle.lio_table_rule.specs.declared.view.Claimed.{Claimed}
-use Rattle.lio_table_rule.specs.declared.view.Given.{Given}
-use Rattle.lio_table_rule.specs.declared.view.View.{View}
-use Rattle.lio_table_rule.specs.Views.{HasLog, HoldsNode, StandIn}
-use Rattle.lio_table_rule.specs.Steps.{FindsTaken, SeatState, with_busy, with_entry, with_given, with_node, with_ticket, with_turn, without}
+use Rattle.lio_task.specs.declared.config.Holder.{Holder}
+use Rattle.lio_task.specs.Takes.{PlansVisit}
+use Rattle.lio_task.specs.Turns.{ends, looks}
+use Rattle.lio_task.proofs.MoveLemmas.{waits-still}
+use Rattle.lio_table.specs.declared.view.Beginning.{Beginning}
+use Rattle.lio_table.specs.declared.view.Claimed.{Claimed}
+use Rattle.lio_table.specs.declared.view.Given.{Given}
+use Rattle.lio_table.specs.declared.view.View.{View}
+use Rattle.lio_table.specs.Views.{HasLog, HoldsNode, StandIn}
+use Rattle.lio_table.specs.Steps.{FindsTaken, SeatState, with_busy, with_entry, with_given, with_node, with_ticket, with_turn, without}
 use Rattle.lio_table.specs.declared.table.Table.{Table}
 use Rattle.lio_table.specs.Holders.{CanPut, CanPutBoth, TakesOut}
 use Rattle.lio_table.specs.Moves.{MovesAlone, MovesBoth}

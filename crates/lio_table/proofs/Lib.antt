@@ -10,3 +10,15 @@ pub mod OverLemmas
 pub mod AnswerLemmas
 pub mod Crossing
 pub mod ScriptCrossing
+pub mod Lists
+pub mod Turns
+pub mod Seats
+pub mod Tickets
+pub mod Standing
+pub mod ClaimKept
+pub mod TicketKept
+pub mod GiveKept
+pub mod CutsKept
+pub mod Opening
+pub mod Closing
+pub mod MomentLemmas

@@ -8,13 +8,13 @@ use Rattle.lio_calculus.specs.Effect.{acted, entry_in, served}
 use Rattle.lio_calculus.specs.Step.{Configuration, cell_at}
 use Rattle.lio_task.specs.declared.task.Task.{Task}
 use Rattle.lio_task_turns.specs.StateOf.{program_of}
-use Rattle.lio_config.specs.declared.config.Holder.{Holder}
-use Rattle.lio_config.specs.Configuration.{cell_of}
-use Rattle.lio_config.specs.Turns.{AreAsBefore, PreparedMeeting, Recorded, RecordedMet}
-use Rattle.lio_config.specs.Turns as turns
-use Rattle.lio_config.proofs.LentLemmas.{recorded-acted, recorded-served}
-use Rattle.lio_table_rule.specs.Views.{HoldsNode, StandIn}
-use Rattle.lio_table_rule.specs.Steps.{CanRecord, DrawsTicket, SeatState, with_given, with_ticket, with_turn}
+use Rattle.lio_task.specs.declared.config.Holder.{Holder}
+use Rattle.lio_task.specs.Configuration.{cell_of}
+use Rattle.lio_task.specs.Turns.{AreAsBefore, PreparedMeeting, Recorded, RecordedMet}
+use Rattle.lio_task.specs.Turns as turns
+use Rattle.lio_task.proofs.LentLemmas.{recorded-acted, recorded-served}
+use Rattle.lio_table.specs.Views.{HoldsNode, StandIn}
+use Rattle.lio_table.specs.Steps.{CanRecord, DrawsTicket, SeatState, with_given, with_ticket, with_turn}
 use Rattle.lio_table.specs.Holders.{CanPutBoth, PutsBoth, Stand}
 use Rattle.lio_table.specs.Moves.{MovesBoth, ReturnsBoth}
 use Rattle.lio_table.proofs.TurnLemmas.{HeldGrown, applied-actor, applied-other, held-grown, holder-job, part-of-actor, part-of-target, stands-in}

@@ -3,14 +3,14 @@ use Rattle.std.proofs.Common.{◌≡◌, sym, subst, ℕ, ◌+◌, List, length,
 use Rattle.atomic_table.specs.Table.{opening}
 use Rattle.lio_syntax.specs.Statements.{Procedure}
 use Rattle.lio_calculus.specs.Sound.{IsSound}
-use Rattle.lio_config.specs.declared.config.Config.{Config}
-use Rattle.lio_config.specs.declared.config.Holder.{Holder}
-use Rattle.lio_config.specs.Configuration.{configuration_of}
-use Rattle.lio_config.specs.Logs.{AreFresh}
-use Rattle.lio_table_rule.specs.declared.view.Beginning.{Beginning}
-use Rattle.lio_table_rule.specs.Views.{configuration_from, with_all_tickets}
-use Rattle.lio_table_rule.specs.Rule.{Keeps}
-use Rattle.lio_table_rule.proofs.Opening.{fresh-kept}
+use Rattle.lio_task.specs.declared.config.Config.{Config}
+use Rattle.lio_task.specs.declared.config.Holder.{Holder}
+use Rattle.lio_task.specs.Configuration.{configuration_of}
+use Rattle.lio_task.specs.Logs.{AreFresh}
+use Rattle.lio_table.specs.declared.view.Beginning.{Beginning}
+use Rattle.lio_table.specs.Views.{configuration_from, with_all_tickets}
+use Rattle.lio_table.specs.Rule.{Keeps}
+use Rattle.lio_table.proofs.Opening.{fresh-kept}
 use Rattle.lio_table.specs.Tables.{beginning_with}
 
 -- it stands for the configuration

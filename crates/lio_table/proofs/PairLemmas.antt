@@ -1,12 +1,12 @@
 -- Two nodes that a seat gives back, one after the other.
 use Rattle.std.proofs.Common.{◌≡◌, ◌∙◌, sym, ap, subst, ℕ, eqb, ne_eqb, not, [], ◌∷◌, Contains, None}
 use Rattle.atomic_table.specs.Table.{rest}
-use Rattle.lio_calculus_logs.proofs.JournalLemmas.{from-part, in-part}
-use Rattle.lio_config.specs.declared.config.Holder.{Holder}
-use Rattle.lio_table_rule.specs.declared.view.Claimed.{Claimed}
-use Rattle.lio_table_rule.specs.declared.view.View.{View}
-use Rattle.lio_table_rule.specs.Views.{HasLog, HoldsNode}
-use Rattle.lio_table_rule.specs.Steps.{SeatState, with_given}
+use Rattle.lio_calculus.proofs.JournalLemmas.{from-part, in-part}
+use Rattle.lio_task.specs.declared.config.Holder.{Holder}
+use Rattle.lio_table.specs.declared.view.Claimed.{Claimed}
+use Rattle.lio_table.specs.declared.view.View.{View}
+use Rattle.lio_table.specs.Views.{HasLog, HoldsNode}
+use Rattle.lio_table.specs.Steps.{SeatState, with_given}
 use Rattle.lio_table.specs.Holders.{CanPut, CanPutBoth, PutsBack, PutsBoth}
 
 pub first-can_put : (k n : ℕ) (holder met : Holder) (me : SeatState) → CanPutBoth k n holder met me → CanPut n met me

@@ -1,6 +1,6 @@
 -- Threads may share a script.
-use denote.Param.Send.{IsSend, IsSync, sendable, view_send, view_sync}
-use denote.Param.SendFields.{declared_send, declared_sync, variants_send, variants_sync, as_row_send, as_row_sync}
+use denote.Param.Send.{IsSend, IsSync, sendable, view_sync}
+use denote.Param.SendFields.{declared_sync, variants_send, variants_sync, as_row_sync}
 use Rattle.std.proofs.Crossing.{crosses}
 use Rattle.lio_values.proofs.list.List.TheSendSync as list
 use Rattle.lio_values.proofs.name.Name.TheSendSync as name

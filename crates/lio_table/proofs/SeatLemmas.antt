@@ -1,16 +1,16 @@
 -- The nodes of a seat and the slots that are out with it.
-use Rattle.std.proofs.Common.{◌≡◌, ◌≢◌, ◌∙◌, refl, sym, ap, subst, arith, ℕ, zero, suc, ◌+◌, ◌<◌, ◌≤◌, ◌⊎◌, inl, inr, Bool, true, false, cond, not, eqb, eq-eqb, ne_eqb, List, [], ◌∷◌, length, Contains, Option, Some, None, is_some}
+use Rattle.std.proofs.Common.{◌≡◌, ◌∙◌, refl, sym, ap, subst, arith, ℕ, zero, suc, ◌<◌, ◌⊎◌, inl, inr, true, cond, not, eq-eqb, ne_eqb, List, [], ◌∷◌, length, Contains, Option, Some, None, is_some}
 use mathlib.Core.Option.{some, some-injective, some-ne-none}
 use lib.ListN.{get_elem?}
 use Rattle.atomic_table.specs.Table.{rest, turned}
-use Rattle.lio_calculus_logs.proofs.JournalLemmas.{has-cases, has-first, has-later}
+use Rattle.lio_calculus.proofs.JournalLemmas.{has-cases, has-first, has-later}
 use Rattle.lio_cells.specs.declared.waiter.Waiter.{Waiter}
-use Rattle.lio_config.specs.declared.config.Holder.{Holder}
-use Rattle.lio_table_rule.specs.declared.view.Beginning.{Beginning}
-use Rattle.lio_table_rule.specs.declared.view.Claimed.{Claimed}
-use Rattle.lio_table_rule.specs.declared.view.View.{View}
-use Rattle.lio_table_rule.specs.Views.{HasLog, HoldsNode, rights}
-use Rattle.lio_table_rule.specs.Steps.{CanGive, GivesNode, SeatState, TakesNode, with_given, without}
+use Rattle.lio_task.specs.declared.config.Holder.{Holder}
+use Rattle.lio_table.specs.declared.view.Beginning.{Beginning}
+use Rattle.lio_table.specs.declared.view.Claimed.{Claimed}
+use Rattle.lio_table.specs.declared.view.View.{View}
+use Rattle.lio_table.specs.Views.{HasLog, HoldsNode, rights}
+use Rattle.lio_table.specs.Steps.{CanGive, GivesNode, SeatState, TakesNode, with_given, without}
 use Rattle.lio_table.specs.Claims.{GiveSays}
 use Rattle.lio_table.specs.Holders.{PutsBack}
 use Rattle.lio_table.specs.Seats.{AreOut, HaveNumbers, IsOut}

@@ -1,11 +1,11 @@
 -- Slots that all have something.
-use Rattle.std.proofs.Common.{◌≡◌, ◌∙◌, refl, sym, ap, subst, arith, ℕ, zero, suc, ◌+◌, ◌<◌, List, [], ◌∷◌, ◌++◌, length, map, get_or, take, Option, Some, None}
+use Rattle.std.proofs.Common.{◌≡◌, ◌∙◌, refl, sym, ap, ℕ, zero, suc, ◌+◌, List, [], ◌∷◌, ◌++◌, map, take, Option, Some, None}
 use Rattle.std.proofs.lemmas.List.{take_more}
 use mathlib.Core.List.{map-append}
 use mathlib.Core.Option.{some, some-injective, some-ne-none}
 use lib.ListN.{get_elem?}
-use Rattle.lio_table_rule.proofs.Lists.{at-within}
-use Rattle.lio_table_rule.proofs.Opening.{at-or}
+use Rattle.lio_table.proofs.Lists.{at-within}
+use Rattle.lio_table.proofs.Opening.{at-or}
 
 -- none of them has nothing
 pub none-never : {T : Type 0} (all : List T) (i : ℕ) → get_elem? (map Some all) i ≡ some None → ⊥

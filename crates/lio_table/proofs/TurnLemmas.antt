@@ -11,24 +11,24 @@ use Rattle.lio_calculus.specs.Effect.{acted, applied, entry_in, served, touches}
 use Rattle.lio_calculus.specs.Plan.{Program}
 use Rattle.lio_calculus.specs.Step.{Cell, Configuration, cell_at}
 use Rattle.lio_calculus.proofs.SoundLemmas.{task-job}
-use Rattle.lio_calculus_logs.specs.Logs.{fold}
-use Rattle.lio_calculus_logs.specs.Journals.{of_cell}
-use Rattle.lio_calculus_logs.proofs.FoldLemmas.{fold-append}
-use Rattle.lio_calculus_logs.proofs.JournalLemmas.{shows-actor, shows-target}
+use Rattle.lio_calculus.specs.Logs.{fold}
+use Rattle.lio_calculus.specs.Journals.{of_cell}
+use Rattle.lio_calculus.proofs.FoldLemmas.{fold-append}
+use Rattle.lio_calculus.proofs.JournalLemmas.{shows-actor, shows-target}
 use Rattle.lio_task.specs.declared.task.Task.{Task}
 use Rattle.lio_task.specs.StateOf.{state_in}
 use Rattle.lio_task_turns.specs.StateOf.{program_of}
-use Rattle.lio_config.specs.declared.config.Holder.{Holder}
-use Rattle.lio_config.specs.Configuration.{cell_of}
-use Rattle.lio_config.specs.Turns.{Prepared, Recorded, Records, Stands}
-use Rattle.lio_config.specs.Turns as turns
-use Rattle.lio_config.proofs.LentLemmas.{recorded-acted}
-use Rattle.lio_table_rule.specs.declared.view.Beginning.{Beginning}
-use Rattle.lio_table_rule.specs.declared.view.View.{View}
-use Rattle.lio_table_rule.specs.Views.{HasLog, HoldsNode, StandIn, configuration_from}
-use Rattle.lio_table_rule.specs.Steps.{CanRecord, DrawsTicket, SeatState, with_entry, with_given, with_ticket, with_turn}
-use Rattle.lio_table_rule.proofs.Standing.{program-from}
-use Rattle.lio_table_rule.proofs.TicketKept.{is-held}
+use Rattle.lio_task.specs.declared.config.Holder.{Holder}
+use Rattle.lio_task.specs.Configuration.{cell_of}
+use Rattle.lio_task.specs.Turns.{Prepared, Recorded, Records, Stands}
+use Rattle.lio_task.specs.Turns as turns
+use Rattle.lio_task.proofs.LentLemmas.{recorded-acted}
+use Rattle.lio_table.specs.declared.view.Beginning.{Beginning}
+use Rattle.lio_table.specs.declared.view.View.{View}
+use Rattle.lio_table.specs.Views.{HasLog, HoldsNode, StandIn, configuration_from}
+use Rattle.lio_table.specs.Steps.{CanRecord, DrawsTicket, SeatState, with_entry, with_given, with_ticket, with_turn}
+use Rattle.lio_table.proofs.Standing.{program-from}
+use Rattle.lio_table.proofs.TicketKept.{is-held}
 use Rattle.lio_table.specs.Holders.{CanPut, PutsBack}
 use Rattle.lio_table.specs.Moves.{MovesAlone, ReturnsNode}
 

@@ -4,10 +4,10 @@ use Rattle.std.specs.Prelude.{Result, Ok, Err, IfOk, IfErr, OnOk, OnErr}
 use Rattle.lio_values.specs.declared.act.Act.{Act}
 use Rattle.lio_values.specs.declared.entry.Entry.{Entry}
 use Rattle.lio_cells.specs.declared.waiter.Waiter.{Waiter}
-use Rattle.lio_config.specs.declared.config.Holder.{Holder}
-use Rattle.lio_table_rule.specs.declared.view.Beginning.{Beginning}
-use Rattle.lio_table_rule.specs.Views.{HasLog}
-use Rattle.lio_table_rule.specs.Steps.{SeatState, with_given}
+use Rattle.lio_task.specs.declared.config.Holder.{Holder}
+use Rattle.lio_table.specs.declared.view.Beginning.{Beginning}
+use Rattle.lio_table.specs.Views.{HasLog}
+use Rattle.lio_table.specs.Steps.{SeatState, with_given}
 use Rattle.lio_table.specs.Holders.{CanPutBoth, PutsBoth}
 use Rattle.lio_table.specs.Moves.{ReturnsBoth}
 use Rattle.lio_table.specs.Waits.{LeavesBoth, waited_at, waiting_with}

@@ -1,10 +1,10 @@
 -- What a claim and a give say of a seat's view.
 use Rattle.std.specs.Prelude.{◌≡◌, ℕ, ◌^◌}
 use Rattle.lio_calculus.specs.Step.{Configuration}
-use Rattle.lio_config.specs.declared.config.Holder.{Holder}
-use Rattle.lio_table_rule.specs.declared.view.View.{View}
-use Rattle.lio_table_rule.specs.Views.{HasLog, HoldsNode, StandIn, rights}
-use Rattle.lio_table_rule.specs.Steps.{with_busy, with_given, with_node}
+use Rattle.lio_task.specs.declared.config.Holder.{Holder}
+use Rattle.lio_table.specs.declared.view.View.{View}
+use Rattle.lio_table.specs.Views.{HasLog, HoldsNode, StandIn, rights}
+use Rattle.lio_table.specs.Steps.{with_busy, with_given, with_node}
 use Rattle.lio_table.specs.declared.claim.Claim.{Claim}
 use Rattle.lio_table.specs.declared.claim.Claim.TheVariants.{Held, Busy}
 

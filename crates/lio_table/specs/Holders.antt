@@ -1,10 +1,10 @@
 -- Holders that are taken out of the slots of a seat's nodes, and put back.
 use Rattle.std.specs.Prelude.{◌≡◌, ℕ, List, ◌∷◌, Option, None}
 use Rattle.lio_calculus.specs.Step.{Configuration}
-use Rattle.lio_config.specs.declared.config.Holder.{Holder}
-use Rattle.lio_table_rule.specs.declared.view.View.{View}
-use Rattle.lio_table_rule.specs.Views.{HasLog, HoldsNode, StandIn}
-use Rattle.lio_table_rule.specs.Steps.{SeatState, with_given, with_node}
+use Rattle.lio_task.specs.declared.config.Holder.{Holder}
+use Rattle.lio_table.specs.declared.view.View.{View}
+use Rattle.lio_table.specs.Views.{HasLog, HoldsNode, StandIn}
+use Rattle.lio_table.specs.Steps.{SeatState, with_given, with_node}
 
 -- A node is taken with its holder: its slot is out with the seat, and empty.
 pub record TakesOut (n : ℕ) (old : SeatState) (holder : Holder) (new : SeatState) : Type 0 where

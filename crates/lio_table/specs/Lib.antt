@@ -7,3 +7,10 @@ pub mod Tables
 pub mod Taken
 pub mod Turns
 pub mod Waits
+pub mod Views
+pub mod Rule
+pub mod Logs
+pub mod Steps
+pub mod Cuts
+pub mod Ends
+pub mod Laws

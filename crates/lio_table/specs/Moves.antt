@@ -4,10 +4,10 @@ use Rattle.lio_values.specs.declared.entry.Entry.{Entry}
 use Rattle.lio_cells.specs.declared.waiter.Waiter.{Waiter}
 use Rattle.lio_calculus.specs.Effect.{entry_in}
 use Rattle.lio_calculus.specs.Step.{Configuration, cell_at}
-use Rattle.lio_config.specs.declared.config.Holder.{Holder}
-use Rattle.lio_config.specs.Turns.{ends, looks}
-use Rattle.lio_table_rule.specs.Views.{HoldsNode, StandIn}
-use Rattle.lio_table_rule.specs.Steps.{SeatState, with_given, with_ticket, with_turn}
+use Rattle.lio_task.specs.declared.config.Holder.{Holder}
+use Rattle.lio_task.specs.Turns.{ends, looks}
+use Rattle.lio_table.specs.Views.{HoldsNode, StandIn}
+use Rattle.lio_table.specs.Steps.{SeatState, with_given, with_ticket, with_turn}
 
 -- A node that was taken with this holder was given back as it was: with the same log and waiters.
 pub record ReturnsNode (n : ℕ) (holder : Holder) (old new : SeatState) : Type 0 where

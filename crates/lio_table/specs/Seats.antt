@@ -2,10 +2,10 @@
 use Rattle.std.specs.Prelude.{◌≡◌, ℕ, ◌<◌, ◌≤◌, true, List, length, Option, Some, is_some}
 use mathlib.Core.Option.{some}
 use lib.ListN.{get_elem?}
-use Rattle.lio_config.specs.declared.config.Holder.{Holder}
-use Rattle.lio_table_rule.specs.declared.view.Beginning.{Beginning}
-use Rattle.lio_table_rule.specs.declared.view.Claimed.{Claimed}
-use Rattle.lio_table_rule.specs.Views.{HasLog}
+use Rattle.lio_task.specs.declared.config.Holder.{Holder}
+use Rattle.lio_table.specs.declared.view.Beginning.{Beginning}
+use Rattle.lio_table.specs.declared.view.Claimed.{Claimed}
+use Rattle.lio_table.specs.Views.{HasLog}
 
 -- The slot of a node that a seat holds is out with it: it has the node's holder, at which those wait who were found at the claim.
 pub record IsOut (first : Beginning) (node : Claimed) (slot : ℕ × Option Holder) : Type 0 where

@@ -1,10 +1,10 @@
 -- What contracts see of a table and its seats.
-use Rattle.std.specs.Prelude.{◌≡◌, ℕ, List, Contains}
+use Rattle.std.specs.Prelude.{◌≡◌, List}
 use Rattle.lio_syntax.specs.Statements.{Procedure}
-use Rattle.lio_config.specs.declared.config.Config.{Config}
-use Rattle.lio_table_rule.specs.declared.view.Beginning.{Beginning}
-use Rattle.lio_table_rule.specs.declared.view.View.{View}
-use Rattle.lio_table_rule.specs.Views.{beginning_of}
+use Rattle.lio_task.specs.declared.config.Config.{Config}
+use Rattle.lio_table.specs.declared.view.Beginning.{Beginning}
+use Rattle.lio_table.specs.declared.view.View.{View}
+use Rattle.lio_table.specs.Views.{beginning_of}
 use Rattle.lio_table.specs.Seats.{AreOut}
 use Rattle.lio_table.specs.declared.seat.LioSeat.{LioSeat}
 use Rattle.lio_table.specs.declared.table.Table.{Table}

@@ -4,10 +4,10 @@ use Rattle.lio_values.specs.declared.entry.Entry.{Entry}
 use Rattle.lio_cells.specs.declared.waiter.Waiter.{Waiter}
 use Rattle.lio_syntax.specs.Statements.{Procedure}
 use Rattle.lio_calculus.specs.Step.{Configuration}
-use Rattle.lio_config.specs.declared.config.Holder.{Holder}
-use Rattle.lio_table_rule.specs.declared.view.View.{View}
-use Rattle.lio_table_rule.specs.Views.{HasLog, StandIn}
-use Rattle.lio_table_rule.specs.Steps.{SeatState, with_node}
+use Rattle.lio_task.specs.declared.config.Holder.{Holder}
+use Rattle.lio_table.specs.declared.view.View.{View}
+use Rattle.lio_table.specs.Views.{HasLog, StandIn}
+use Rattle.lio_table.specs.Steps.{SeatState, with_node}
 use Rattle.lio_table.specs.declared.table.Table.{Table}
 use Rattle.lio_table.specs.declared.turn.TurnEnd.{TurnEnd}
 use Rattle.lio_table.specs.declared.turn.TurnEnd.TheVariants.{Moved}

@@ -12,13 +12,13 @@ use Rattle.lio_calculus.specs.Effect.{entry_in}
 use Rattle.lio_task.specs.declared.task.Task.{Task}
 use Rattle.lio_task.specs.StateOf.{state_in}
 use Rattle.lio_task_turns.specs.StateOf.{program_of}
-use Rattle.lio_config.specs.declared.config.Holder.{Holder}
-use Rattle.lio_config.specs.Turns.{Stands, ends, looks}
-use Rattle.lio_table_rule.specs.declared.view.Beginning.{Beginning}
-use Rattle.lio_table_rule.specs.declared.view.Given.{Given}
-use Rattle.lio_table_rule.specs.declared.view.View.{View}
-use Rattle.lio_table_rule.specs.Views.{HasLog, rights}
-use Rattle.lio_table_rule.specs.Steps.{with_busy}
+use Rattle.lio_task.specs.declared.config.Holder.{Holder}
+use Rattle.lio_task.specs.Turns.{Stands, ends, looks}
+use Rattle.lio_table.specs.declared.view.Beginning.{Beginning}
+use Rattle.lio_table.specs.declared.view.Given.{Given}
+use Rattle.lio_table.specs.declared.view.View.{View}
+use Rattle.lio_table.specs.Views.{HasLog, rights}
+use Rattle.lio_table.specs.Steps.{with_busy}
 use Rattle.lio_table.specs.Waits.{waiting_with}
 use Rattle.lio_table.specs.declared.turn.TurnEnd.{TurnEnd}
 use Rattle.lio_table.specs.declared.turn.TurnEnd.TheVariants.{Moved, Busy, Still}

@@ -1,14 +1,14 @@
 -- Tasks that wait at a node for what it isn't ready for.
-use Rattle.std.specs.Prelude.{◌≡◌, ℕ, List, ◌∷◌, Option, None}
+use Rattle.std.specs.Prelude.{◌≡◌, ℕ, List, ◌∷◌, None}
 use Rattle.lio_values.specs.declared.act.Act.{Act}
 use Rattle.lio_values.specs.declared.act.Act.TheVariants as act
 use Rattle.lio_cells.specs.declared.waiter.Waiter.{Waiter}
 use Rattle.lio_cells.specs.declared.wish.Wish.{Wish}
 use Rattle.lio_cells.specs.declared.wish.Wish.TheVariants as wish
 use Rattle.lio_cells.specs.Node.{with_waiter}
-use Rattle.lio_config.specs.declared.config.Holder.{Holder}
-use Rattle.lio_table_rule.specs.Views.{HoldsNode}
-use Rattle.lio_table_rule.specs.Steps.{SeatState, with_given}
+use Rattle.lio_task.specs.declared.config.Holder.{Holder}
+use Rattle.lio_table.specs.Views.{HoldsNode}
+use Rattle.lio_table.specs.Steps.{SeatState, with_given}
 
 -- a task that waits for something
 abbrev waiter : ℕ → Wish → Waiter

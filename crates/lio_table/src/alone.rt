@@ -1,6 +1,6 @@
 //! Turns that meet no other node.
 ghost use Rattle.std.specs.Prelude.{◌≡◌, ◌<◌, IfErr, IfOk};
-ghost use Rattle.lio_config.specs.Takes.{PlansOwn};
+ghost use Rattle.lio_task.specs.Takes.{PlansOwn};
 ghost use Rattle.lio_table.specs.Holders.{CanPut, Stand};
 ghost use Rattle.lio_table.specs.Moves.{MovesAlone, ReturnsNode};
 
@@ -8,9 +8,8 @@ use crate::seat::NodeSeat;
 use crate::table::Table;
 use lio_cells::Waiters;
 use lio_clauses::NoMemory;
-use lio_config::Holder;
 use lio_syntax::Script;
-use lio_task::Way;
+use lio_task::{Holder, Way};
 use lio_values::{Act, Entry, Held, Reply};
 use std::alloc::Global;
 

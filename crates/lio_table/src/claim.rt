@@ -1,6 +1,6 @@
 //! Nodes that a seat claims and gives back.
 ghost use Rattle.std.specs.Prelude.{◌≡◌, ◌≢◌, ◌<◌, length};
-ghost use Rattle.lio_table_rule.specs.Views.{HoldsNode};
+ghost use Rattle.lio_table.specs.Views.{HoldsNode};
 ghost use Rattle.lio_table.specs.Tables.{IsSeatOf, view_of};
 ghost use Rattle.lio_table.specs.Claims.{ClaimSays, GiveSays};
 

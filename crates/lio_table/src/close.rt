@@ -1,13 +1,13 @@
 //! The end of a table.
 ghost use Rattle.std.specs.Prelude.{◌≡◌, ◌^◌, [], IfErr, IfOk};
-ghost use Rattle.lio_table_rule.specs.Views.{rights};
+ghost use Rattle.lio_table.specs.Views.{rights};
 ghost use Rattle.lio_table.specs.Tables.{IsSeatOf, first_of, view_of};
 ghost use Rattle.lio_table.specs.Closing.{HasRunTo};
 
 use crate::boxes::unboxed;
 use crate::seat::LioSeat;
 use crate::table::Table;
-use lio_config::Config;
+use lio_task::Config;
 use std::alloc::Global;
 
 /// No memory was left to close a table. It comes back with its seat.

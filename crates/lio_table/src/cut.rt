@@ -1,11 +1,11 @@
 //! Seats that are cut in two, and two that are made one.
 ghost use Rattle.std.specs.Prelude.{◌≡◌, ◌<◌, ◌≤◌, []};
-ghost use Rattle.lio_table_rule.specs.Cuts.{cut_left, cut_right, joined};
+ghost use Rattle.lio_table.specs.Cuts.{cut_left, cut_right, joined};
 ghost use Rattle.lio_table.specs.Tables.{IsSeatOf, view_of};
 
+use crate::rule_steps::{Cutting, Joining, Looking, Share};
 use crate::seat::LioSeat;
 use crate::table::Table;
-use lio_table_rule::{Cutting, Joining, Looking, Share};
 use std::marker::Brand;
 
 impl Table {

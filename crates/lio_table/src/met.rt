@@ -1,8 +1,8 @@
 //! Turns that meet another node.
 ghost use Rattle.std.specs.Prelude.{◌≡◌, ◌<◌, IfErr, IfOk, IsTrue, false};
 ghost use Rattle.lio_cells.specs.State.{ready};
-ghost use Rattle.lio_config.specs.Takes.{PlansVisit};
-ghost use Rattle.lio_table_rule.specs.Views.{rights};
+ghost use Rattle.lio_task.specs.Takes.{PlansVisit};
+ghost use Rattle.lio_table.specs.Views.{rights};
 ghost use Rattle.lio_table.specs.Holders.{CanPutBoth, PutsBoth, Stand};
 ghost use Rattle.lio_table.specs.Moves.{MovesBoth, ReturnsBoth};
 ghost use Rattle.lio_table.specs.Waits.{LeavesBoth};
@@ -12,8 +12,8 @@ use crate::seat::NodeSeat;
 use crate::table::Table;
 use lio_cells::Waiters;
 use lio_clauses::NoMemory;
-use lio_config::Holder;
 use lio_syntax::Script;
+use lio_task::Holder;
 use lio_task_turns::Onward;
 use lio_values::{Act, Entry, Held};
 use std::alloc::Global;

@@ -7,7 +7,7 @@ ghost use Rattle.lio_table.specs.Waits.{waited_at};
 
 use lio_cells::{Node, Waiter, Wish};
 use lio_clauses::NoMemory;
-use lio_config::Holder;
+use lio_task::Holder;
 use lio_values::Act;
 
 /// Lets a task wait at a node that isn't ready for what its turn asks. After a refusal all is as

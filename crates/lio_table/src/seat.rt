@@ -1,10 +1,11 @@
 //! Seats at a table.
 ghost use Rattle.std.specs.Prelude.{◌≡◌, ◌<◌};
-ghost use Rattle.lio_table_rule.specs.Views.{rights};
+ghost use Rattle.lio_table.specs.Views.{rights};
 ghost use Rattle.lio_table.specs.Seats.{HaveNumbers};
 
+use crate::origin::Slot;
+use crate::view::View;
 use atomic_table::Seat;
-use lio_table_rule::{Slot, View};
 
 /// A seat as the atomic steps take it.
 pub(crate) type NodeSeat = Seat<Slot, View>;

@@ -1,14 +1,15 @@
 //! The atomic steps of a seat.
 ghost use Rattle.std.specs.Prelude.{◌≡◌, ◌<◌, MatchBool, MatchOption};
-ghost use Rattle.lio_table_rule.specs.Views.{HoldsNode, rights};
-ghost use Rattle.lio_table_rule.specs.Steps.{CanGive, CanRecord, DrawsTicket, FindsTaken};
-ghost use Rattle.lio_table_rule.specs.Steps.{GivesNode, TakesNode};
+ghost use Rattle.lio_table.specs.Views.{HoldsNode, rights};
+ghost use Rattle.lio_table.specs.Steps.{CanGive, CanRecord, DrawsTicket, FindsTaken};
+ghost use Rattle.lio_table.specs.Steps.{GivesNode, TakesNode};
 ghost use Rattle.lio_table.specs.Holders.{CanPut, PutsBack, TakesOut};
 
+use crate::origin::Slot;
+use crate::rule_steps::{Claiming, Drawing, Giving, Recorded};
 use crate::seat::NodeSeat;
 use crate::table::Table;
-use lio_config::Holder;
-use lio_table_rule::{Claiming, Drawing, Giving, Recorded, Slot};
+use lio_task::Holder;
 use lio_values::{Entry, Held};
 use std::marker::Brand;
 

@@ -1,13 +1,14 @@
 //! The table.
 ghost use Rattle.std.specs.Prelude.{◌≡◌, ◌+◌, length};
-ghost use Rattle.lio_table_rule.specs.Views.{beginning_of};
+ghost use Rattle.lio_table.specs.Views.{beginning_of};
 
 use crate::boxes::boxed;
+use crate::origin::{Origin, Rule, Slot};
 use crate::seat::LioSeat;
+use crate::view::View;
 use lio_clauses::NoMemory;
-use lio_config::Config;
 use lio_syntax::Script;
-use lio_table_rule::{Origin, Rule, Slot, View};
+use lio_task::Config;
 use std::alloc::Global;
 
 /// A table as the atomic steps take it.
@@ -31,9 +32,9 @@ pub struct Table {
 impl Table {
     ghost use Rattle.std.specs.Prelude.{◌≡◌, IfOk, length};
     ghost use Rattle.lio_calculus.specs.Sound.{IsSound};
-    ghost use Rattle.lio_config.specs.Configuration.{configuration_of};
-    ghost use Rattle.lio_config.specs.Logs.{AreFresh};
-    ghost use Rattle.lio_table_rule.specs.Views.{with_all_tickets};
+    ghost use Rattle.lio_task.specs.Configuration.{configuration_of};
+    ghost use Rattle.lio_task.specs.Logs.{AreFresh};
+    ghost use Rattle.lio_table.specs.Views.{with_all_tickets};
     ghost use Rattle.lio_table.specs.Tables.{IsSeatOf, beginning_with, first_of, view_of};
 
     /// A table of a configuration's nodes, and its first seat, which has all tickets.

@@ -1,7 +1,7 @@
 //! Turns of tasks.
 ghost use Rattle.std.specs.Prelude.{◌≡◌, ◌<◌, [], IfErr, IfOk};
-ghost use Rattle.lio_config.specs.Takes.{PlansFull, PlansOwn, PlansVisit};
-ghost use Rattle.lio_table_rule.specs.declared.view.View.{View};
+ghost use Rattle.lio_task.specs.Takes.{PlansFull, PlansOwn, PlansVisit};
+ghost use Rattle.lio_table.specs.declared.view.View.{View};
 ghost use Rattle.lio_table.specs.Tables.{IsSeatOf, first_of, view_of};
 ghost use Rattle.lio_table.specs.Turns.{TurnRefused, TurnSays, born_at, drawn_after};
 ghost use Rattle.lio_table.specs.Taken.{EndsTurn, HasOne, HasTwo, IsInTurn, RefusesTurn};
@@ -11,9 +11,8 @@ use crate::seat::{LioSeat, NodeSeat};
 use crate::table::Table;
 use lio_cells::Waiters;
 use lio_clauses::NoMemory;
-use lio_config::{Holder, blank_entry};
 use lio_syntax::Script;
-use lio_task::Way;
+use lio_task::{Holder, Way, blank_entry};
 use lio_task_plan::{Full, Plan};
 use lio_task_turns::{Onward, Turn};
 use lio_values::{Act, Entry, Held, Reply};

@@ -2,3 +2,14 @@ pub mod StepLemmas
 pub mod BirthLemmas
 pub mod PlannedLemmas
 pub mod Steps
+pub mod HolderLemmas
+pub mod MoveLemmas
+pub mod PairLemmas
+pub mod LentLemmas
+pub mod TurnLemmas
+pub mod LogLemmas
+pub mod PreviewLemmas
+pub mod SoundLemmas
+pub mod PartLemmas
+pub mod TaskCrossing
+pub mod Crossing

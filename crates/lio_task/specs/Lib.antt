@@ -3,3 +3,9 @@ pub mod Births
 pub mod Goes
 pub mod Next
 pub mod Status
+pub mod Configuration
+pub mod Pair
+pub mod Turns
+pub mod Takes
+pub mod Logs
+pub mod Laws

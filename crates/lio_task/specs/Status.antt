@@ -1,5 +1,5 @@
 -- Where a task stands: at an access, or elsewhere (blocking variables and the results of tasks; LIO, ICFP 2012).
-use Rattle.std.specs.Prelude.{ℕ, List, ◌∷◌, Option, Some, None, if◌then◌else◌}
+use Rattle.std.specs.Prelude.{List, ◌∷◌, Option, Some, None, if◌then◌else◌}
 use Rattle.lio_values.specs.declared.value.Handle.{Handle}
 use Rattle.lio_syntax_lines.specs.declared.line.Simple.{Simple}
 use Rattle.lio_syntax_lines.specs.declared.line.Simple.TheVariants.{Read, Take, Put, Wait}

@@ -1,6 +1,6 @@
 -- Which statements stand at a place in lines, by what the line there says.
 use Rattle.std.specs.Prelude.{slice_get, Option, Some, None}
-use Rattle.std.proofs.Common.{◌≡◌, ℕ, zero, suc, ◌+◌, ◌<◌, ◌≤◌, true, List, [], ◌∷◌, length, drop, refl, ap, sym, subst, ◌∙◌, arith, add-one, length-drop}
+use Rattle.std.proofs.Common.{◌≡◌, ℕ, zero, suc, ◌+◌, ◌≤◌, true, List, [], ◌∷◌, length, drop, refl, ap, sym, subst, ◌∙◌, add-one}
 use Rattle.lio_syntax_lines.specs.declared.line.Line.{Line}
 use Rattle.lio_syntax_lines.specs.declared.line.Operand.{Operand}
 use Rattle.lio_syntax_lines.specs.declared.line.Simple.{Simple}

@@ -1,20 +1,20 @@
 -- Where one goes on, and where a fault is caught: what the table of places says of what a procedure still has to do.
 use Rattle.std.specs.Prelude.{slice_get, Option, Some, None}
-use Rattle.std.proofs.Common.{◌≡◌, ℕ, zero, suc, ◌+◌, ◌<◌, ◌≤◌, true, List, [], ◌∷◌, ◌++◌, length, get_or, drop, refl, ap, sym, subst, ◌∙◌, add-one, arith}
+use Rattle.std.proofs.Common.{◌≡◌, ℕ, zero, suc, ◌+◌, ◌<◌, ◌≤◌, true, List, [], ◌∷◌, ◌++◌, length, drop, refl, ap, sym, subst, ◌∙◌, add-one, arith}
 use Rattle.std.proofs.lemmas.Option.{slice_get_past}
 use Rattle.lio_values.specs.declared.fault.Fault.{Fault}
 use Rattle.lio_syntax_lines.specs.declared.line.Line.{Line}
 use Rattle.lio_syntax_lines.specs.declared.line.Line.TheVariants as line
 use Rattle.lio_syntax.specs.Statements.{Statement, Statements, Nothing, Then}
-use Rattle.lio_syntax.specs.Behind.{Behind, Outside, Block, First, Tried, before_proc, behind}
+use Rattle.lio_syntax.specs.Behind.{Behind, Outside, Block, First, Tried, behind}
 use Rattle.lio_syntax.specs.OpenBlocks.{accepts}
 use Rattle.lio_syntax.specs.Closing.{end_of, IsInside}
 use Rattle.lio_syntax.specs.declared.places.Place.{Place}
-use Rattle.lio_syntax.specs.Places.{else_at, behind_else, first_place, next_by, settled, settled_by, blocks_by, blocks_behind, blocks_at, place_in, place_by, place_or, place_at}
+use Rattle.lio_syntax.specs.Places.{else_at, behind_else, first_place, settled, settled_by, blocks_by, blocks_behind, blocks_at, place_by, place_or, place_at}
 use Rattle.lio_syntax.proofs.GrammarLemmas.{Fits, accepted}
 use Rattle.lio_syntax.proofs.PlaceLemmas.{EndLine, end_line, Shape, here}
 use Rattle.lio_task_control.specs.Environment.{Environment}
-use Rattle.lio_task_control.specs.Items.{Item, Do, Mark, enter, rest_of}
+use Rattle.lio_task_control.specs.Items.{Item, Do, enter, rest_of}
 use Rattle.lio_task_control.specs.Throwing.{Place as Stand, thrown}
 use Rattle.lio_task_control.specs.Continuation.{block_of, block_at, innermost, marked, passed, outer_at, items_at}
 use Rattle.lio_task_control.specs.Parts.{EndsAll, SettlesAt, CatchesNothing, with_fault}

@@ -1,6 +1,6 @@
 -- What a frame stands for, by its stage.
 use Rattle.std.specs.Prelude.{slice_get, Option, Some, None, MatchOption}
-use Rattle.std.proofs.Common.{◌≡◌, ℕ, ◌+◌, true, List, [], ◌∷◌, ◌++◌, refl, ap, sym, subst, ◌∙◌}
+use Rattle.std.proofs.Common.{◌≡◌, ℕ, ◌+◌, List, [], ◌∷◌, ◌++◌, refl, ap, sym, subst, ◌∙◌}
 use Rattle.lio_values.specs.declared.fault.Fault.{Fault}
 use Rattle.lio_syntax_lines.specs.declared.line.Line.{Line}
 use Rattle.lio_syntax_lines.specs.declared.line.Simple.{Simple}

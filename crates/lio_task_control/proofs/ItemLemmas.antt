@@ -17,7 +17,7 @@ use Rattle.lio_syntax.proofs.PlaceLemmas.{EndLine, end_line, Shape, here, get_wi
 use Rattle.lio_task_control.specs.Items.{Item, Do, Mark, enter, rest_of}
 use Rattle.lio_task_control.specs.Continuation.{block_of, block_at, innermost, from, marked, passed, outer_at, items_at}
 use Rattle.lio_task_control.specs.Front.{entered, entered_other}
-use Rattle.lio_task_control.proofs.BlockLemmas.{choice_at, front_block, behind_end, if_inside, while_inside, try_inside, TryAt, block_at-do, block_at-while, block_at-if, block_at-try, block_at-catch}
+use Rattle.lio_task_control.proofs.BlockLemmas.{choice_at, front_block, behind_end, if_inside, while_inside, try_inside, block_at-do, block_at-while, block_at-if, block_at-try, block_at-catch}
 
 -- behind a line
 pub outer_next : (lines : List Line) (at : ℕ) (l : Line) → slice_get lines at ≡ Some l → outer_at lines (at + 1) ≡ passed (Some l) (items_at lines at) (outer_at lines at)

@@ -15,7 +15,7 @@ use Rattle.lio_labels.specs.declared.label.Label.{Label}
 use Rattle.lio_values.specs.declared.value.Value.{Value}
 use Rattle.lio_task_control.specs.Environment.{Environment, Binding, bind_before, bind, value_of}
 use Rattle.lio_task_control.specs.Bound.{AreInOrder, ComesBefore, IsBoundAt}
-use Rattle.lio_task_control.specs.Hiding.{hide_binding, hide_environment}
+use Rattle.lio_task_control.specs.Hiding.{hide_environment}
 use Rattle.lio_task_control.proofs.EnvironmentLemmas.{bind-first, get_or-other, same_name}
 
 -- a name after one that comes before it

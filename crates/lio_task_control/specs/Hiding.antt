@@ -1,6 +1,6 @@
 -- What an observer sees of environments and continuations: each value with its content hidden where its label doesn't flow to the observer's
 -- (the erasure of the concurrent calculus of LIO, ICFP 2012).
-use Rattle.std.specs.Prelude.{◌≡◌, List, map}
+use Rattle.std.specs.Prelude.{◌≡◌, map}
 use Rattle.lio_labels.specs.declared.label.Label.{Label}
 use Rattle.lio_values.specs.Erasure.{erase_value}
 use Rattle.lio_task_control.specs.declared.binding.Binding.{Binding}

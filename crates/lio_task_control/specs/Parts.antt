@@ -16,7 +16,7 @@ use Rattle.lio_task_control.specs.declared.continuation.Continuation.{Continuati
 use Rattle.lio_task_control.specs.Environment.{Environment, bind}
 use Rattle.lio_task_control.specs.Items.{Item, Do, Access, Mark, Back, Fail}
 use Rattle.lio_task_control.specs.Throwing.{code_of, payload_of, thrown}
-use Rattle.lio_task_control.specs.Continuation.{items_at, frame_items}
+use Rattle.lio_task_control.specs.Continuation.{items_at}
 
 -- nothing comes first that the running procedure itself still has to do
 abbrev pub IsOutside : List Item → Type 0

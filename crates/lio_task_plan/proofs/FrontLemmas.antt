@@ -1,6 +1,6 @@
 -- What comes first is planned as the definitions plan it.
 use Rattle.std.specs.Borrow.{Bor}
-use Rattle.std.proofs.Common.{◌≡◌, refl, sym, ap, subst, Bool, true, false, List, [], ◌∷◌, Option, Some, None}
+use Rattle.std.proofs.Common.{◌≡◌, refl, sym, subst, Bool, true, false, List, [], ◌∷◌, Option, Some, None}
 use Rattle.lio_values.specs.declared.fault.Fault.{Fault}
 use Rattle.lio_values.specs.declared.small.Trap.TheVariants as trap
 use Rattle.lio_syntax_lines.specs.declared.line.Operand.{Operand}

@@ -1,7 +1,5 @@
 -- What is planned of a statement without memory is its plan.
-use Rattle.std.proofs.Common.{◌≡◌, ◌∙◌, refl, sym, ap, ℕ, List, Option, Some, None}
-use Rattle.std.specs.Prelude.{Result, Ok, Err}
-use Rattle.lio_values.specs.declared.fault.FaultKind.{FaultKind}
+use Rattle.std.proofs.Common.{◌≡◌, ◌∙◌, sym, ap, ℕ, List, Option, Some, None}
 use Rattle.lio_values.specs.declared.value.Plain.{Plain}
 use Rattle.lio_values.specs.declared.value.Plain.TheVariants as plain
 use Rattle.lio_values.specs.declared.value.Value.{Value}

@@ -1,5 +1,5 @@
 -- What an operator on two operands plans: where the left one isn't bare, the refusal, and where the right one isn't, what it makes of the sealed value.
-use Rattle.std.proofs.Common.{◌≡◌, refl, sym, ap, subst, ◌∙◌, ℕ, List, Option, Some, None, Ok, Err}
+use Rattle.std.proofs.Common.{◌≡◌, refl, sym, ap, ◌∙◌, ℕ, List, Option, Some, None, Ok, Err}
 use Rattle.std.specs.Prelude.{Result, IfOk, option_and_then}
 use Rattle.lio_clauses.specs.declared.faults.NoMemory.{NoMemory}
 use Rattle.lio_syntax_lines.specs.declared.operators.Two.{Two}

@@ -14,7 +14,6 @@ use Rattle.lio_syntax_lines.specs.declared.operators.Two.{Two}
 use Rattle.lio_operators.specs.Operators.{operate1, on_bare_and_sealed}
 use Rattle.lio_operators.specs.Outcomes.{Tells}
 use Rattle.lio_operators.specs.declared.outcome.Outcome.{Outcome}
-use Rattle.lio_syntax_lines.specs.declared.line.Line.{Line}
 use Rattle.lio_syntax_lines.specs.declared.line.Simple.{Simple}
 use Rattle.lio_syntax_lines.specs.declared.line.Simple.TheVariants as line
 use Rattle.lio_syntax.specs.Statements.{Nothing}
@@ -40,7 +39,7 @@ use Rattle.lio_task_plan.specs.Leads.{LeadsFull}
 use Rattle.lio_task_turns.specs.declared.turn.Turn.{Turn}
 use Rattle.lio_task_turns.specs.declared.standing.Standing.{Standing}
 use Rattle.lio_task_turns.specs.StateOf.{state_of}
-use Rattle.lio_task_turns.specs.Turns.{turn_of, Is, refusal}
+use Rattle.lio_task_turns.specs.Turns.{turn_of, Is}
 
 -- the statement in front that opens no block, or whose access is in front
 abbrev pub simple_of : List Item → Simple

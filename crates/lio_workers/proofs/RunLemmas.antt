@@ -1,16 +1,16 @@
 -- From a closed table to a complete run.
-use Rattle.std.proofs.Common.{◌≡◌, ◌∙◌, refl, ap, sym, subst, ℕ, ◌+◌, List, [], ◌++◌, length, map, arith, Some}
+use Rattle.std.proofs.Common.{◌≡◌, ◌∙◌, refl, ap, sym, subst, ℕ, ◌+◌, List, ◌++◌, map, arith, Some}
 use Rattle.lio_values.specs.declared.entry.Entry.{Entry}
 use Rattle.lio_calculus.specs.Step.{Configuration}
 use Rattle.lio_calculus.specs.Run.{Ran, run}
 use Rattle.lio_syntax.specs.Statements.{Procedure}
 use Rattle.lio_task_turns.specs.StateOf.{program_of}
-use Rattle.lio_calculus_logs.specs.Journals.{AreNumberedFrom, ArePartsOf, HaveSameEntries, actors}
-use Rattle.lio_calculus_rounds.specs.Rounds.{IsComplete}
-use Rattle.lio_calculus_rounds.specs.WellFormed.{IsWellFormed}
-use Rattle.lio_config.specs.Configuration.{cell_of, configuration_of}
-use Rattle.lio_config.specs.Logs.{log_in}
-use Rattle.lio_config.specs.declared.config.Config.{Config}
+use Rattle.lio_calculus.specs.Journals.{AreNumberedFrom, ArePartsOf, HaveSameEntries, actors}
+use Rattle.lio_calculus_runs.specs.Rounds.{IsComplete}
+use Rattle.lio_calculus_runs.specs.WellFormed.{IsWellFormed}
+use Rattle.lio_task.specs.Configuration.{cell_of, configuration_of}
+use Rattle.lio_task.specs.Logs.{log_in}
+use Rattle.lio_task.specs.declared.config.Config.{Config}
 use Rattle.lio_rounds.specs.declared.by_rounds.Ran as code
 use Rattle.lio_rounds.specs.MachineState.{MachineState, HasRun}
 use Rattle.lio_rounds.specs.Runs.{IsCompleteRun, ran_of}
@@ -18,9 +18,9 @@ use Rattle.lio_rounds.proofs.MachineRuns.{run-append}
 use Rattle.lio_rounds.proofs.RunLemmas.{run-own_actors}
 use Rattle.lio_table.specs.Closing.{HasRunTo}
 use Rattle.lio_table.specs.Tables.{beginning_with}
-use Rattle.lio_table_rule.specs.declared.view.Beginning.{Beginning}
-use Rattle.lio_table_rule.specs.declared.view.View.{View}
-use Rattle.lio_table_rule.specs.Views.{configuration_from}
+use Rattle.lio_table.specs.declared.view.Beginning.{Beginning}
+use Rattle.lio_table.specs.declared.view.View.{View}
+use Rattle.lio_table.specs.Views.{configuration_from}
 
 -- what a table began with, as a configuration
 pub begins-with : (script : List Procedure) (config : Config) → configuration_from (beginning_with script config) ≡ configuration_of script config

@@ -1,11 +1,11 @@
 -- The seats of workers, joined into the first one.
-use Rattle.std.proofs.Common.{◌≡◌, ◌∙◌, ap, arith, ℕ, ◌+◌, ◌^◌, [], length-append}
+use Rattle.std.proofs.Common.{◌≡◌, ◌∙◌, ap, arith, ℕ, ◌+◌, length-append}
 use Rattle.lio_table.specs.declared.seat.LioSeat.{LioSeat}
 use Rattle.lio_table.specs.declared.table.Table.{Table}
 use Rattle.lio_table.specs.Tables.{IsSeatOf, view_of}
-use Rattle.lio_table_rule.specs.declared.view.View.{View}
-use Rattle.lio_table_rule.specs.Cuts.{joined}
-use Rattle.lio_table_rule.specs.Views.{rights}
+use Rattle.lio_table.specs.declared.view.View.{View}
+use Rattle.lio_table.specs.Cuts.{joined}
+use Rattle.lio_table.specs.Views.{rights}
 use Rattle.lio_workers.specs.Seated.{HasRights}
 
 -- a seat that has taken in another has the tickets of both

@@ -1,12 +1,12 @@
 -- The seats and passes of workers.
 use Rattle.std.specs.Prelude.{◌≡◌, ℕ, ◌+◌, ◌*◌, ◌^◌, List, [], All, length}
-use Rattle.lio_calculus_logs.specs.Journals.{HaveSameEntries}
+use Rattle.lio_calculus.specs.Journals.{HaveSameEntries}
 use Rattle.lio_runq.specs.declared.rule.Bound.{Ghosts}
 use Rattle.lio_runq.specs.Passes.{IsPassOf}
 use Rattle.lio_table.specs.declared.seat.LioSeat.{LioSeat}
 use Rattle.lio_table.specs.declared.table.Table.{Table}
 use Rattle.lio_table.specs.Tables.{IsSeatOf, view_of}
-use Rattle.lio_table_rule.specs.Views.{rights}
+use Rattle.lio_table.specs.Views.{rights}
 use Rattle.lio_workers.specs.declared.shared.Shared.{Shared}
 use Rattle.lio_workers.specs.declared.worker.Worker.{Worker}
 

@@ -1,13 +1,13 @@
 //! Runs by workers.
 ghost use Rattle.std.specs.Prelude.{◌≡◌, ◌<◌, ◌≤◌, ◌+◌, ◌^◌, [], IfOk, length};
-ghost use Rattle.lio_calculus_logs.specs.Journals.{HaveSameEntries};
-ghost use Rattle.lio_calculus_rounds.specs.WellFormed.{IsWellFormed};
-ghost use Rattle.lio_config.specs.Configuration.{configuration_of};
-ghost use Rattle.lio_config.specs.Logs.{AreFresh};
+ghost use Rattle.lio_calculus.specs.Journals.{HaveSameEntries};
+ghost use Rattle.lio_calculus_runs.specs.WellFormed.{IsWellFormed};
+ghost use Rattle.lio_task.specs.Configuration.{configuration_of};
+ghost use Rattle.lio_task.specs.Logs.{AreFresh};
 ghost use Rattle.lio_rounds.specs.Runs.{HasItsLogs, IsCompleteRun, ran_of};
 ghost use Rattle.lio_runq.specs.Passes.{IsPassOf, left_of};
 ghost use Rattle.lio_table.specs.Tables.{first_of, view_of};
-ghost use Rattle.lio_table_rule.specs.Views.{configuration_from};
+ghost use Rattle.lio_table.specs.Views.{configuration_from};
 ghost use Rattle.lio_workers.specs.Seated.{AreWorkersAt, HasRights, IsWorkerAt};
 
 use crate::gate::Gate;
@@ -15,12 +15,11 @@ use crate::seats::{rejoin, workers};
 use crate::shared::Shared;
 use crate::worker::{Worker, push, work};
 use lio_clauses::NoMemory;
-use lio_config::Config;
-use lio_merge::put_in_order;
-use lio_rounds::{Machine, Ran};
+use lio_rounds::{Machine, Ran, put_in_order};
 use lio_runq::{Bound, RunPass, RunQueue};
 use lio_syntax::Script;
 use lio_table::{LioSeat, Table};
+use lio_task::Config;
 use lio_values::Entry;
 use std::alloc::Global;
 use std::marker::Brand;

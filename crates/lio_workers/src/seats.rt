@@ -1,6 +1,6 @@
 //! The seats and passes of workers.
 ghost use Rattle.std.specs.Prelude.{◌≡◌, ◌++◌, ◌<◌, ◌≤◌, ◌*◌, ◌^◌, [], IfOk, OnOk, length};
-ghost use Rattle.lio_calculus_logs.specs.Journals.{HaveSameEntries};
+ghost use Rattle.lio_calculus.specs.Journals.{HaveSameEntries};
 ghost use Rattle.lio_runq.specs.Passes.{IsPassOf, left_of};
 ghost use Rattle.lio_table.specs.Tables.{view_of};
 ghost use Rattle.lio_workers.specs.Seated.{AreWorkersAt, HasRights, HasTheRest};

@@ -1,11 +1,9 @@
-use Rattle.std.proofs.Common.{◌≡◌, ◌∙◌, ◌⊎◌, ap, sym, subst, arith, ℕ, ◌+◌, List, [], ◌∷◌, ◌++◌, length, length-append, drop}
-use Rattle.std.specs.Prelude.{IfOk, IfSome}
+use Rattle.std.proofs.Common.{◌≡◌, ◌∙◌, ◌⊎◌, ap, sym, subst, arith, ℕ, ◌+◌, List, [], ◌∷◌, length, length-append, drop}
 use Rattle.std.proofs.lemmas.Result.{IfOk-weaker}
 use Rattle.std.proofs.lemmas.Option.{IfSome_then}
 use Rattle.lio_values.specs.declared.entry.Entry.{Entry}
-use Rattle.lio_config.specs.Configuration.{configuration_of}
+use Rattle.lio_task.specs.Configuration.{configuration_of}
 use Rattle.lio_events_reading.specs.Lines.{IsActorOf}
-use Rattle.lio_audit.specs.Expected.{CouldGoOn, IsLineOf}
 use Rattle.lio_audit.specs.Replay.{TakesLine}
 use Rattle.lio_audit.proofs.ExpectedLemmas.{could-go_on}
 use Rattle.lio_audit.proofs.ReplayLemmas.{rest-is, so_far-next, so_far-none}

@@ -1,5 +1,5 @@
 use Rattle.std.proofs.Common.{◌≡◌, ◌≤◌, ◌-◌, ◌+◌, length}
-use Rattle.lio_config.specs.Configuration.{configuration_of}
+use Rattle.lio_task.specs.Configuration.{configuration_of}
 use Rattle.lio_audit.proofs.ReplayLemmas.{IsSoFar}
 use Rattle.lio_audit.proofs.expected.line_behind.Given as goal
 

@@ -1,6 +1,5 @@
-use Rattle.std.proofs.Common.{◌≡◌, ap, subst, List}
-use Rattle.lio_config.specs.Configuration.{configuration_of}
-use Rattle.lio_audit.proofs.ExpectedLemmas.{would-be_line, would-be_printable}
+use Rattle.lio_task.specs.Configuration.{configuration_of}
+use Rattle.lio_audit.proofs.ExpectedLemmas.{would-be_printable}
 use Rattle.lio_audit.proofs.expected.line_of.Goals as goal
 
 pub print_entry-text-requires : goal.print_entry-text-requires

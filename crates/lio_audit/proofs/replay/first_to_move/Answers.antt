@@ -1,6 +1,6 @@
 use Rattle.std.proofs.Common.{◌≡◌, ◌≤◌, arith, length}
 use Rattle.std.proofs.lemmas.List.{length-map}
-use Rattle.lio_config.specs.Configuration.{cell_of, configuration_of}
+use Rattle.lio_task.specs.Configuration.{cell_of, configuration_of}
 use Rattle.lio_audit.proofs.RunLemmas.{complete-below}
 use Rattle.lio_audit.proofs.replay.first_to_move.Goals as goal
 

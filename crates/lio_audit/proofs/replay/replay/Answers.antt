@@ -1,6 +1,6 @@
 use Rattle.std.proofs.Common.{subst, ℕ, inr, arith, List, length}
 use Rattle.std.proofs.lemmas.Result.{err_from_is_err_and}
-use Rattle.lio_config.specs.Configuration.{configuration_of}
+use Rattle.lio_task.specs.Configuration.{configuration_of}
 use Rattle.lio_audit.specs.Replay.{Refuses, TakesLine}
 use Rattle.lio_audit.proofs.ReplayLemmas.{line-some, rest-is, smaller, so_far-next, so_far-none, stops-at, stops-short}
 use Rattle.lio_audit.proofs.replay.replay.Goals as goal

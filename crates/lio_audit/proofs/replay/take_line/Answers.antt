@@ -2,10 +2,10 @@ use Rattle.std.proofs.Common.{◌≡◌, ap, subst, ℕ, ◌<◌, ◌^◌, arith
 use Rattle.lio_values.specs.declared.entry.Entry.{Entry}
 use Rattle.lio_calculus.specs.Step.{Configuration, Turn, step}
 use Rattle.lio_events.specs.JournalText.{entry_text}
-use Rattle.lio_config.specs.Configuration.{configuration_of}
-use Rattle.lio_config.specs.Takes.{Stays}
-use Rattle.lio_config.specs.declared.config.StepFault.TheVariants.{Still}
-use Rattle.lio_calculus_names.proofs.Turns.{turn_names_only}
+use Rattle.lio_task.specs.Configuration.{configuration_of}
+use Rattle.lio_task.specs.Takes.{Stays}
+use Rattle.lio_task.specs.declared.config.StepFault.TheVariants.{Still}
+use Rattle.lio_calculus_runs.proofs.NamedTurns.{turn_names_only}
 use Rattle.lio_audit.specs.Replay.{LineEndsAt}
 use Rattle.lio_audit.proofs.LineLemmas.{other-begins, still-begins}
 use Rattle.lio_audit.proofs.ReplayLemmas.{later-entry, takes-line}

@@ -1,6 +1,6 @@
 use Rattle.std.proofs.Common.{refl, ap, subst, IsTrue, Option}
 use Rattle.lio_cells.specs.Node.{NodeState}
-use Rattle.lio_config.specs.declared.config.Holder.{Holder}
+use Rattle.lio_task.specs.declared.config.Holder.{Holder}
 use Rattle.lio_erasure.specs.Low.{is_kept}
 use Rattle.lio_erasure.proofs.KeptLemmas.{served-kept}
 use Rattle.lio_erasure.proofs.cells.serve_in.Goals as goal

@@ -1,7 +1,7 @@
 use Rattle.std.proofs.Common.{◌≡◌, List, map, take}
 use Rattle.lio_syntax.specs.Statements.{Procedure}
 use Rattle.lio_calculus.specs.Erased.{erase_cell}
-use Rattle.lio_config.specs.Configuration.{cell_of}
+use Rattle.lio_task.specs.Configuration.{cell_of}
 use Rattle.lio_erasure.specs.Low.{LeavesOutBlanks, low_cell_of}
 use Rattle.lio_erasure.proofs.erased.erase_config.Given as goal
 

@@ -1,6 +1,6 @@
 use Rattle.std.proofs.Common.{refl, ap, Bool, if◌then◌else◌}
 use Rattle.lio_calculus.specs.Step.{blank}
-use Rattle.lio_config.specs.Configuration.{cell_of}
+use Rattle.lio_task.specs.Configuration.{cell_of}
 use Rattle.lio_erasure.proofs.KeptLemmas.{seen-kept}
 use Rattle.lio_erasure.proofs.hidden.seen.Goals as goal
 

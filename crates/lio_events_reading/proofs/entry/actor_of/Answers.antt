@@ -1,4 +1,4 @@
-use Rattle.std.proofs.Common.{◌≡◌, ◌∙◌, ap, subst}
+use Rattle.std.proofs.Common.{subst}
 use Rattle.lio_events_reading.specs.Lines.{IsActorOf}
 use Rattle.lio_events_reading.proofs.LineLemmas.{finds_actor}
 use Rattle.lio_events_reading.proofs.entry.actor_of.Goals as goal

@@ -1,4 +1,4 @@
-use Rattle.std.proofs.Common.{◌≡◌, ◌∙◌, ap, sym, true, arith, ℕ, List, [], ◌++◌, length, append-nil, Ok, Err, Result, Some}
+use Rattle.std.proofs.Common.{◌≡◌, ◌∙◌, ap, sym, true, ℕ, List, [], length, append-nil, Err, Result}
 use Rattle.lio_events.specs.JournalText.{entry_text}
 use Rattle.lio_values.specs.declared.entry.Entry.{Entry}
 use Rattle.std.proofs.lemmas.Result.{err_from_is_err_and}

@@ -1,7 +1,7 @@
 use Rattle.std.proofs.Common.{◌∙◌, ◌≤◌, ◌+◌, sym, ap, subst, ℕ, cond, length}
 use Rattle.std.specs.List.{count_by}
 use Rattle.std.proofs.lemmas.List.{take_all}
-use Rattle.lio_config.specs.Configuration.{cell_of}
+use Rattle.lio_task.specs.Configuration.{cell_of}
 use Rattle.lio_front.specs.Summary.{has_ended}
 use Rattle.lio_front.proofs.SumLemmas.{count-next, one-more}
 use Rattle.lio_front.proofs.summing.ended_count.Goals as goal

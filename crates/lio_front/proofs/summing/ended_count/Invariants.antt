@@ -1,7 +1,7 @@
 use Rattle.std.proofs.Common.{◌≡◌, ◌≤◌, List, take}
 use Rattle.std.specs.List.{count_by}
 use Rattle.lio_syntax.specs.Statements.{Procedure}
-use Rattle.lio_config.specs.Configuration.{cell_of}
+use Rattle.lio_task.specs.Configuration.{cell_of}
 use Rattle.lio_front.specs.Summary.{has_ended}
 use Rattle.lio_front.proofs.summing.ended_count.Given as goal
 

@@ -1,5 +1,5 @@
 use Rattle.std.proofs.Common.{◌∙◌, ap, sym, length}
-use Rattle.lio_config.specs.Configuration.{cell_of, configuration_of}
+use Rattle.lio_task.specs.Configuration.{cell_of, configuration_of}
 use Rattle.lio_front.specs.Summary.{has_ended, has_task}
 use Rattle.lio_front.proofs.SumLemmas.{count-map, summary-is}
 use Rattle.lio_front.proofs.summing.summary.Goals as goal

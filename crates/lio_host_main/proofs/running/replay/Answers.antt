@@ -3,8 +3,8 @@ use Rattle.std.proofs.lemmas.Result.{err_from_is_err_and}
 use Rattle.lio_audit.specs.History.{IsHistoryOf, Says}
 use Rattle.lio_calculus.specs.Run.{Ran}
 use Rattle.lio_calculus.specs.Step.{Configuration}
-use Rattle.lio_calculus_rounds.specs.WellFormed.{IsWellFormed}
-use Rattle.lio_config.specs.Configuration.{configuration_of}
+use Rattle.lio_calculus_runs.specs.WellFormed.{IsWellFormed}
+use Rattle.lio_task.specs.Configuration.{configuration_of}
 use Rattle.lio_policy.specs.Policy.{PolicyParts}
 use Rattle.lio_start.specs.Job.{first_of}
 use Rattle.lio_syntax.specs.Statements.{Procedure}

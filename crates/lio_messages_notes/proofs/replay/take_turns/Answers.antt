@@ -1,5 +1,5 @@
-use Rattle.lio_config.specs.Configuration.{configuration_of}
-use Rattle.lio_config.proofs.LogLemmas.{fresh-later, later-next}
+use Rattle.lio_task.specs.Configuration.{configuration_of}
+use Rattle.lio_task.proofs.LogLemmas.{fresh-later, later-next}
 use Rattle.lio_messages_notes.proofs.replay.take_turns.Goals as goal
 
 pub loop-place-init : goal.loop-place-init

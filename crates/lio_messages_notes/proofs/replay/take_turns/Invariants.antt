@@ -1,6 +1,6 @@
 use Rattle.lio_calculus.specs.Sound.{IsSound}
-use Rattle.lio_config.specs.Configuration.{configuration_of}
-use Rattle.lio_config.specs.Logs.{IsLaterThanLogs}
+use Rattle.lio_task.specs.Configuration.{configuration_of}
+use Rattle.lio_task.specs.Logs.{IsLaterThanLogs}
 use Rattle.lio_messages_notes.proofs.replay.take_turns.Given as goal
 
 -- the configuration is sound, and the next ticket is greater than all in its logs

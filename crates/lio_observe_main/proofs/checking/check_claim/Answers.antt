@@ -2,8 +2,8 @@ use Rattle.std.proofs.Common.{◌≡◌, ◌∙◌, sym, ap, subst, ℕ, List}
 use Rattle.lio_calculus.specs.Step.{Configuration}
 use Rattle.lio_erasure.specs.Low.{IsSeenOfSound, low_configuration_of}
 use Rattle.lio_policy.specs.Policy.{PolicyParts}
-use Rattle.lio_views.specs.View.{IsOneViewOfTurns, SeenSays}
-use Rattle.lio_views.specs.declared.fault.ViewFault.TheVariants.{NotAView}
+use Rattle.lio_audit.specs.View.{IsOneViewOfTurns, SeenSays}
+use Rattle.lio_audit.specs.declared.view_fault.ViewFault.TheVariants.{NotAView}
 use Rattle.lio_observe_main.specs.Claim.{Claim, claim_of}
 use Rattle.lio_observe_main.proofs.CheckLemmas.{same-low, right-from, wrong-from}
 use Rattle.lio_observe_main.proofs.checking.check_claim.Goals as goal

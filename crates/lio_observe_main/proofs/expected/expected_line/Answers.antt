@@ -1,6 +1,6 @@
 use Rattle.std.proofs.Common.{◌∙◌, sym, subst}
 use Rattle.lio_policy.specs.Policy.{PolicyParts}
-use Rattle.lio_calculus_names.specs.Configuration.{NamesOnly}
+use Rattle.lio_calculus_runs.specs.Configuration.{NamesOnly}
 use Rattle.lio_erasure.specs.LowParts.{low_of}
 use Rattle.lio_observe_main.proofs.expected.expected_line.Goals as goal
 

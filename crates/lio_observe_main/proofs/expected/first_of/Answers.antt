@@ -1,6 +1,6 @@
 use Rattle.std.proofs.Common.{◌≡◌, ◌∙◌, sym, ap, subst}
 use Rattle.lio_calculus.specs.Step.{Configuration}
-use Rattle.lio_calculus_names.specs.Configuration.{NamesOnly}
+use Rattle.lio_calculus_runs.specs.Configuration.{NamesOnly}
 use Rattle.lio_erasure.specs.Low.{IsSeenOfSound, low_configuration_of}
 use Rattle.lio_erasure.specs.LowParts.{ErasedState, low_of}
 use Rattle.lio_labels.specs.declared.label.Label.{Label}

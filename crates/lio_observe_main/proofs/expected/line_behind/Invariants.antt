@@ -1,4 +1,4 @@
-use Rattle.lio_calculus_names.specs.Configuration.{NamesOnly}
+use Rattle.lio_calculus_runs.specs.Configuration.{NamesOnly}
 use Rattle.lio_erasure.specs.LowParts.{low_of}
 use Rattle.lio_observe_main.proofs.expected.line_behind.Given as goal
 

@@ -3,10 +3,10 @@ use Rattle.std.proofs.lemmas.Result.{IfOk-weaker}
 use Rattle.std.proofs.lemmas.List.Elements.{All-cons, All-nil}
 use Rattle.lio_values.specs.declared.value.Content.{Content}
 use Rattle.lio_values.specs.declared.entry.Entry.{Entry}
-use Rattle.lio_calculus_names.specs.NameLaws.{IsContentPrintable}
+use Rattle.lio_calculus_runs.specs.NameLaws.{IsContentPrintable}
 use Rattle.lio_events.specs.Printable.{IsPrintable}
 use Rattle.lio_events.specs.Views.{releases}
-use Rattle.lio_calculus_names.proofs.ContentLemmas.{releases_are_printable}
+use Rattle.lio_calculus_runs.proofs.ContentLemmas.{releases_are_printable}
 use Rattle.lio_observe_main.proofs.expected.released_by.Goals as goal
 
 pub returns : goal.returns

@@ -1,16 +1,16 @@
-use Rattle.std.proofs.Common.{◌≡◌, ◌∙◌, sym, ap, subst, ℕ, suc, ◌+◌, List, [], ◌∷◌, ◌++◌, Bool, drop, drop-cons, add-one, length, arith}
+use Rattle.std.proofs.Common.{◌≡◌, ◌∙◌, sym, ap, subst, ℕ, ◌+◌, List, [], ◌∷◌, Bool, drop, drop-cons, add-one, arith}
 use Rattle.std.specs.Prelude.{slice_index_or}
 use Rattle.std.proofs.Math.ListN.{drop_of_length-le}
 use Rattle.lio_values.specs.declared.entry.Entry.{Entry}
 use Rattle.lio_syntax.specs.Statements.{Procedure}
 use Rattle.lio_calculus.specs.Step.{Configuration}
-use Rattle.lio_calculus_rounds.specs.WellFormed.{IsWellFormed}
-use Rattle.lio_calculus_rounds.specs.Rounds.{tasks}
+use Rattle.lio_calculus_runs.specs.WellFormed.{IsWellFormed}
+use Rattle.lio_calculus_runs.specs.Rounds.{tasks}
 use Rattle.lio_start.specs.Job.{first_of}
-use Rattle.lio_config.specs.Configuration.{configuration_of}
+use Rattle.lio_task.specs.Configuration.{configuration_of}
 use Rattle.lio_rounds.specs.MachineState.{MachineState}
 use Rattle.lio_rounds.specs.MachineParts.{machine_of}
-use Rattle.lio_rounds.specs.Schedule.{ScheduledRun, scheduled_of}
+use Rattle.lio_rounds.specs.Schedule.{ScheduledRun}
 use Rattle.lio_rounds.proofs.ScheduleLemmas.{IsSoFar, so_far-end, so_far-next, so_far-none}
 use Rattle.lio_rounds.proofs.by_schedule.run_schedule.Goals as goal
 

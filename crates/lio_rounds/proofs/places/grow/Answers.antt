@@ -1,4 +1,4 @@
-use Rattle.std.proofs.Common.{◌≡◌, ◌+◌, ◌++◌, ◌∷◌, [], ℕ, List, sym, ◌∙◌, ap, subst, arith, length, length-append, get_or}
+use Rattle.std.proofs.Common.{◌≡◌, ◌+◌, ◌++◌, ◌∷◌, [], ℕ, List, ◌∙◌, ap, subst, arith, length, length-append, get_or}
 use Rattle.lio_rounds.specs.Words.{IsClear}
 use Rattle.lio_rounds.proofs.WordLemmas.{pushed-clear, pushed-same}
 use Rattle.lio_rounds.proofs.places.grow.Goals as goal

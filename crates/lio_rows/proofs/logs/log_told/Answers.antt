@@ -1,7 +1,7 @@
 use Rattle.std.proofs.Common.{◌∙◌, sym, subst, ℕ, All}
 use Rattle.lio_events.specs.Printable.{IsPrintable}
 use Rattle.lio_policy.specs.Policy.{PolicyParts}
-use Rattle.lio_config.specs.Logs.{log_in}
+use Rattle.lio_task.specs.Logs.{log_in}
 use Rattle.lio_rows.proofs.logs.log_told.Goals as goal
 
 pub log_of-text-requires : goal.log_of-text-requires

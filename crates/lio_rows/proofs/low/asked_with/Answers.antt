@@ -1,7 +1,7 @@
 use Rattle.std.proofs.Common.{◌∙◌, sym, subst, All}
-use Rattle.lio_calculus_names.specs.NameLaws.{IsContentPrintable}
+use Rattle.lio_calculus_runs.specs.NameLaws.{IsContentPrintable}
 use Rattle.lio_policy.specs.Policy.{PolicyParts}
-use Rattle.lio_calculus_names.specs.Configuration.{NamesOnly}
+use Rattle.lio_calculus_runs.specs.Configuration.{NamesOnly}
 use Rattle.lio_erasure.specs.LowParts.{low_of}
 use Rattle.lio_rows.proofs.low.asked_with.Goals as goal
 

@@ -2,8 +2,8 @@ use Rattle.std.proofs.Common.{◌≡◌, ◌∙◌, List}
 use Rattle.std.proofs.lemmas.Result.{IfOk-weaker}
 use Rattle.lio_syntax.specs.Statements.{Procedure}
 use Rattle.lio_start.specs.Job.{first_of}
-use Rattle.lio_config.specs.Configuration.{configuration_of}
-use Rattle.lio_config.specs.declared.config.Config.{Config}
+use Rattle.lio_task.specs.Configuration.{configuration_of}
+use Rattle.lio_task.specs.declared.config.Config.{Config}
 use Rattle.lio_rows.proofs.low.copied_start.Goals as goal
 
 pub returns : goal.returns

@@ -5,7 +5,7 @@ use Rattle.lio_calculus.specs.Erased.{erase}
 use Rattle.lio_calculus.specs.Step.{Configuration}
 use Rattle.lio_start.specs.Job.{JobParts, first_of}
 use Rattle.lio_start.specs.Start.{start_of}
-use Rattle.lio_config.specs.Configuration.{configuration_of}
+use Rattle.lio_task.specs.Configuration.{configuration_of}
 use Rattle.lio_erasure.specs.Low.{low_configuration_of}
 use Rattle.lio_erasure.specs.declared.cells.LowConfig.{LowConfig}
 use Rattle.lio_rows.proofs.low.seen_start.Goals as goal

@@ -1,6 +1,6 @@
 use Rattle.std.proofs.Common.{All}
-use Rattle.lio_calculus_names.specs.NameLaws.{IsContentPrintable}
-use Rattle.lio_calculus_names.specs.Configuration.{NamesOnly}
+use Rattle.lio_calculus_runs.specs.NameLaws.{IsContentPrintable}
+use Rattle.lio_calculus_runs.specs.Configuration.{NamesOnly}
 use Rattle.lio_erasure.specs.LowParts.{low_of}
 use Rattle.lio_rows.proofs.low.turns.Given as goal
 

@@ -1,6 +1,6 @@
 use Rattle.std.proofs.Common.{◌≡◌, sym, subst, ℕ, List, rules}
 use Rattle.lio_syntax.specs.Statements.{Procedure}
-use Rattle.lio_calculus_names.specs.Configuration.{NamesOnly}
+use Rattle.lio_calculus_runs.specs.Configuration.{NamesOnly}
 use Rattle.lio_erasure.specs.Low.{low_configuration_of}
 use Rattle.lio_rows.proofs.observers.rerun_of.Goals as goal
 

@@ -1,6 +1,6 @@
 use Rattle.std.proofs.Common.{sym, subst, All}
-use Rattle.lio_calculus_names.specs.NameLaws.{IsContentPrintable}
-use Rattle.lio_calculus_names.proofs.ContentLemmas.{releases_are_printable}
+use Rattle.lio_calculus_runs.specs.NameLaws.{IsContentPrintable}
+use Rattle.lio_calculus_runs.proofs.ContentLemmas.{releases_are_printable}
 use Rattle.lio_rows.proofs.runs.released.Goals as goal
 
 pub returns : goal.returns

@@ -1,6 +1,6 @@
 use Rattle.std.proofs.Common.{◌≡◌, []}
 use Rattle.lio_table.specs.Tables.{IsSeatOf, view_of}
-use Rattle.lio_table_rule.specs.Views.{rights}
+use Rattle.lio_table.specs.Views.{rights}
 use Rattle.lio_rows_host.proofs.seats.push_turns.Given as goal
 
 -- the seat holds no node, and has all its tickets, drawn or left

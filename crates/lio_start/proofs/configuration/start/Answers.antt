@@ -2,16 +2,16 @@ use Rattle.std.proofs.Common.{◌≡◌, ◌∙◌, ◌+◌, List, [], ℕ, leng
 use Rattle.std.proofs.lemmas.List.Elements.{All-nil}
 use Rattle.lio_values.specs.declared.value.Value.{Value}
 use Rattle.lio_syntax.specs.Statements.{Procedure}
-use Rattle.lio_config.specs.declared.config.Holder.{Holder}
-use Rattle.lio_config.specs.Logs.{HaveNoLogs}
-use Rattle.lio_calculus_rounds.specs.WellFormed.{IsWellFormed}
+use Rattle.lio_task.specs.declared.config.Holder.{Holder}
+use Rattle.lio_task.specs.Logs.{HaveNoLogs}
+use Rattle.lio_calculus_runs.specs.WellFormed.{IsWellFormed}
 use Rattle.lio_policy.specs.Policy.{PolicyParts}
 use Rattle.lio_policy.specs.declared.policy.FileEntry.{FileEntry}
 use Rattle.lio_policy.specs.declared.policy.TaskEntry.{TaskEntry}
 use Rattle.lio_policy.proofs.PolicyLemmas.{limits_are_small}
 use Rattle.lio_start.specs.Job.{IsJob, JobParts}
 use Rattle.lio_start.specs.Making.{Adds, CanBeginAll}
-use Rattle.lio_start.specs.Start.{cells_in_all, channel_cell, job_cells, sealed_inputs}
+use Rattle.lio_start.specs.Start.{cells_in_all, job_cells, sealed_inputs}
 use Rattle.lio_start.proofs.LawLemmas.{start_is_well_formed}
 use Rattle.lio_start.proofs.MakingLemmas.{all-begin, started}
 use Rattle.lio_start.proofs.configuration.start.Goals as goal

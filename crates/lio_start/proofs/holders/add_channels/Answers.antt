@@ -1,5 +1,5 @@
 use Rattle.std.proofs.Common.{List, map, take, ◌+◌, subst, sym}
-use Rattle.lio_config.specs.declared.config.Holder.{Holder}
+use Rattle.lio_task.specs.declared.config.Holder.{Holder}
 use Rattle.lio_start.specs.Start.{channel_cell}
 use Rattle.lio_start.specs.Making.{Adds}
 use Rattle.lio_start.proofs.MakingLemmas.{adds-none, no-logs-push, channels-next, channels-end}

@@ -1,7 +1,7 @@
 use Rattle.std.proofs.Common.{List, map, take}
 use Rattle.lio_syntax.specs.Statements.{Procedure}
 use Rattle.lio_start.specs.Start.{channel_cell}
-use Rattle.lio_config.specs.Logs.{HaveNoLogs}
+use Rattle.lio_task.specs.Logs.{HaveNoLogs}
 use Rattle.lio_start.specs.Making.{Adds}
 use Rattle.lio_start.proofs.holders.add_channels.Given as goal
 

@@ -1,7 +1,7 @@
 use Rattle.std.proofs.Common.{List, ◌≡◌, ◌+◌, ℕ, subst, sym, arith}
 use Rattle.std.specs.Prelude.{replicate}
 use Rattle.lio_calculus.specs.Step.{blank}
-use Rattle.lio_config.specs.declared.config.Holder.{Holder}
+use Rattle.lio_task.specs.declared.config.Holder.{Holder}
 use Rattle.lio_start.specs.Making.{Adds}
 use Rattle.lio_start.proofs.MakingLemmas.{adds-none, free-next, no-logs-push}
 use Rattle.lio_start.proofs.holders.add_free.Goals as goal

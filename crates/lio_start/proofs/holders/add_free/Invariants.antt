@@ -2,7 +2,7 @@ use Rattle.std.proofs.Common.{List}
 use Rattle.std.specs.Prelude.{replicate}
 use Rattle.lio_syntax.specs.Statements.{Procedure}
 use Rattle.lio_calculus.specs.Step.{blank}
-use Rattle.lio_config.specs.Logs.{HaveNoLogs}
+use Rattle.lio_task.specs.Logs.{HaveNoLogs}
 use Rattle.lio_start.specs.Making.{Adds}
 use Rattle.lio_start.proofs.holders.add_free.Given as goal
 

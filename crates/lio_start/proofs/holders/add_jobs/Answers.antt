@@ -1,6 +1,6 @@
 use Rattle.std.proofs.Common.{◌≡◌, List, ◌++◌, map, drop, ◌+◌, subst, sym}
-use Rattle.lio_config.specs.declared.config.Holder.{Holder}
-use Rattle.lio_config.specs.Configuration.{cell_of}
+use Rattle.lio_task.specs.declared.config.Holder.{Holder}
+use Rattle.lio_task.specs.Configuration.{cell_of}
 use Rattle.lio_start.specs.Start.{job_cells}
 use Rattle.lio_start.proofs.MakingLemmas.{begins-here, begins-next, jobs-next, jobs-end, no-logs-push}
 use Rattle.lio_start.proofs.holders.add_jobs.Goals as goal

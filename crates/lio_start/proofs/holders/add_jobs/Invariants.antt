@@ -1,6 +1,6 @@
 use Rattle.std.proofs.Common.{◌≡◌, ◌++◌, map, drop}
-use Rattle.lio_config.specs.Configuration.{cell_of}
-use Rattle.lio_config.specs.Logs.{HaveNoLogs}
+use Rattle.lio_task.specs.Configuration.{cell_of}
+use Rattle.lio_task.specs.Logs.{HaveNoLogs}
 use Rattle.lio_start.specs.Start.{job_cells}
 use Rattle.lio_start.specs.Making.{CanBeginAll}
 use Rattle.lio_start.proofs.holders.add_jobs.Given as goal

@@ -1,4 +1,4 @@
-use Rattle.std.proofs.Common.{◌≡◌, ◌<◌, ◌≤◌, ◌+◌, [], List, All, map, sym, ap, subst, arith, ◌∙◌}
+use Rattle.std.proofs.Common.{◌<◌, ◌≤◌, [], List, All, map, sym, ap, subst, arith, ◌∙◌}
 use Rattle.lio_values.specs.Measures.{value_depth}
 use Rattle.lio_policy.specs.Lists.{extent, in_all}
 use Rattle.lio_policy.specs.declared.policy.Arg.{Arg}

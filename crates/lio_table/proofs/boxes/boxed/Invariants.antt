@@ -1,4 +1,4 @@
-use Rattle.std.proofs.Common.{◌≡◌, ◌++◌, Some, map}
+use Rattle.std.proofs.Common.{◌≡◌, Some, map}
 use Rattle.lio_table.proofs.boxes.boxed.Given as goal
 
 -- the values so far are on the heap

@@ -3,7 +3,7 @@ use Rattle.lio_syntax.specs.Lines.{script_lines}
 use Rattle.lio_task_control.specs.declared.front.Front.{Front}
 use Rattle.lio_task_control.specs.Front.{IsFront}
 use Rattle.lio_task_control.specs.Continuation.{items_at}
-use Rattle.lio_task_control.proofs.FrameLemmas.{accessed_none, accessed_simple, accessed_other}
+use Rattle.lio_task_control.proofs.FrameLemmas.{accessed_simple, accessed_other}
 use Rattle.lio_task_control.proofs.places.accessed_at.Goals as goal
 
 pub returns-in-Simple : goal.returns-in-Simple

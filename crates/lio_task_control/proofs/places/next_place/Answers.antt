@@ -1,14 +1,9 @@
-use Rattle.std.proofs.Common.{◌∙◌, ap, subst, sym, ◌+◌, [], true}
+use Rattle.std.proofs.Common.{◌∙◌, ap}
 use Rattle.lio_syntax.specs.Lines.{script_lines}
 use Rattle.lio_syntax.proofs.GrammarLemmas.{accepts-script_lines}
 use Rattle.lio_task_control.specs.Items.{rest_of}
 use Rattle.lio_task_control.specs.Continuation.{items_at}
-use Rattle.lio_task_control.specs.Parts.{SettlesAt}
-use Rattle.lio_task_control.specs.Front.{entered, entered_other}
-use Rattle.lio_task_control.proofs.BlockLemmas.{says}
-use Rattle.lio_task_control.proofs.ItemLemmas.{if_entered, while_entered, try_entered, other_entered, none_entered}
-use Rattle.lio_task_control.proofs.ExitLemmas.{goes_behind, else_settles, end_settles}
-use Rattle.lio_task_control.proofs.FrontLemmas.{simple_front, loop_front, choice_front, guarded_front, mark_front, no_front, past_front, line_entered, line_other}
+use Rattle.lio_task_control.proofs.ExitLemmas.{goes_behind}
 use Rattle.lio_task_control.proofs.places.next_place.Goals as goal
 
 pub returns : goal.returns

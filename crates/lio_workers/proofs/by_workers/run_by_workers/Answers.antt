@@ -3,8 +3,8 @@ use Rattle.std.specs.Prelude.{IfOk}
 use Rattle.std.proofs.lemmas.Result.{IfOk-weaker}
 use Rattle.lio_syntax.specs.Statements.{Procedure}
 use Rattle.lio_calculus.specs.Step.{Configuration}
-use Rattle.lio_calculus_rounds.specs.WellFormed.{IsWellFormed}
-use Rattle.lio_config.specs.Configuration.{configuration_of}
+use Rattle.lio_calculus_runs.specs.WellFormed.{IsWellFormed}
+use Rattle.lio_task.specs.Configuration.{configuration_of}
 use Rattle.lio_start.specs.Job.{JobParts, first_of}
 use Rattle.lio_rounds.specs.declared.by_rounds.Ran.{Ran}
 use Rattle.lio_rounds.specs.Headline.{IsRunOf}

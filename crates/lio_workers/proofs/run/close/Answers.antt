@@ -1,11 +1,11 @@
 use Rattle.std.proofs.Common.{◌≡◌, ◌∙◌, ap, sym, subst, Some}
 use Rattle.lio_calculus.specs.Step.{Configuration}
 use Rattle.lio_calculus.specs.Run.{run}
-use Rattle.lio_calculus_logs.specs.Journals.{actors}
+use Rattle.lio_calculus.specs.Journals.{actors}
 use Rattle.lio_rounds.specs.MachineParts.{machine_of}
 use Rattle.lio_rounds.specs.MachineState.{MachineState}
 use Rattle.lio_table.specs.Tables.{first_of, view_of}
-use Rattle.lio_table_rule.specs.Views.{configuration_from}
+use Rattle.lio_table.specs.Views.{configuration_from}
 use Rattle.lio_workers.proofs.RunLemmas.{closed-journal, closed-numbered, closed-parts, closed-run, run-ends, run-goes_on}
 use Rattle.lio_workers.proofs.run.close.Goals as goal
 

@@ -1,12 +1,12 @@
 use Rattle.std.proofs.Common.{◌≡◌, ◌∙◌, ap, subst, sym, List}
 use Rattle.std.specs.Prelude.{IfOk}
 use Rattle.lio_calculus.specs.Step.{Configuration}
-use Rattle.lio_calculus_rounds.specs.WellFormed.{IsWellFormed}
+use Rattle.lio_calculus_runs.specs.WellFormed.{IsWellFormed}
 use Rattle.lio_syntax.specs.Statements.{Procedure}
-use Rattle.lio_config.specs.Configuration.{configuration_of}
+use Rattle.lio_task.specs.Configuration.{configuration_of}
 use Rattle.lio_rounds.specs.Runs.{IsCompleteRun, ran_of}
 use Rattle.lio_table.specs.Tables.{first_of}
-use Rattle.lio_table_rule.specs.Views.{configuration_from}
+use Rattle.lio_table.specs.Views.{configuration_from}
 use Rattle.lio_workers.proofs.RunLemmas.{begins-with}
 use Rattle.lio_workers.proofs.run.run_below.Goals as goal
 

@@ -1,4 +1,4 @@
-use Rattle.std.proofs.Common.{◌≡◌, ◌∙◌, ap, subst, sym, arith, ◌+◌, ◌*◌, ◌^◌, ℕ, cond, ◌++◌, ◌∷◌, [], count_by, length, length-append, Some}
+use Rattle.std.proofs.Common.{◌≡◌, ◌∙◌, ap, arith, ◌+◌, ◌^◌, cond, ◌++◌, ◌∷◌, [], count_by, length, length-append, Some}
 use Rattle.std.specs.Prelude.{Vec}
 use Rattle.std.specs.declared.alloc.Global.{Global}
 use Rattle.std.proofs.lemmas.List.Elements.{All-pop}
@@ -6,8 +6,8 @@ use Rattle.std.proofs.lemmas.List.Sums.{sum_by-append}
 use Rattle.lio_values.specs.declared.entry.Entry.{Entry}
 use Rattle.lio_table.specs.declared.seat.LioSeat.{LioSeat}
 use Rattle.lio_table.specs.Tables.{view_of}
-use Rattle.lio_table_rule.specs.declared.view.View.{View}
-use Rattle.lio_table_rule.specs.Cuts.{joined}
+use Rattle.lio_table.specs.declared.view.View.{View}
+use Rattle.lio_table.specs.Cuts.{joined}
 use Rattle.lio_workers.specs.Seated.{IsWorkerAt}
 use Rattle.lio_workers.proofs.SeatLemmas.{joined-rights}
 use Rattle.lio_workers.proofs.seats.rejoin.Goals as goal

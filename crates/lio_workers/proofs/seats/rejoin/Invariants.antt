@@ -1,5 +1,5 @@
 use Rattle.std.proofs.Common.{length}
-use Rattle.lio_calculus_logs.specs.Journals.{HaveSameEntries}
+use Rattle.lio_calculus.specs.Journals.{HaveSameEntries}
 use Rattle.lio_table.specs.Tables.{view_of}
 use Rattle.lio_workers.specs.Seated.{AreWorkersAt, HasTheRest}
 use Rattle.lio_workers.proofs.seats.rejoin.Given as goal

@@ -1,4 +1,4 @@
-use Rattle.std.proofs.Common.{rules, ◌≡◌, subst, Option, Some, Ok}
+use Rattle.std.proofs.Common.{rules, ◌≡◌, subst, Option, Ok}
 use Rattle.futures.specs.declared.task.Poll.TheVariants.{Ready}
 use Rattle.lio_rounds.specs.MachineParts.{MachineParts, machine_of}
 use Rattle.lio_async_rounds.specs.RoundsFuture.{Polls}

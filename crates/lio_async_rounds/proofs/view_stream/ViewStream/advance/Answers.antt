@@ -1,4 +1,4 @@
-use Rattle.std.proofs.Common.{rules, ◌≡◌, ◌≢◌, ◌≤◌, ◌∙◌, ap, refl, sym, [], length, Some, inl, inr}
+use Rattle.std.proofs.Common.{rules, ◌≡◌, ◌≢◌, ◌≤◌, ◌∙◌, ap, refl, sym, [], length, Some, inr}
 use Rattle.std.specs.Option.{option_map}
 use Rattle.lio_rounds.specs.MachineParts.{machine_of}
 use Rattle.lio_rounds.specs.MachineState.{MachineState}

@@ -1,7 +1,7 @@
-use Rattle.std.proofs.Common.{rules, ◌≡◌, ◌∙◌, ap, refl, sym, subst, ℕ, List}
+use Rattle.std.proofs.Common.{rules, ◌≡◌, ◌∙◌, ap, refl, subst, ℕ, List}
 use Rattle.lio_values.specs.declared.entry.Entry.{Entry}
 use Rattle.lio_values.specs.Erasure.{erase_entry}
-use Rattle.lio_calculus_rounds.specs.Laws.{IsOrderOf}
+use Rattle.lio_calculus_runs.specs.RoundLaws.{IsOrderOf}
 use Rattle.lio_rounds.specs.MachineParts.{machine_of}
 use Rattle.lio_rounds.specs.MachineState.{MachineState}
 use Rattle.lio_async_rounds.proofs.StreamLemmas.{found-at, given-first}

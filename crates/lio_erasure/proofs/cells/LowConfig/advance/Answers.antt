@@ -1,7 +1,7 @@
 use Rattle.std.proofs.Common.{◌∙◌, sym, ap, subst, List, Option}
 use Rattle.std.specs.Prelude.{slice_set}
 use Rattle.std.proofs.lemmas.Result.{on_err_weaker, on_ok_weaker}
-use Rattle.lio_config.specs.declared.config.Holder.{Holder}
+use Rattle.lio_task.specs.declared.config.Holder.{Holder}
 use Rattle.lio_erasure.specs.Low.{holder_in, low_configuration_of}
 use Rattle.lio_erasure.specs.Turn.{Advances, CanServe}
 use Rattle.lio_erasure.proofs.HolderLemmas.{advances-low, same-low, serves-still}

@@ -1,7 +1,5 @@
-use Rattle.std.proofs.Common.{◌≡◌, ◌∙◌, sym, ap, Bool, not, false, true, Option, is_some}
+use Rattle.std.proofs.Common.{◌≡◌, ◌∙◌, sym, ap, Bool, not, false, true, is_some}
 use Rattle.std.specs.Prelude.{◌||◌}
-use Rattle.std.specs.Option.{option_copied}
-use Rattle.lio_values.specs.declared.value.Handle.{Handle}
 use Rattle.lio_cells.specs.declared.wish.Wish.TheVariants as wish
 use Rattle.lio_syntax_lines.specs.declared.line.Simple.{Simple}
 use Rattle.lio_task_control.specs.Environment.{Environment}

@@ -1,10 +1,10 @@
-use Rattle.std.proofs.Common.{◌≡◌, ◌∙◌, sym, ap, subst, ◌==◌, false, true, List, ◌∷◌}
+use Rattle.std.proofs.Common.{◌∙◌, sym, ap, false, true, List}
 use Rattle.lio_syntax.specs.Lines.{script_lines}
-use Rattle.lio_task_control.specs.Items.{Item, Access, rest_of}
+use Rattle.lio_task_control.specs.Items.{Item}
 use Rattle.lio_calculus.specs.Plan.{plan_items}
 use Rattle.lio_task.specs.StateOf.{state_in}
 use Rattle.lio_task_turns.specs.StateOf.{program_of}
-use Rattle.lio_config.proofs.PreviewLemmas.{is-zero, not-zero}
+use Rattle.lio_task.proofs.PreviewLemmas.{is-zero, not-zero}
 use Rattle.lio_erasure.specs.Low.{low_configuration_of}
 use Rattle.lio_erasure.specs.Moves.{moves_at}
 use Rattle.lio_erasure.proofs.MoveLemmas.{ended-stays, front-other, going-moves, spent-moves, unless-access}

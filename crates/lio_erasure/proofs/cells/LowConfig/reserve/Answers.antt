@@ -1,6 +1,6 @@
 use Rattle.std.proofs.Common.{◌∙◌, sym, ap, subst, List, Option}
 use Rattle.std.specs.Prelude.{IsSome, OnOk}
-use Rattle.lio_config.specs.declared.config.Holder.{Holder}
+use Rattle.lio_task.specs.declared.config.Holder.{Holder}
 use Rattle.lio_erasure.specs.Low.{holder_in, low_configuration_of}
 use Rattle.lio_erasure.specs.Turn.{HasRoom}
 use Rattle.lio_erasure.proofs.HolderLemmas.{found-in, holder_in-put, same-low}

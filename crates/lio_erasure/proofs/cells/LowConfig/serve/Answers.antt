@@ -1,6 +1,6 @@
 use Rattle.std.proofs.Common.{subst, List, Option}
 use Rattle.std.specs.Prelude.{slice_set}
-use Rattle.lio_config.specs.declared.config.Holder.{Holder}
+use Rattle.lio_task.specs.declared.config.Holder.{Holder}
 use Rattle.lio_erasure.specs.Turn.{Serves}
 use Rattle.lio_erasure.proofs.HolderLemmas.{serves-low}
 use Rattle.lio_erasure.proofs.cells.LowConfig.serve.Goals as goal

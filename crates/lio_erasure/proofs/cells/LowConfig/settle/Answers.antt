@@ -1,7 +1,7 @@
 use Rattle.std.proofs.Common.{refl, sym, ap, subst, Bool, if◌then◌else◌, List, Option, Some, None}
 use Rattle.lio_calculus.specs.Step.{blank}
-use Rattle.lio_config.specs.declared.config.Holder.{Holder}
-use Rattle.lio_config.specs.Configuration.{cell_of}
+use Rattle.lio_task.specs.declared.config.Holder.{Holder}
+use Rattle.lio_task.specs.Configuration.{cell_of}
 use Rattle.lio_erasure.specs.Turn.{Settles}
 use Rattle.lio_erasure.proofs.HolderLemmas.{settles-seen, settles-unseen}
 use Rattle.lio_erasure.proofs.KeptLemmas.{set-kept}

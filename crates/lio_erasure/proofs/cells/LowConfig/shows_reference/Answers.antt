@@ -1,4 +1,4 @@
-use Rattle.std.proofs.Common.{◌≡◌, ◌∙◌, sym, ap, Option, None}
+use Rattle.std.proofs.Common.{◌∙◌, sym, ap, Option, None}
 use Rattle.std.specs.Option.{option_copied}
 use Rattle.lio_values.specs.declared.value.Handle.{Handle}
 use Rattle.lio_erasure.specs.Low.{low_configuration_of}

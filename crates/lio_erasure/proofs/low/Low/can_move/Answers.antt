@@ -1,4 +1,4 @@
-use Rattle.std.proofs.Common.{◌≡◌, ◌∙◌, sym, ap, Bool, Option, Some, None}
+use Rattle.std.proofs.Common.{◌≡◌, ◌∙◌, sym, ap, Bool, Some, None}
 use Rattle.std.specs.Option.{option_copied}
 use Rattle.lio_calculus.specs.Plan.{plan}
 use Rattle.lio_calculus.proofs.EnabledLemmas.{can-absent, can-task}

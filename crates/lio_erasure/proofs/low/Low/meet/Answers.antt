@@ -6,7 +6,7 @@ use Rattle.lio_values.specs.declared.act.Act.{Act}
 use Rattle.lio_values.specs.declared.act.Reply.{Reply}
 use Rattle.lio_cells.specs.State.{answer, ready}
 use Rattle.lio_calculus.specs.Step.{Cell, cell_at}
-use Rattle.lio_config.specs.declared.config.Holder.{Holder}
+use Rattle.lio_task.specs.declared.config.Holder.{Holder}
 use Rattle.lio_task.specs.declared.task.Task.{Task}
 use Rattle.lio_erasure.specs.Low.{holder_in}
 use Rattle.lio_erasure.specs.LowParts.{LowParts}

@@ -2,7 +2,7 @@ use Rattle.std.proofs.Common.{◌≡◌, ◌∙◌, refl, sym, ap, None, Some}
 use Rattle.std.proofs.lemmas.Result.{IfErr-weaker, IfOk-weaker, on_err_weaker}
 use Rattle.lio_calculus.specs.Plan.{plan}
 use Rattle.lio_task_turns.specs.StateOf.{program_of}
-use Rattle.lio_config.proofs.MoveLemmas.{no-task-still, over-still}
+use Rattle.lio_task.proofs.MoveLemmas.{no-task-still, over-still}
 use Rattle.lio_task.specs.declared.next.Next.TheVariants as next
 use Rattle.lio_task.specs.Next.{next_by}
 use Rattle.lio_task.specs.StateOf.{state_in}

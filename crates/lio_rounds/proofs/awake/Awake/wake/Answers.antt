@@ -1,4 +1,4 @@
-use Rattle.std.proofs.Common.{◌≡◌, ap, sym, ◌∙◌, Some}
+use Rattle.std.proofs.Common.{ap, sym, ◌∙◌, Some}
 use Rattle.lio_rounds.proofs.ListLemmas.{waits-other}
 use Rattle.lio_rounds.proofs.awake.Awake.wake.Goals as goal
 

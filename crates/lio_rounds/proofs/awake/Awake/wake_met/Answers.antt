@@ -1,4 +1,4 @@
-use Rattle.std.proofs.Common.{◌≡◌, ◌∙◌, inl, inr}
+use Rattle.std.proofs.Common.{◌∙◌, inl, inr}
 use Rattle.lio_rounds.proofs.ListLemmas.{cases_number}
 use Rattle.lio_rounds.proofs.awake.Awake.wake_met.Goals as goal
 

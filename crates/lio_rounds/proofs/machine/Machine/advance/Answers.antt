@@ -1,10 +1,10 @@
 use Rattle.std.proofs.Common.{◌≡◌, ◌∙◌, ℕ, List, [], ◌∷◌, ◌++◌, length, append-nil, refl, sym, ap, subst, Some}
 use Rattle.lio_values.specs.declared.entry.Entry.{Entry}
 use Rattle.lio_calculus.specs.Step.{Configuration, Turn, step}
-use Rattle.lio_calculus_rounds.specs.Round.{born_in}
-use Rattle.lio_calculus_logs.specs.Journals.{of_cell}
-use Rattle.lio_config.specs.Configuration.{configuration_of}
-use Rattle.lio_config.specs.Logs.{log_in}
+use Rattle.lio_calculus_runs.specs.Round.{born_in}
+use Rattle.lio_calculus.specs.Journals.{of_cell}
+use Rattle.lio_task.specs.Configuration.{configuration_of}
+use Rattle.lio_task.specs.Logs.{log_in}
 use Rattle.lio_rounds.specs.Births.{listed as listed_by}
 use Rattle.lio_rounds.specs.Invariant.{IsMachine}
 use Rattle.lio_rounds.specs.MachineParts.{MachineParts, machine_of}

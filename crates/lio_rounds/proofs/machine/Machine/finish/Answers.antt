@@ -1,7 +1,7 @@
 use Rattle.std.proofs.Common.{subst, sym}
-use Rattle.lio_calculus_logs.specs.Journals.{IsMerged}
-use Rattle.lio_calculus_logs.proofs.JournalLemmas.{numbered-rising, parts-mergeable, parts-merged}
-use Rattle.lio_config.specs.Logs.{log_in}
+use Rattle.lio_calculus.specs.Journals.{IsMerged}
+use Rattle.lio_calculus.proofs.JournalLemmas.{numbered-rising, parts-mergeable, parts-merged}
+use Rattle.lio_task.specs.Logs.{log_in}
 use Rattle.lio_rounds.specs.MachineLaws.{HasRunSeen}
 use Rattle.lio_rounds.specs.MachineParts.{MachineParts, machine_of}
 use Rattle.lio_rounds.proofs.SeenLemmas.{has_run-seen, seen_as_erased}

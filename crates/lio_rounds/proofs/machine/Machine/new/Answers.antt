@@ -3,10 +3,10 @@ use Rattle.std.specs.Prelude.{IfOk}
 use Rattle.lio_values.specs.declared.entry.Entry.{Entry}
 use Rattle.lio_calculus.specs.Run.{Ran}
 use Rattle.lio_calculus.specs.Step.{Configuration}
-use Rattle.lio_calculus_rounds.specs.Rounds.{tasks}
-use Rattle.lio_calculus_logs.specs.Journals.{AreNumberedFrom, of_cell}
-use Rattle.lio_config.specs.Configuration.{configuration_of}
-use Rattle.lio_config.proofs.LogLemmas.{fresh-log}
+use Rattle.lio_calculus_runs.specs.Rounds.{tasks}
+use Rattle.lio_calculus.specs.Journals.{AreNumberedFrom, of_cell}
+use Rattle.lio_task.specs.Configuration.{configuration_of}
+use Rattle.lio_task.proofs.LogLemmas.{fresh-log}
 use Rattle.lio_rounds.specs.MachineState.{MachineState}
 use Rattle.lio_rounds.specs.MachineParts.{MachineParts, machine_of}
 use Rattle.lio_rounds.proofs.MachineRuns.{run-nothing}

@@ -1,7 +1,7 @@
 use Rattle.std.proofs.Common.{◌≡◌, ◌<◌, ◌≤◌, sym, subst, arith, false, get_or, length}
 use Rattle.lio_calculus.specs.Step.{Configuration, can}
-use Rattle.lio_calculus_rounds.proofs.OrderLaws.{order-short}
-use Rattle.lio_config.specs.Configuration.{configuration_of}
+use Rattle.lio_calculus_runs.proofs.OrderLaws.{order-short}
+use Rattle.lio_task.specs.Configuration.{configuration_of}
 use Rattle.lio_rounds.specs.MachineParts.{MachineParts, machine_of}
 use Rattle.lio_rounds.proofs.machine.Machine.next_awake.Goals as goal
 

@@ -1,6 +1,6 @@
 use Rattle.std.proofs.Common.{◌≡◌, ◌<◌, ℕ, List, length, ap, arith}
-use Rattle.lio_config.specs.Configuration.{configuration_of}
-use Rattle.lio_calculus_rounds.proofs.OrderLaws.{order-short}
+use Rattle.lio_task.specs.Configuration.{configuration_of}
+use Rattle.lio_calculus_runs.proofs.OrderLaws.{order-short}
 use Rattle.lio_rounds.proofs.machine.Machine.order.Goals as goal
 
 pub returns-clause-few : goal.returns-clause-few

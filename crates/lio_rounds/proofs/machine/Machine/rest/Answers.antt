@@ -1,10 +1,10 @@
 use Rattle.std.proofs.Common.{◌≡◌, ◌<◌, ◌∙◌, ap, sym, subst, ℕ, List, false, true, is_some, get_or, length, arith}
 use Rattle.std.specs.Int.{w32}
 use Rattle.std.proofs.Math.Facts.{Fits-of_lt}
-use Rattle.lio_calculus_rounds.proofs.OrderLaws.{order-short}
+use Rattle.lio_calculus_runs.proofs.OrderLaws.{order-short}
 use Rattle.lio_calculus.specs.Step.{Configuration, can, cell_at}
-use Rattle.lio_config.specs.Configuration.{configuration_of}
-use Rattle.lio_config.specs.Takes.{awaited_at}
+use Rattle.lio_task.specs.Configuration.{configuration_of}
+use Rattle.lio_task.specs.Takes.{awaited_at}
 use Rattle.lio_rounds.specs.MachineParts.{MachineParts, machine_of}
 use Rattle.lio_rounds.proofs.HolderTasks.{TaskAwaits, task-awaits}
 use Rattle.lio_rounds.proofs.SleepLemmas.{sleepers-more}

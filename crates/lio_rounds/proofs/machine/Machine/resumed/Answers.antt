@@ -3,14 +3,14 @@ use Rattle.std.proofs.lemmas.List.{length-map}
 use Rattle.lio_values.specs.declared.entry.Entry.{Entry}
 use Rattle.lio_syntax.specs.Statements.{Procedure}
 use Rattle.lio_calculus.specs.Step.{Configuration}
-use Rattle.lio_calculus_rounds.specs.Rounds.{tasks}
-use Rattle.lio_calculus_rounds.specs.Laws.{IsOrderOf}
-use Rattle.lio_calculus_rounds.proofs.OrderLemmas.{tasks_are_an_order}
-use Rattle.lio_calculus_rounds.proofs.Turns.{run_keeps_well_formed}
-use Rattle.lio_calculus_rounds.specs.WellFormed.{IsWellFormed}
-use Rattle.lio_config.specs.declared.config.Config.{Config}
-use Rattle.lio_config.specs.declared.config.Holder.{Holder}
-use Rattle.lio_config.specs.Configuration.{cell_of, configuration_of}
+use Rattle.lio_calculus_runs.specs.Rounds.{tasks}
+use Rattle.lio_calculus_runs.specs.RoundLaws.{IsOrderOf}
+use Rattle.lio_calculus_runs.proofs.OrderLemmas.{tasks_are_an_order}
+use Rattle.lio_calculus_runs.proofs.WellFormedTurns.{run_keeps_well_formed}
+use Rattle.lio_calculus_runs.specs.WellFormed.{IsWellFormed}
+use Rattle.lio_task.specs.declared.config.Config.{Config}
+use Rattle.lio_task.specs.declared.config.Holder.{Holder}
+use Rattle.lio_task.specs.Configuration.{cell_of, configuration_of}
 use Rattle.lio_rounds.specs.Invariant.{IsRunTo}
 use Rattle.lio_rounds.specs.MachineState.{MachineState}
 use Rattle.lio_rounds.proofs.SleepLemmas.{sleepers-none}

@@ -1,8 +1,8 @@
-use Rattle.std.proofs.Common.{◌≡◌, ◌<◌, ◌≤◌, ◌+◌, ◌∙◌, sym, ap, subst, arith, length, List, ℕ, Result, Ok, Err}
+use Rattle.std.proofs.Common.{◌<◌, ◌≤◌, ◌+◌, sym, ap, subst, arith, length, List, ℕ, Result, Ok, Err}
 use Rattle.std.specs.Result.{OnErr}
-use Rattle.lio_calculus_rounds.specs.Round.{round}
-use Rattle.lio_calculus_rounds.specs.Rounds.{stepped}
-use Rattle.lio_rounds.specs.MachineState.{MachineState, HasBegun, HasWalked}
+use Rattle.lio_calculus_runs.specs.Round.{round}
+use Rattle.lio_calculus_runs.specs.Rounds.{stepped}
+use Rattle.lio_rounds.specs.MachineState.{MachineState, HasBegun}
 use Rattle.lio_rounds.specs.MachineParts.{machine_of}
 use Rattle.lio_rounds.specs.Schedule.{HasGoneOn}
 use Rattle.lio_rounds.proofs.RoundLemmas.{WalkedTo, one-at_most, walked-all, walked-asks, walked-begins, walked-on, walked-to_none}

@@ -1,6 +1,6 @@
 use Rattle.std.proofs.Common.{subst}
 use Rattle.std.specs.Result.{OnErr, OnOk}
-use Rattle.lio_calculus_rounds.specs.Rounds.{rounds_from}
+use Rattle.lio_calculus_runs.specs.Rounds.{rounds_from}
 use Rattle.lio_rounds.specs.MachineState.{HasBegun, HasRun, MachineState}
 use Rattle.lio_rounds.specs.MachineParts.{machine_of}
 use Rattle.lio_rounds.proofs.machine.Machine.run.Goals as goal

@@ -1,8 +1,8 @@
 use Rattle.std.proofs.Common.{◌<◌, arith, length, Result, Ok, Err}
 use Rattle.std.specs.Result.{OnErr}
-use Rattle.lio_calculus_rounds.specs.Round.{round}
-use Rattle.lio_calculus_rounds.specs.Rounds.{stepped}
-use Rattle.lio_calculus_rounds.proofs.EndLemmas.{run_is_bounded}
+use Rattle.lio_calculus_runs.specs.Round.{round}
+use Rattle.lio_calculus_runs.specs.Rounds.{stepped}
+use Rattle.lio_calculus_runs.proofs.EndLemmas.{run_is_bounded}
 use Rattle.lio_rounds.specs.MachineState.{MachineState}
 use Rattle.lio_rounds.specs.MachineParts.{machine_of}
 use Rattle.lio_rounds.proofs.RoundLemmas.{rounds-begun, rounds-none, rounds-more, rounds-last, rounds-complete}

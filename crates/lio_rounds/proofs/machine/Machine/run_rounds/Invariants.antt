@@ -1,4 +1,4 @@
-use Rattle.lio_calculus_rounds.specs.Rounds.{measure}
+use Rattle.lio_calculus_runs.specs.Rounds.{measure}
 use Rattle.lio_rounds.specs.MachineParts.{machine_of}
 use Rattle.lio_rounds.proofs.RoundLemmas.{RoundsSoFar}
 use Rattle.lio_rounds.proofs.machine.Machine.run_rounds.Given as goal

@@ -1,7 +1,7 @@
-use Rattle.std.proofs.Common.{◌≡◌, ◌∙◌, ap, subst, sym, ◌<◌, length}
-use Rattle.lio_table_rule.specs.declared.view.Beginning.{Beginning}
-use Rattle.lio_table_rule.specs.declared.view.View.{View}
-use Rattle.lio_table_rule.specs.Views.{rights}
+use Rattle.std.proofs.Common.{◌∙◌, ap, subst, sym, ◌<◌, length}
+use Rattle.lio_table.specs.declared.view.Beginning.{Beginning}
+use Rattle.lio_table.specs.declared.view.View.{View}
+use Rattle.lio_table.specs.Views.{rights}
 use Rattle.lio_table.proofs.SeatLemmas.{numbers-more, out-more}
 use Rattle.lio_table.proofs.table.Table.claim.Goals as goal
 

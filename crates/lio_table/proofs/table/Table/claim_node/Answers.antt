@@ -1,6 +1,6 @@
-use Rattle.std.proofs.Common.{arith, subst, sym, ◌<◌}
-use Rattle.lio_table_rule.specs.Views.{beginning_of}
-use Rattle.lio_table_rule.proofs.ClaimKept.{claim-kept}
+use Rattle.std.proofs.Common.{arith}
+use Rattle.lio_table.specs.Views.{beginning_of}
+use Rattle.lio_table.proofs.ClaimKept.{claim-kept}
 use Rattle.lio_table.proofs.table.Table.claim_node.Goals as goal
 
 pub compare_exchange-requires : goal.compare_exchange-requires

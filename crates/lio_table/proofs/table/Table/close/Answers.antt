@@ -1,9 +1,9 @@
-use Rattle.std.proofs.Common.{◌≡◌, ◌∙◌, subst, sym, List}
+use Rattle.std.proofs.Common.{◌∙◌, subst, sym, List}
 use Rattle.std.specs.Mem.Slots.{slots_items}
-use Rattle.lio_config.specs.declared.config.Holder.{Holder}
-use Rattle.lio_table_rule.specs.Views.{beginning_of}
-use Rattle.lio_table_rule.specs.Ends.{HasRun}
-use Rattle.lio_table_rule.proofs.Closing.{closed-run}
+use Rattle.lio_task.specs.declared.config.Holder.{Holder}
+use Rattle.lio_table.specs.Views.{beginning_of}
+use Rattle.lio_table.specs.Ends.{HasRun}
+use Rattle.lio_table.proofs.Closing.{closed-run}
 use Rattle.lio_table.proofs.SlotLemmas.{same-values}
 use Rattle.lio_table.proofs.table.Table.close.Goals as goal
 

@@ -1,8 +1,8 @@
 use Rattle.std.proofs.Common.{arith, subst, sym}
 use Rattle.lio_values.specs.declared.entry.Entry.{Entry}
-use Rattle.lio_table_rule.specs.Views.{beginning_of}
-use Rattle.lio_table_rule.specs.Steps.{CanRecord, DrawsTicket}
-use Rattle.lio_table_rule.proofs.TicketKept.{ticket-kept}
+use Rattle.lio_table.specs.Views.{beginning_of}
+use Rattle.lio_table.specs.Steps.{CanRecord, DrawsTicket}
+use Rattle.lio_table.proofs.TicketKept.{ticket-kept}
 use Rattle.lio_table.proofs.table.Table.draw_for.Goals as goal
 
 pub fetch_add-requires : goal.fetch_add-requires

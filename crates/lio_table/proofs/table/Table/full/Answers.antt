@@ -1,4 +1,4 @@
-use Rattle.std.proofs.Common.{◌≡◌, ◌∙◌, sym, ap}
+use Rattle.std.proofs.Common.{◌∙◌, sym, ap}
 use Rattle.lio_syntax.specs.Lines.{script_lines}
 use Rattle.lio_task_turns.specs.declared.turn.Turn.TheVariants as turn
 use Rattle.lio_task_turns.specs.Turns.{target_of, turn_of}
@@ -6,8 +6,8 @@ use Rattle.lio_task_turns.specs.StateOf.{program_of}
 use Rattle.lio_task_plan.specs.Planned.{simple_of}
 use Rattle.lio_task.specs.StateOf.{state_in}
 use Rattle.lio_task.proofs.PlannedLemmas.{turn_afforded}
-use Rattle.lio_config.specs.declared.config.Holder.{Holder}
-use Rattle.lio_config.proofs.TurnLemmas.{full-of}
+use Rattle.lio_task.specs.declared.config.Holder.{Holder}
+use Rattle.lio_task.proofs.TurnLemmas.{full-of}
 use Rattle.lio_table.proofs.AnswerLemmas.{one-refused}
 use Rattle.lio_table.proofs.EndLemmas.{one-can_put}
 use Rattle.lio_table.proofs.table.Table.full.Goals as goal

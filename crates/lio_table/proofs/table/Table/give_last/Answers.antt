@@ -1,6 +1,6 @@
-use Rattle.std.proofs.Common.{◌≡◌, ◌∙◌, ap, subst, sym, ◌<◌, length}
-use Rattle.lio_table_rule.specs.declared.view.Beginning.{Beginning}
-use Rattle.lio_table_rule.specs.declared.view.View.{View}
+use Rattle.std.proofs.Common.{◌∙◌, ap, subst, sym, ◌<◌, length}
+use Rattle.lio_table.specs.declared.view.Beginning.{Beginning}
+use Rattle.lio_table.specs.declared.view.View.{View}
 use Rattle.lio_table.proofs.SeatLemmas.{given-after, given-says, last-first, stands-can_give}
 use Rattle.lio_table.proofs.table.Table.give_last.Goals as goal
 

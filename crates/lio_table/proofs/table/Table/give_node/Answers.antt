@@ -1,6 +1,6 @@
 use Rattle.std.proofs.Common.{arith}
-use Rattle.lio_table_rule.specs.Views.{beginning_of}
-use Rattle.lio_table_rule.proofs.GiveKept.{give-kept}
+use Rattle.lio_table.specs.Views.{beginning_of}
+use Rattle.lio_table.proofs.GiveKept.{give-kept}
 use Rattle.lio_table.proofs.table.Table.give_node.Goals as goal
 
 pub store-requires : goal.store-requires

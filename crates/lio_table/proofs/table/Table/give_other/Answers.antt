@@ -1,8 +1,8 @@
-use Rattle.std.proofs.Common.{◌≡◌, ◌∙◌, ap, subst, sym, ◌<◌, length}
-use Rattle.lio_table_rule.specs.declared.view.Beginning.{Beginning}
-use Rattle.lio_table_rule.specs.declared.view.View.{View}
-use Rattle.lio_table_rule.specs.Views.{rights}
-use Rattle.lio_table_rule.specs.Steps.{SeatState}
+use Rattle.std.proofs.Common.{◌∙◌, ap, subst, sym, ◌<◌, length}
+use Rattle.lio_table.specs.declared.view.Beginning.{Beginning}
+use Rattle.lio_table.specs.declared.view.View.{View}
+use Rattle.lio_table.specs.Views.{rights}
+use Rattle.lio_table.specs.Steps.{SeatState}
 use Rattle.lio_table.specs.Claims.{GiveSays}
 use Rattle.lio_table.specs.Seats.{HaveNumbers}
 use Rattle.lio_table.proofs.SeatLemmas.{StandsFirst, given-after, given-says, other-first, stands-can_give}

@@ -1,4 +1,4 @@
-use Rattle.std.proofs.Common.{◌≡◌, ◌∙◌, sym, ap, subst}
+use Rattle.std.proofs.Common.{◌∙◌, sym, ap, subst}
 use Rattle.lio_values.specs.declared.act.Act.{Act}
 use Rattle.lio_values.specs.declared.act.Reply.TheVariants.{Done}
 use Rattle.lio_calculus.specs.Going.{End}
@@ -7,7 +7,7 @@ use Rattle.lio_task_plan.specs.Planned.{IsPlanned}
 use Rattle.lio_task_plan.specs.Leads.{LeadsOn}
 use Rattle.lio_task_turns.specs.StateOf.{program_of}
 use Rattle.lio_task.specs.StateOf.{state_in}
-use Rattle.lio_config.specs.declared.config.Holder.{Holder}
+use Rattle.lio_task.specs.declared.config.Holder.{Holder}
 use Rattle.lio_table.proofs.AnswerLemmas.{none-over, one-refused, over-here}
 use Rattle.lio_table.proofs.EndLemmas.{one-can_put}
 use Rattle.lio_table.proofs.table.Table.go_on.Goals as goal

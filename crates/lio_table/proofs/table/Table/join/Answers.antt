@@ -1,7 +1,7 @@
-use Rattle.std.proofs.Common.{arith, ◌≡◌, ◌∙◌, sym, [], length, ap, List}
-use Rattle.lio_table_rule.specs.Views.{beginning_of}
-use Rattle.lio_table_rule.proofs.CutsKept.{join-kept}
-use Rattle.lio_table_rule.proofs.MomentLemmas.{look-kept}
+use Rattle.std.proofs.Common.{arith, ◌∙◌}
+use Rattle.lio_table.specs.Views.{beginning_of}
+use Rattle.lio_table.proofs.CutsKept.{join-kept}
+use Rattle.lio_table.proofs.MomentLemmas.{look-kept}
 use Rattle.lio_table.proofs.SeatLemmas.{bare-slots}
 use Rattle.lio_table.proofs.table.Table.join.Goals as goal
 

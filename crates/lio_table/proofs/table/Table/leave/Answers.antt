@@ -1,6 +1,6 @@
-use Rattle.std.proofs.Common.{◌≡◌, ap, ◌∙◌}
+use Rattle.std.proofs.Common.{ap, ◌∙◌}
 use Rattle.lio_cells.specs.State.{ready as is_ready}
-use Rattle.lio_config.specs.declared.config.Holder.{Holder}
+use Rattle.lio_task.specs.declared.config.Holder.{Holder}
 use Rattle.lio_table.proofs.WaitLemmas.{left-can_put, left-returned, left-waits}
 use Rattle.lio_table.proofs.table.Table.leave.Goals as goal
 

@@ -1,8 +1,8 @@
-use Rattle.std.proofs.Common.{◌≡◌, ◌∙◌, ap, subst, sym, ℕ}
+use Rattle.std.proofs.Common.{◌∙◌, ap, subst, sym, ℕ}
 use Rattle.lio_cells.specs.State.{ready as is_ready}
-use Rattle.lio_config.specs.declared.config.Holder.{Holder}
-use Rattle.lio_config.specs.Takes.{PlansVisit}
-use Rattle.lio_table_rule.specs.declared.view.Beginning.{Beginning}
+use Rattle.lio_task.specs.declared.config.Holder.{Holder}
+use Rattle.lio_task.specs.Takes.{PlansVisit}
+use Rattle.lio_table.specs.declared.view.Beginning.{Beginning}
 use Rattle.lio_table.proofs.AnswerLemmas.{meet-moved, meets-both, target-still, two-refused}
 use Rattle.lio_table.proofs.EndLemmas.{two-can_put}
 use Rattle.lio_table.proofs.table.Table.meet.Goals as goal

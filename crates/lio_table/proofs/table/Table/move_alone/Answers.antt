@@ -1,8 +1,8 @@
-use Rattle.std.proofs.Common.{◌≡◌, ◌∙◌, ap, subst, sym}
+use Rattle.std.proofs.Common.{◌∙◌, ap, subst, sym}
 use Rattle.lio_cells.specs.Node.{IsReadyFor}
-use Rattle.lio_config.specs.declared.config.Holder.{Holder}
-use Rattle.lio_config.specs.Takes.{PlansOwn}
-use Rattle.lio_config.proofs.TurnLemmas.{own-can}
+use Rattle.lio_task.specs.declared.config.Holder.{Holder}
+use Rattle.lio_task.specs.Takes.{PlansOwn}
+use Rattle.lio_task.proofs.TurnLemmas.{own-can}
 use Rattle.lio_table.specs.Holders.{CanPut}
 use Rattle.lio_table.proofs.TurnLemmas.{alone-can_record, alone-put, holder-job, later-than, moved-alone, same-put, same-returned, stands-in}
 use Rattle.lio_table.proofs.table.Table.move_alone.Goals as goal

@@ -1,8 +1,8 @@
-use Rattle.std.proofs.Common.{◌≡◌, ◌∙◌, ap, subst, sym}
+use Rattle.std.proofs.Common.{◌∙◌, ap, subst, sym}
 use Rattle.lio_cells.specs.State.{ready as is_ready}
-use Rattle.lio_config.specs.declared.config.Holder.{Holder}
-use Rattle.lio_config.specs.Takes.{PlansVisit}
-use Rattle.lio_config.proofs.TurnLemmas.{visit-can}
+use Rattle.lio_task.specs.declared.config.Holder.{Holder}
+use Rattle.lio_task.specs.Takes.{PlansVisit}
+use Rattle.lio_task.proofs.TurnLemmas.{visit-can}
 use Rattle.lio_table.proofs.MeetingLemmas.{both-lent, both-returned, both-same-put, meeting-can_record, meeting-moved, meeting-put, meeting-records, meeting-records-met}
 use Rattle.lio_table.proofs.table.Table.move_meeting.Goals as goal
 

@@ -1,5 +1,5 @@
 use Rattle.std.proofs.Common.{rules}
-use Rattle.lio_table_rule.specs.Views.{beginning_of}
+use Rattle.lio_table.specs.Views.{beginning_of}
 use Rattle.lio_table.proofs.OpenLemmas.{opens}
 use Rattle.lio_table.proofs.table.Table.of_config.Goals as goal
 

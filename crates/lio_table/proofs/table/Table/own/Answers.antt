@@ -1,6 +1,6 @@
-use Rattle.std.proofs.Common.{◌≡◌, ◌∙◌, ap, subst, sym, ℕ}
-use Rattle.lio_config.specs.Takes.{PlansOwn}
-use Rattle.lio_table_rule.specs.declared.view.Beginning.{Beginning}
+use Rattle.std.proofs.Common.{◌∙◌, ap, subst, sym, ℕ}
+use Rattle.lio_task.specs.Takes.{PlansOwn}
+use Rattle.lio_table.specs.declared.view.Beginning.{Beginning}
 use Rattle.lio_table.proofs.AnswerLemmas.{own-moved, own-refused}
 use Rattle.lio_table.proofs.EndLemmas.{one-can_put}
 use Rattle.lio_table.proofs.table.Table.own.Goals as goal

@@ -1,6 +1,6 @@
 use Rattle.std.proofs.Common.{refl, subst, sym}
 use Rattle.atomic_table.specs.Table.{rest}
-use Rattle.lio_table_rule.specs.Steps.{CanGive}
+use Rattle.lio_table.specs.Steps.{CanGive}
 use Rattle.lio_table.proofs.SeatLemmas.{put-back}
 use Rattle.lio_table.proofs.table.Table.put.Goals as goal
 

@@ -1,5 +1,5 @@
-use Rattle.std.proofs.Common.{◌≡◌, ap, subst, sym, ◌<◌, ℕ}
-use Rattle.lio_table_rule.specs.Views.{rights}
+use Rattle.std.proofs.Common.{ap, subst, sym, ◌<◌, ℕ}
+use Rattle.lio_table.specs.Views.{rights}
 use Rattle.lio_table.proofs.PairLemmas.{both-put, first-can_put, second-can_put}
 use Rattle.lio_table.proofs.table.Table.put_both.Goals as goal
 

@@ -1,6 +1,6 @@
 use Rattle.std.proofs.Common.{arith, subst, ◌<◌, ◌≤◌, ℕ}
-use Rattle.lio_table_rule.specs.Views.{beginning_of}
-use Rattle.lio_table_rule.proofs.CutsKept.{split-kept}
+use Rattle.lio_table.specs.Views.{beginning_of}
+use Rattle.lio_table.proofs.CutsKept.{split-kept}
 use Rattle.lio_table.proofs.table.Table.split_share.Goals as goal
 
 pub split_seat-new-requires : goal.split_seat-new-requires

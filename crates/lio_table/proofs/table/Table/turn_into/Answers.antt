@@ -1,4 +1,4 @@
-use Rattle.std.proofs.Common.{◌≡◌, ◌∙◌}
+use Rattle.std.proofs.Common.{◌∙◌}
 use Rattle.lio_table.proofs.AnswerLemmas.{few-after, left-after, left-same, numbers-after, out-after, refused-after, says-after}
 use Rattle.lio_table.proofs.SeatLemmas.{bare-slots}
 use Rattle.lio_table.proofs.table.Table.turn_into.Goals as goal

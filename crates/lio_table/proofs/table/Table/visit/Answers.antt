@@ -1,5 +1,5 @@
-use Rattle.std.proofs.Common.{◌≡◌, sym}
-use Rattle.lio_table_rule.specs.Steps.{with_busy}
+use Rattle.std.proofs.Common.{sym}
+use Rattle.lio_table.specs.Steps.{with_busy}
 use Rattle.lio_table.proofs.AnswerLemmas.{itself-still, meets-here, some-busy, target-busy, target-inside, within-holders}
 use Rattle.lio_table.proofs.EndLemmas.{one-busy, one-can_put, other-free, taken-in_turn, two-taken}
 use Rattle.lio_table.proofs.table.Table.visit.Goals as goal

@@ -1,12 +1,10 @@
 use Rattle.std.proofs.Common.{◌≡◌, ◌∙◌, ◌-◌, sym, subst}
 use Rattle.lio_values.specs.declared.value.Value.TheVariants.{Bare}
 use Rattle.lio_values.specs.declared.value.Plain.TheVariants.{Unit as unit}
-use Rattle.lio_syntax.specs.Lines.{script_lines}
-use Rattle.lio_task_control.specs.Items.{rest_of, enter}
 use Rattle.lio_task_control.specs.Throwing.{returned}
 use Rattle.lio_calculus.specs.Going.{at}
 use Rattle.lio_task_plan.specs.Leads.{Leads}
-use Rattle.lio_task.specs.Goes.{Steps, spent}
+use Rattle.lio_task.specs.Goes.{Steps}
 use Rattle.lio_task.specs.StateOf.{state_in}
 use Rattle.lio_task.proofs.StepLemmas.{leave_on, ok_on, other_on}
 use Rattle.lio_task.proofs.task.Task.go_step.Goals as goal

@@ -1,7 +1,6 @@
 use Rattle.lio_syntax.specs.Lines.{script_lines}
 use Rattle.lio_task_control.specs.Continuation.{place_of}
 use Rattle.std.proofs.Common.{◌∙◌}
-use Rattle.lio_task_control.specs.declared.frame.Frame.{Frame}
 use Rattle.lio_task_control.proofs.ContinuationLemmas.{at_own, place_eq, moved}
 use Rattle.lio_task_control.proofs.continuation.Continuation.bind.Goals as goal
 

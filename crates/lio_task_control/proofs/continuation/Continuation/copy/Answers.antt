@@ -1,6 +1,6 @@
 use Rattle.lio_task_control.specs.declared.frame.Stage.{Stage}
 use Rattle.std.proofs.Common.{ℕ, ◌++◌, length, take, ◌≡◌, ◌∙◌, sym, ap, [], arith}
-use Rattle.lio_task_control.specs.Continuation.{frame_over, place_of, stage_items, frame_items}
+use Rattle.lio_task_control.specs.Continuation.{frame_over, place_of, stage_items}
 use Rattle.lio_task_control.proofs.ContinuationLemmas.{below, place_eq, take_all, calls_over-push, calls_over-take}
 use Rattle.lio_task_control.specs.Continuation.{call_over, calls_over}
 use Rattle.lio_task_control.proofs.continuation.Continuation.copy.Goals as goal

@@ -1,4 +1,4 @@
-use Rattle.std.proofs.Common.{rules, ◌≡◌, ◌∙◌, sym, ap, subst, List, ◌∷◌, Bool, true, false, IfOk, OnOk}
+use Rattle.std.proofs.Common.{rules, ◌∙◌, subst}
 use Rattle.lio_task_control.specs.Bound.{AreInOrder}
 use Rattle.lio_task_control.proofs.OrderLemmas.{bound_in_order}
 use Rattle.lio_task_control.proofs.environment.Environment.add.Goals as goal

@@ -1,5 +1,3 @@
-use Rattle.std.proofs.Common.{subst}
-use Rattle.lio_task_control.specs.Bound.{AreInOrder}
 use Rattle.lio_task_control.proofs.OrderLemmas.{all_hidden_in_order}
 use Rattle.lio_task_control.proofs.environment.Environment.erase.Goals as goal
 

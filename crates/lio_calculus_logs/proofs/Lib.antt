@@ -1,3 +1,0 @@
-pub mod JournalLemmas
-pub mod FoldLemmas
-pub mod RunLemmas

@@ -1,5 +1,0 @@
-use Rattle.lio_calculus_logs.proofs.JournalLemmas.{parts_of_a_journal_are_logged}
-use Rattle.lio_calculus_logs.proofs.laws.parts_of_a_journal_are_logged.Goals as goal
-
-pub returns : goal.returns
-returns c = parts_of_a_journal_are_logged

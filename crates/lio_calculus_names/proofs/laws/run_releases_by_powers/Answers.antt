@@ -1,5 +1,0 @@
-use Rattle.lio_calculus_names.proofs.PowerLaws.{run_releases_by_powers}
-use Rattle.lio_calculus_names.proofs.laws.run_releases_by_powers.Goals as goal
-
-pub returns : goal.returns
-returns c = run_releases_by_powers

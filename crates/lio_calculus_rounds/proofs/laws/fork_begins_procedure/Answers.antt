@@ -1,5 +1,0 @@
-use Rattle.lio_calculus_rounds.proofs.Beginnings.{fork_begins_procedure}
-use Rattle.lio_calculus_rounds.proofs.laws.fork_begins_procedure.Goals as goal
-
-pub returns : goal.returns
-returns c = fork_begins_procedure

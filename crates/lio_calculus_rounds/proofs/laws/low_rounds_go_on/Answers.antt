@@ -1,5 +1,0 @@
-use Rattle.lio_calculus_rounds.proofs.LowRunLemmas.{low_rounds_go_on}
-use Rattle.lio_calculus_rounds.proofs.laws.low_rounds_go_on.Goals as goal
-
-pub returns : goal.returns
-returns c = low_rounds_go_on

@@ -1,5 +1,0 @@
-use Rattle.lio_calculus_rounds.proofs.LowRunLemmas.{low_rounds_run_to_the_end}
-use Rattle.lio_calculus_rounds.proofs.laws.low_rounds_run_to_the_end.Goals as goal
-
-pub returns : goal.returns
-returns c = low_rounds_run_to_the_end

@@ -1,5 +1,0 @@
-use Rattle.lio_calculus_rounds.proofs.LowTurnLemmas.{low_ticket_stands_in_the_entry}
-use Rattle.lio_calculus_rounds.proofs.laws.low_ticket_stands_in_the_entry.Goals as goal
-
-pub returns : goal.returns
-returns c = low_ticket_stands_in_the_entry

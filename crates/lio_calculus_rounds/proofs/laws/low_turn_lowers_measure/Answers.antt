@@ -1,5 +1,0 @@
-use Rattle.lio_calculus_rounds.proofs.LowMeasure.{low_turn_lowers_measure}
-use Rattle.lio_calculus_rounds.proofs.laws.low_turn_lowers_measure.Goals as goal
-
-pub returns : goal.returns
-returns c = low_turn_lowers_measure

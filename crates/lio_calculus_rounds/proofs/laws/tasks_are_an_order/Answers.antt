@@ -1,5 +1,0 @@
-use Rattle.lio_calculus_rounds.proofs.OrderLemmas.{tasks_are_an_order}
-use Rattle.lio_calculus_rounds.proofs.laws.tasks_are_an_order.Goals as goal
-
-pub returns : goal.returns
-returns c = tasks_are_an_order

@@ -1,5 +1,0 @@
-use Rattle.lio_calculus_rounds.proofs.TurnsLost.{turn_adds_no_turns}
-use Rattle.lio_calculus_rounds.proofs.laws.turn_adds_no_turns.Goals as goal
-
-pub returns : goal.returns
-returns c = turn_adds_no_turns

@@ -1,9 +1,0 @@
-pub mod Round
-pub mod Rounds
-pub mod Laws
-pub mod LowRounds
-pub mod LowLaws
-pub mod Calls
-pub mod Turns
-pub mod WellFormed
-pub mod WellFormedLaws

@@ -1,0 +1,14 @@
+pub mod Script
+pub mod Configuration
+pub mod NameLaws
+pub mod Given
+pub mod PowerLaws
+pub mod Round
+pub mod Rounds
+pub mod RoundLaws
+pub mod LowRounds
+pub mod LowLaws
+pub mod Calls
+pub mod Turns
+pub mod WellFormed
+pub mod WellFormedLaws

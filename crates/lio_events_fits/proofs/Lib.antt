@@ -1,2 +1,0 @@
-mod AllLemmas
-mod ItemLemmas

@@ -1,5 +1,0 @@
-use Rattle.lio_table_rule.proofs.MomentLemmas.{nodes-stand}
-use Rattle.lio_table_rule.proofs.laws.seats_nodes_stand.Goals as goal
-
-pub returns : goal.returns
-returns c = nodes-stand

@@ -1,5 +1,0 @@
-use Rattle.lio_table_rule.proofs.TicketKept.{ticket-adds}
-use Rattle.lio_table_rule.proofs.laws.ticket_adds_its_entry.Goals as goal
-
-pub returns : goal.returns
-returns c = ticket-adds

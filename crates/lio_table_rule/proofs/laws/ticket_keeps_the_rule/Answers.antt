@@ -1,5 +1,0 @@
-use Rattle.lio_table_rule.proofs.TicketKept.{ticket-kept}
-use Rattle.lio_table_rule.proofs.laws.ticket_keeps_the_rule.Goals as goal
-
-pub returns : goal.returns
-returns c = ticket-kept

@@ -1,0 +1,13 @@
+use Rattle.std.proofs.Common.{ap}
+use Rattle.std.specs.Option.{option_copied}
+use Rattle.lio_task.specs.Turns.{ends}
+use Rattle.lio_task.proofs.LentLemmas.{of-none, of-ready}
+use Rattle.lio_task.proofs.config.Holder.is_ending.Goals as goal
+
+pub returns-in-Some : goal.returns-in-Some
+returns-in-Some c =
+    of-ready ends c.args.self.now.node (option_copied c.pending.result) c.in-Some.entry.now c.ends.result c.pending.ensures (ap (λ found. option_copied found) c.in-Some.is) c.ends.ensures
+
+pub returns-in-None : goal.returns-in-None
+returns-in-None c = λ entry ready.
+    absurd (of-none c.args.self.now.node (option_copied c.pending.result) c.pending.ensures (ap (λ found. option_copied found) c.in-None.is) entry ready)

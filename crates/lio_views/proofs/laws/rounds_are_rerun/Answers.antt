@@ -1,5 +1,0 @@
-use Rattle.lio_views.proofs.RunViewLemmas.{rounds_are_rerun}
-use Rattle.lio_views.proofs.laws.rounds_are_rerun.Goals as goal
-
-pub returns : goal.returns
-returns c = rounds_are_rerun
