@@ -62,7 +62,7 @@ where
     // Giving back a long journal piece by piece would take a good part of the run.
     mem::forget(journal);
     let exit = exit_code(&status);
-    print_refusal(rt, Program::Futures, words, store, &status, &None);
+    print_refusal(rt, Program::Futures, words, store, &status, None);
     (status, exit)
 }
 

@@ -10,15 +10,19 @@ ghost use Rattle.lio_front.specs.Status.{exit_status as status_number};
 ghost use Rattle.lio_host_main.specs.Answers.{EndsWith};
 ghost use Rattle.lio_front.specs.Sorted.{bytes_of_words};
 
+use lio_audit::MOST_HISTORY_BYTES;
 use lio_clauses::NoMemory;
 use lio_events::Journal;
-use lio_host_main::{HostStatus, Outcome, host_main};
+use lio_host_main::{HostStatus, Outcome, expected_line, host_main};
 use lio_messages_notes::{Source, notes_text, troubles_of};
-use lio_messages_refusals::{Program, print_refusal, script_name, script_text};
+use lio_messages_refusals::{
+    Program, Stop, bytes_again, history_name, print_refusal, script_name, script_text, stop_at,
+};
 use lio_outside::{Say, Store};
 use lio_start::Job;
 use lio_system::{RealSay, RealStore};
 use lio_workers::{Gate, OpenGate};
+use std::alloc::Global;
 use std::fs::Files;
 use std::process::ExitCode;
 use std::sync::Wait;
@@ -87,6 +91,35 @@ fn print_notes<R: AllocGlobal + Files + Eprint, S: Store>(
     }
 }
 
+/// The line at which a history stops, with what should stand there.
+fn stop_in(alloc: Global, job: &Job, history: &[u8], line: u32) -> Result<Stop, NoMemory> {
+    let expected = expected_line(alloc, job, history, line)?;
+    stop_at(alloc, history, line, expected)
+}
+
+/// The line at which the history that is taken again stops, where the answer is that it does. It is
+/// read once more; the store's files stay.
+fn stop_of<R: AllocGlobal + Files, S: Store>(
+    rt: &R,
+    words: &[String],
+    store: &mut S,
+    status: &HostStatus,
+    job: &Option<Job>,
+) -> Option<Stop>
+    ensures files { S.holds store.new ≡ S.holds store.old }
+    ensures count { S.faults store.old ≤ S.faults store.new }
+{
+    let (HostStatus::NotARun(line), Some(job), Some(name)) = (status, job, history_name(words))
+    else {
+        return None;
+    };
+    let alloc = rt.alloc();
+    match bytes_again(alloc, rt, store, name, MOST_HISTORY_BYTES as u32) {
+        Some(history) if *line > 0 => stop_in(alloc, job, history.as_slice(), *line).ok(),
+        _ => None,
+    }
+}
+
 /// Says on standard error what was refused, or what went wrong in the run, if anything was or did.
 /// The store's files stay.
 fn report<R: AllocGlobal + Files + Eprint, S: Store>(
@@ -104,7 +137,8 @@ fn report<R: AllocGlobal + Files + Eprint, S: Store>(
         print_notes(rt, words, store, job, journal);
         return;
     }
-    print_refusal(rt, Program::Host, words, store, status, job);
+    let stop = stop_of(rt, words, store, status, job);
+    print_refusal(rt, Program::Host, words, store, status, stop);
 }
 
 /// Runs the script that the words name, says on standard error what was refused or went wrong, if

@@ -4,16 +4,14 @@ use crate::channels::{Channels, FileFault, channels_before};
 use crate::entry::{WrongEntry, wrong_entry};
 use crate::line::{WrongLine, wrong_line};
 use crate::program::Program;
-use crate::stop::{Stop, stop_at};
+use crate::stop::Stop;
 use crate::task::{WrongTask, wrong_task};
 use lio_clauses::NoMemory;
 use lio_front::Status;
 use lio_messages_hints::{Piece, filled};
-use lio_observe_main::Claim;
 use lio_outside::Trouble;
 use lio_policy::{Policy, read_policy};
 use lio_policy_draft::PolicyFault;
-use lio_start::Job;
 use lio_values::Text;
 use std::alloc::Global;
 
@@ -34,23 +32,11 @@ pub enum Detail {
     Stop(Stop),
 }
 
-/// What was to be run or checked, where a history or a view stops.
-#[derive(Clone, Copy)]
-pub enum Record<'a> {
-    /// Nothing is known of it.
-    Nothing,
-    /// A job, and the history that is to be that of its run.
-    History(&'a Job, &'a [u8]),
-    /// What an observer checks.
-    View(&'a Claim),
-}
-
-/// The texts of a refusal, as far as they say something of it, and what was to be run or checked.
+/// The texts of the policy and of the script, as far as they are there and say something of a refusal.
 #[derive(Clone, Copy)]
 pub struct Texts<'a> {
-    pub policy: &'a [u8],
-    pub script: &'a [u8],
-    pub record: Record<'a>,
+    pub policy: Option<&'a [u8]>,
+    pub script: Option<&'a [u8]>,
 }
 
 /// What is told of a trouble with a file.
@@ -95,11 +81,16 @@ fn policy_says(
     }
 }
 
-/// The same, of the policy that a text is.
-fn text_says(alloc: Global, status: &Status, texts: Texts<'_>) -> Result<Detail, NoMemory> {
-    match read_policy(alloc, texts.policy) {
+/// What the texts of a policy and of a script say of a refusal.
+fn texts_say(
+    alloc: Global,
+    status: &Status,
+    policy: &[u8],
+    script: &[u8],
+) -> Result<Detail, NoMemory> {
+    match read_policy(alloc, policy) {
         Ok(policy) => {
-            let detail = policy_says(alloc, status, &policy, texts.script);
+            let detail = policy_says(alloc, status, &policy, script);
             drop(policy);
             detail
         }
@@ -109,8 +100,8 @@ fn text_says(alloc: Global, status: &Status, texts: Texts<'_>) -> Result<Detail,
 }
 
 /// The channels that are written before the file with a name, in the policy that a text is.
-fn channels_of(alloc: Global, policy: &[u8], name: &Text) -> Option<Channels> {
-    match read_policy(alloc, policy) {
+fn channels_of(alloc: Global, policy: Option<&[u8]>, name: &Text) -> Option<Channels> {
+    match read_policy(alloc, policy?) {
         Ok(policy) => {
             let channels = channels_before(&policy, name);
             drop(policy);
@@ -120,45 +111,35 @@ fn channels_of(alloc: Global, policy: &[u8], name: &Text) -> Option<Channels> {
     }
 }
 
-/// The line at which a history or a view stops.
-fn record_says(alloc: Global, record: Record<'_>, line: u32) -> Result<Detail, NoMemory> {
-    let (bytes, expected) = match record {
-        Record::Nothing => return Ok(Detail::Nothing),
-        Record::History(job, history) => {
-            let expected = lio_host_main::expected_line(alloc, job, history, line)?;
-            (history, expected)
-        }
-        Record::View(claim) => {
-            let expected = lio_observe_main::expected_line(alloc, claim, line)?;
-            (claim.view.as_slice(), expected)
-        }
-    };
-    Ok(Detail::Stop(stop_at(alloc, bytes, line, expected)?))
-}
-
-/// What the trouble with a file, and the texts that were read say of a refusal.
+/// What the trouble with a file, the texts, and the line at which a history or a view stops say of a
+/// refusal.
 pub fn detail_of(
     alloc: Global,
     status: &Status,
     why: Option<String>,
     texts: Texts<'_>,
+    stop: Option<Stop>,
 ) -> Result<Detail, NoMemory> {
-    match status {
-        Status::ReadFault(_) => {
+    let Texts { policy, script } = texts;
+    match (status, policy, script) {
+        (Status::ReadFault(_), _, _) => {
             let channels = None;
             Ok(Detail::Fault(FileFault { why, channels }))
         }
-        Status::WriteFault(name) => {
-            let channels = channels_of(alloc, texts.policy, name);
+        (Status::WriteFault(name), _, _) => {
+            let channels = channels_of(alloc, policy, name);
             Ok(Detail::Fault(FileFault { why, channels }))
         }
-        Status::BadPolicy(rule, entry) => {
-            Ok(Detail::Entry(wrong_entry(alloc, texts.policy, *rule, *entry)?))
+        (Status::BadPolicy(rule, entry), Some(policy), _) => {
+            Ok(Detail::Entry(wrong_entry(alloc, policy, *rule, *entry)?))
         }
-        Status::BadScript(_, _) | Status::BadStart(_, _) => text_says(alloc, status, texts),
-        Status::NotARun(line) | Status::NotAView(line) if *line > 0 => {
-            record_says(alloc, texts.record, *line)
+        (Status::BadScript(_, _) | Status::BadStart(_, _), Some(policy), Some(script)) => {
+            texts_say(alloc, status, policy, script)
         }
+        (Status::NotARun(_) | Status::NotAView(_), _, _) => match stop {
+            Some(stop) => Ok(Detail::Stop(stop)),
+            None => Ok(Detail::Nothing),
+        },
         _ => Ok(Detail::Nothing),
     }
 }

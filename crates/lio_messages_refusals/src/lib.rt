@@ -14,8 +14,9 @@ mod stop;
 mod task;
 mod words;
 
-pub use again::script_text;
-pub use detail::{Detail, Record, Texts, detail_of, trouble_text};
+pub use again::{bytes_again, script_text};
+pub use detail::{Detail, Texts, detail_of, trouble_text};
 pub use program::Program;
 pub use refusal::{print_refusal, refusal_text};
-pub use words::{futures_words, script_name};
+pub use stop::{Stop, stop_at};
+pub use words::{futures_words, history_name, script_name};

@@ -8,14 +8,13 @@ use crate::detail::Detail;
 use crate::entry::{tell_policy, tell_policy_rule};
 use crate::line::{tell_script, tell_script_rule};
 use crate::program::Program;
-use crate::stop::{tell_line, tell_size, tell_stop};
+use crate::stop::{Stop, tell_line, tell_size, tell_stop};
 use crate::task::{tell_some_task, tell_task};
 use crate::words::{FileNames, file_names, tell_words};
 use lio_clauses::NoMemory;
 use lio_front::{Shown, Status};
 use lio_messages_hints::Message;
 use lio_outside::Store;
-use lio_start::Job;
 use lio_values::Text;
 use std::alloc::Global;
 use std::fs::Files;
@@ -202,23 +201,24 @@ pub fn refusal_text(
 }
 
 /// Prints a refusal on standard error, if there was one; without memory for its words, the answer
-/// alone. The store's files stay.
+/// alone. The line at which a history or a view stops is given. The store's files stay.
 pub fn print_refusal<R: AllocGlobal + Files + Eprint, S: Store>(
     rt: &R,
     program: Program,
     words: &[String],
     store: &mut S,
     status: &Status,
-    job: &Option<Job>,
+    stop: Option<Stop>,
 )
     ensures files { S.holds store.new ≡ S.holds store.old }
     ensures count { S.faults store.old ≤ S.faults store.new }
 {
     if let Status::Done = status {
+        drop(stop);
         return;
     }
     let alloc = rt.alloc();
-    let detail = refusal_detail(alloc, rt, program, store, status, words, job);
+    let detail = refusal_detail(alloc, rt, program, store, status, words, stop);
     let text = refusal_text(alloc, program, status, words, &detail);
     drop(detail);
     // A refusal that can't be printed still has its exit status.

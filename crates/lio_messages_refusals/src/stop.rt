@@ -34,8 +34,8 @@ fn line_at(bytes: &[u8], number: u32) -> Option<&[u8]> {
     }
 }
 
-/// The stop of bytes at a line, where this should or could stand.
-pub(crate) fn stop_at(
+/// The stop of bytes at a line, from 1, where this should or could stand, if that is known.
+pub fn stop_at(
     alloc: Global,
     bytes: &[u8],
     line: u32,

@@ -9,6 +9,9 @@ ghost use Rattle.lio_observe_main.specs.Answers.{EndsWith};
 ghost use Rattle.lio_outside.specs.Call.{outside};
 ghost use Rattle.lio_front.specs.Status.{exit_status as status_number};
 
+mod stop;
+
+use crate::stop::stop_of;
 use lio_clauses::NoMemory;
 use lio_messages_refusals::{Program, print_refusal};
 use lio_observe_main::{ObserveStatus, observe_main};
@@ -35,6 +38,20 @@ fn exit_code(status: &ObserveStatus) -> ExitCode
     ExitCode::from(status.number())
 }
 
+/// Says on standard error what was refused, if anything was. The store's files stay.
+fn report<R: AllocGlobal + Files + Eprint, S: Store>(
+    rt: &R,
+    words: &[String],
+    store: &mut S,
+    status: &ObserveStatus,
+)
+    ensures files { S.holds store.new ≡ S.holds store.old }
+    ensures count { S.faults store.old ≤ S.faults store.new }
+{
+    let stop = stop_of(rt.alloc(), rt, store, status, words);
+    print_refusal(rt, Program::Observer, words, store, status, stop);
+}
+
 /// Checks what the words name, says on standard error what was refused, if anything was, and gives
 /// the answer and its exit status.
 fn respond<R: AllocGlobal + Files + Eprint, S: Store, W: Say>(
@@ -51,7 +68,7 @@ fn respond<R: AllocGlobal + Files + Eprint, S: Store, W: Say>(
     }) result.0 (exit_status result.1) }
 {
     let status = observe_main(rt.alloc(), words, store, say);
-    print_refusal(rt, Program::Observer, words, store, &status, &None);
+    report(rt, words, store, &status);
     let exit = exit_code(&status);
     (status, exit)
 }

@@ -1,7 +1,7 @@
 //! The cases of a text.
 
 use lio_clauses::NoMemory;
-use lio_messages_refusals::{Record, Texts};
+use lio_messages_refusals::Texts;
 use std::alloc::{AllocError, Global};
 
 /// A part of a case: its word, what it is about, and its text.
@@ -91,14 +91,10 @@ impl<'c> Setting<'c> {
     }
 
     /// The policy and the script, for what is printed of an answer.
-    pub fn texts<'r>(self, record: Record<'r>) -> Texts<'r>
-    where
-        'c: 'r,
-    {
+    pub fn texts(self) -> Texts<'c> {
         Texts {
-            policy: self.policy.as_bytes(),
-            script: self.script.as_bytes(),
-            record,
+            policy: Some(self.policy.as_bytes()),
+            script: Some(self.script.as_bytes()),
         }
     }
 

@@ -10,7 +10,7 @@ use lio_clauses::NoMemory;
 use lio_events::Journal;
 use lio_front::Status;
 use lio_host_main::{Outcome, host_main};
-use lio_messages_refusals::{Program, Record, Texts, futures_words};
+use lio_messages_refusals::{Program, Texts, futures_words};
 use lio_outside::{MemSay, MemStore};
 use lio_workers::OpenGate;
 use std::alloc::Global;
@@ -87,7 +87,7 @@ fn found_of(
     say: &MemSay,
 ) -> Result<Found, NoMemory> {
     let mut found = Found::new(alloc, format!(in alloc; "{status}")?, status.number());
-    found.says = says(alloc, case, Program::Futures, status, words, texts)?;
+    found.says = says(alloc, case, Program::Futures, status, words, texts, None)?;
     found.said = Vec::from_slice(alloc, say.said())?;
     found.may_say = matches!(status, Status::Done);
     found.entries = journal.entries().len() as u64;
@@ -108,7 +108,7 @@ where
     let alloc = rt.alloc();
     let mut say = say_of(alloc, case)?;
     let CoopOutcome { status, journal } = coop_main(rt, alloc, words, store, &mut say);
-    let texts = setting.texts(Record::Nothing);
+    let texts = setting.texts();
     let mut found = found_of(alloc, case, &status, &journal, words, texts, &say);
     drop(say);
     let added = match &mut found {

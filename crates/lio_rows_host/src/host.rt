@@ -8,9 +8,9 @@ use crate::store::{lines_of, say_of};
 use lio_clauses::NoMemory;
 use lio_events::Journal;
 use lio_front::Status;
-use lio_host_main::{Outcome, host_main};
+use lio_host_main::{Outcome, expected_line, host_main};
 use lio_messages_notes::{Source, notes_text, troubles_of};
-use lio_messages_refusals::{Program, Record, Texts};
+use lio_messages_refusals::{Program, Stop, stop_at};
 use lio_outside::{MemSay, MemStore};
 use lio_start::Job;
 use lio_workers::OpenGate;
@@ -23,7 +23,7 @@ fn notes(
     alloc: Global,
     job: &Option<Job>,
     journal: &Journal,
-    script: &[u8],
+    script: &str,
 ) -> Result<String, NoMemory> {
     let Some(job) = job else {
         return Ok(String::new(alloc));
@@ -31,7 +31,7 @@ fn notes(
     let troubles = troubles_of(alloc, job, journal)?;
     let source = Source {
         name: "s.lio",
-        text: script,
+        text: script.as_bytes(),
     };
     notes_text(alloc, job, journal, &troubles, source)
 }
@@ -44,24 +44,43 @@ fn history_of(alloc: Global, store: &MemStore) -> Result<Option<Vec<u8>>, NoMemo
     }
 }
 
+/// The line at which a history stops, where the answer is that it does.
+fn stop_of(
+    alloc: Global,
+    status: &Status,
+    job: &Option<Job>,
+    history: &Option<Vec<u8>>,
+) -> Result<Option<Stop>, NoMemory> {
+    match (status, job, history) {
+        (Status::NotARun(line), Some(job), Some(history)) if *line > 0 => {
+            let expected = expected_line(alloc, job, history.as_slice(), *line)?;
+            Ok(Some(stop_at(alloc, history.as_slice(), *line, expected)?))
+        }
+        _ => Ok(None),
+    }
+}
+
 /// What an outcome comes to, beside what was said.
 fn found_of(
     alloc: Global,
     case: &Case<'_>,
+    setting: Setting<'_>,
     outcome: &Outcome,
     words: &[String],
-    texts: Texts<'_>,
+    history: &Option<Vec<u8>>,
     say: &MemSay,
 ) -> Result<Found, NoMemory> {
     let status = &outcome.status;
+    let stop = stop_of(alloc, status, &outcome.job, history)?;
     let mut found = Found::new(alloc, format!(in alloc; "{status}")?, status.number());
-    found.says = says(alloc, case, Program::Host, status, words, texts)?;
+    let texts = setting.texts();
+    found.says = says(alloc, case, Program::Host, status, words, texts, stop)?;
     found.said = Vec::from_slice(alloc, say.said())?;
     found.entries = outcome.journal.entries().len() as u64;
     if let Status::Done = status {
         found.may_say = true;
         if case.part("notes").is_some() {
-            found.notes = notes(alloc, &outcome.job, &outcome.journal, texts.script)?;
+            found.notes = notes(alloc, &outcome.job, &outcome.journal, setting.script)?;
         }
     }
     Ok(found)
@@ -134,12 +153,7 @@ fn run_once<R: AllocGlobal + Threads + Wait + Sync>(
     let mut say = say_of(alloc, case)?;
     let gate = NotingGate::new(case.number("held").unwrap_or(0));
     let outcome = host_main(rt, alloc, words, store, &mut say, &gate);
-    let record = match (&outcome.job, &history) {
-        (Some(job), Some(history)) => Record::History(job, history.as_slice()),
-        _ => Record::Nothing,
-    };
-    let texts = setting.texts(record);
-    let found = found_of(alloc, case, &outcome, words, texts, &say);
+    let found = found_of(alloc, case, setting, &outcome, words, &history, &say);
     drop(outcome);
     drop(say);
     let mut found = found?;

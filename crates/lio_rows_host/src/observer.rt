@@ -6,8 +6,8 @@ use crate::says::says;
 use crate::store::say_of;
 use lio_clauses::NoMemory;
 use lio_front::Status;
-use lio_messages_refusals::{Program, Record, Texts};
-use lio_observe_main::{Claim, load_claim, observe_main, read_words};
+use lio_messages_refusals::{Program, Stop, Texts, stop_at};
+use lio_observe_main::{Claim, expected_line, load_claim, observe_main, read_words};
 use lio_outside::{MemSay, MemStore};
 use std::alloc::Global;
 
@@ -17,6 +17,21 @@ fn claim_of(alloc: Global, store: &mut MemStore, words: &[String]) -> Option<Cla
     load_claim(alloc, store, command).ok()
 }
 
+/// The line at which a view stops, where the answer is that it does.
+fn stop_of(
+    alloc: Global,
+    status: &Status,
+    claim: &Option<Claim>,
+) -> Result<Option<Stop>, NoMemory> {
+    match (status, claim) {
+        (Status::NotAView(line), Some(claim)) if *line > 0 => {
+            let expected = expected_line(alloc, claim, *line)?;
+            Ok(Some(stop_at(alloc, claim.view.as_slice(), *line, expected)?))
+        }
+        _ => Ok(None),
+    }
+}
+
 /// What an answer comes to, beside what was said.
 fn found_of(
     alloc: Global,
@@ -24,10 +39,11 @@ fn found_of(
     status: &Status,
     words: &[String],
     texts: Texts<'_>,
+    stop: Option<Stop>,
     say: &MemSay,
 ) -> Result<Found, NoMemory> {
     let mut found = Found::new(alloc, format!(in alloc; "{status}")?, status.number());
-    found.says = says(alloc, case, Program::Observer, status, words, texts)?;
+    found.says = says(alloc, case, Program::Observer, status, words, texts, stop)?;
     found.said = Vec::from_slice(alloc, say.said())?;
     Ok(found)
 }
@@ -43,13 +59,12 @@ pub(crate) fn run(
     let mut say = say_of(alloc, case)?;
     let status = observe_main(alloc, words, store, &mut say);
     let claim = claim_of(alloc, store, words);
-    let record = match &claim {
-        Some(claim) => Record::View(claim),
-        None => Record::Nothing,
-    };
-    let texts = setting.texts(record);
-    let found = found_of(alloc, case, &status, words, texts, &say);
+    let stop = stop_of(alloc, &status, &claim);
     drop(claim);
+    let found = match stop {
+        Ok(stop) => found_of(alloc, case, &status, words, setting.texts(), stop, &say),
+        Err(NoMemory) => Err(NoMemory),
+    };
     drop(status);
     drop(say);
     found

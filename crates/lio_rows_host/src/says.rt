@@ -3,22 +3,22 @@
 use crate::cases::Case;
 use lio_clauses::NoMemory;
 use lio_front::Status;
-use lio_messages_refusals::{Program, Texts, detail_of, refusal_text, trouble_text};
+use lio_messages_refusals::{Program, Stop, Texts, detail_of, refusal_text, trouble_text};
 use lio_outside::Trouble;
 use std::alloc::Global;
 use std::io;
 
 /// Why a call of the store failed, where a case says it.
-fn why(alloc: Global, case: &Case<'_>, program: Program) -> Result<Option<String>, NoMemory> {
+fn why(alloc: Global, case: &Case<'_>, program: Program) -> Option<String> {
     let trouble = match (case.part("trouble"), case.part("same")) {
         (Some(part), _) => {
             let number = part.about.parse::<i32>().unwrap_or(0);
             Trouble::System(io::Error::from_raw_os_error(number))
         }
         (None, Some(part)) => Trouble::SameFile(part.about.as_bytes()),
-        (None, None) => return Ok(None),
+        (None, None) => return None,
     };
-    Ok(Some(trouble_text(alloc, program, trouble)?))
+    trouble_text(alloc, program, trouble).ok()
 }
 
 /// What a program prints of an answer.
@@ -29,9 +29,10 @@ pub(crate) fn says(
     status: &Status,
     words: &[String],
     texts: Texts<'_>,
+    stop: Option<Stop>,
 ) -> Result<String, NoMemory> {
-    let why = why(alloc, case, program)?;
-    let detail = detail_of(alloc, status, why, texts)?;
+    let why = why(alloc, case, program);
+    let detail = detail_of(alloc, status, why, texts, stop)?;
     let says = refusal_text(alloc, program, status, words, &detail);
     drop(detail);
     says

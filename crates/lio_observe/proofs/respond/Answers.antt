@@ -12,11 +12,11 @@ returns-clause-ends g c =
       before = outside g.S.Store.holds g.S.Store.faults g.W.Say.said g.W.Say.faults c.args.store.now c.args.say.now;
       after = outside g.S.Store.holds g.S.Store.faults g.W.Say.said g.W.Say.faults c.observe_main-status.new.store c.observe_main-status.new.say;
     } in
-    let told = g.S.Store.holds c.print_refusal.new.store in
-    let faults = g.S.Store.faults c.print_refusal.new.store in
+    let told = g.S.Store.holds c.report.new.store in
+    let faults = g.S.Store.faults c.report.new.store in
     let status = c.observe_main-status.result in
     let whole : Call = later call told faults in
-    let says : Says whole status = says-later call status told faults c.observe_main-status.ensures.count c.print_refusal.ensures.count c.observe_main-status.ensures.says in
+    let says : Says whole status = says-later call status told faults c.observe_main-status.ensures.count c.report.ensures.count c.observe_main-status.ensures.says in
     record {
       says = says;
       follows = follows_verdict whole status whole.before.told refl says;
