@@ -55,12 +55,12 @@ fn is_of_word(byte: u8) -> bool {
 /// The name or the sign that begins at a place of a label's text.
 fn token_at(text: &[u8], at: usize) -> &[u8] {
     let rest = text.get(at..).unwrap_or(b"");
-    let mut len = 0;
+    let mut len = 0usize;
     for byte in rest {
         if !is_of_word(*byte) {
             break;
         }
-        len += 1;
+        len = len.saturating_add(1);
     }
     match rest {
         [b'/', b'\\', ..] | [b'\\', b'/', ..] | [b'%', b'%', ..] => &rest[..2],

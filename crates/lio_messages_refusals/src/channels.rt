@@ -14,12 +14,12 @@ pub struct Channels {
 /// The channels that are written before the file with a name, in a policy.
 pub(crate) fn channels_before(policy: &Policy, name: &Text) -> Channels {
     let channels = policy.channels.as_slice();
-    let mut written = 0;
+    let mut written = 0usize;
     for channel in channels {
         if channel.file.bytes() == name.bytes() {
             break;
         }
-        written += 1;
+        written = written.saturating_add(1);
     }
     Channels {
         written,

@@ -66,7 +66,7 @@ fn shown_from(found: &[u8], expected: &[u8]) -> usize {
         if one != other {
             break;
         }
-        same += 1;
+        same = same.saturating_add(1);
     }
     same.saturating_sub(BEFORE_DIFFERENCE)
 }

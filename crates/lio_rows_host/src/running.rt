@@ -88,7 +88,7 @@ where
     }
     let whole = setting.policy;
     let mut cut = setting;
-    for end in 0..whole.rfind('}').unwrap_or(0) + 1 {
+    for end in 0..=whole.rfind('}').unwrap_or(0) {
         cut.policy = whole.get(..end).unwrap_or(whole);
         let found = differences_under(rt, case, cut)?;
         if !found.is_empty() {

@@ -101,12 +101,12 @@ fn are_same(one: &[u8], other: &[u8]) -> bool {
 
 /// How many bytes two words have in common at their front.
 fn common_front(one: &[u8], other: &[u8]) -> usize {
-    let mut same = 0;
+    let mut same = 0usize;
     for (one, other) in one.iter().zip(other.iter()) {
         if !is_same(*one, *other) {
             return same;
         }
-        same += 1;
+        same = same.saturating_add(1);
     }
     same
 }
