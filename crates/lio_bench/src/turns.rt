@@ -157,9 +157,7 @@ fn seen_by_all(alloc: Global, counting: Counting) -> Result<Low, NoMemory>
 /// So many turns of the erased calculus.
 fn count_erased(alloc: Global, times: u32) -> Result<(), CountFault> {
     let mut low = seen_by_all(alloc, first(alloc)?)?;
-    let counted = turns(alloc, &mut low, times);
-    drop(low);
-    counted.map_err(CountFault::Turn)
+    turns(alloc, &mut low, times).map_err(CountFault::Turn)
 }
 
 /// Takes so many turns.

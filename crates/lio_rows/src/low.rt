@@ -201,14 +201,12 @@ fn asked_with(
 {
     let mut low = low_start(alloc, job, observer)?;
     let policy = job.policy();
-    let text = match asked {
+    match asked {
         Asked::Cells => cells(alloc, &mut low, contents, schedule),
         Asked::Turns | Asked::TurnsUntold => {
             turns(alloc, &mut low, contents, &policy.names, schedule)
         }
-    };
-    drop(low);
-    text
+    }
 }
 
 /// Gives what is asked after turns of tasks from the start of the run, with the contents that the

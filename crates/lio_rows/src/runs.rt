@@ -71,10 +71,7 @@ fn script_of(alloc: Global, policy: &Policy, script: &[u8]) -> Result<Script, Re
     let script = read_script(alloc, script, &policy.names)?;
     match fits(policy, &script) {
         None => Ok(script),
-        Some(fault) => {
-            drop(script);
-            Err(Refusal::from(fault))
-        }
+        Some(fault) => Err(Refusal::from(fault)),
     }
 }
 
