@@ -4,7 +4,7 @@ ghost use Rattle.lio_task.specs.Logs.{log_in};
 
 use crate::turns::{CountFault, counting_job};
 use lio_clauses::NoMemory;
-use lio_rounds::{Ran, merge, run};
+use lio_rounds::{merge, run};
 use lio_task::Config;
 use std::alloc::Global;
 
@@ -13,8 +13,7 @@ fn merges(alloc: Global, config: &Config, times: u32) -> Result<(), NoMemory>
     requires { AreMergeable (log_in config.now) }
 {
     for _ in 0..times {
-        let merged = merge(alloc, config)?;
-        drop(merged);
+        let _merged = merge(alloc, config)?;
     }
     Ok(())
 }
@@ -22,9 +21,6 @@ fn merges(alloc: Global, config: &Config, times: u32) -> Result<(), NoMemory>
 /// Runs a task that counts until it has no turns left, and merges the logs so many times.
 pub fn merge_times(alloc: Global, times: u32) -> Result<(), CountFault> {
     let job = counting_job(alloc)?;
-    let Ran { journal, config } = run(alloc, &job)?;
-    drop(journal);
-    let merged = merges(alloc, &config, times);
-    drop(config);
-    Ok(merged?)
+    let ran = run(alloc, &job)?;
+    Ok(merges(alloc, &ran.config, times)?)
 }

@@ -130,9 +130,7 @@ fn steps(alloc: Global, config: &mut Config, script: &Script, times: u32) -> Res
 /// So many turns of the calculus.
 fn count_whole(alloc: Global, times: u32) -> Result<(), CountFault> {
     let Counting { script, mut config } = first(alloc)?;
-    let counted = steps(alloc, &mut config, &script, times);
-    drop(config);
-    counted.map_err(CountFault::Step)
+    steps(alloc, &mut config, &script, times).map_err(CountFault::Step)
 }
 
 /// So many turns of the task in the erased calculus.
@@ -152,17 +150,14 @@ fn seen_by_all(alloc: Global, counting: Counting) -> Result<Low, NoMemory>
     let Counting { script, config } = counting;
     let longest = config.longest;
     let (config, observer) = beside(config, Label::public(alloc))?;
-    let seen = erase_config(alloc, &config, &observer);
-    drop(config);
-    Ok(Low::new(seen?, observer, script, longest))
+    let seen = erase_config(alloc, &config, &observer)?;
+    Ok(Low::new(seen, observer, script, longest))
 }
 
 /// So many turns of the erased calculus.
 fn count_erased(alloc: Global, times: u32) -> Result<(), CountFault> {
     let mut low = seen_by_all(alloc, first(alloc)?)?;
-    let counted = turns(alloc, &mut low, times);
-    drop(low);
-    counted.map_err(CountFault::Turn)
+    turns(alloc, &mut low, times).map_err(CountFault::Turn)
 }
 
 /// Takes so many turns.

@@ -11,8 +11,8 @@ use lio_syntax::ScriptFault;
 use lio_values::Text;
 use std::fmt;
 
-/// How a call of a program ended. Each program's contract says which of these it gives; of a step of
-/// one those alone come that refuse it.
+/// How a call of a program ended. Each program's contract says which of these it gives; of a step
+/// of one those alone come that refuse it.
 #[derive(Debug, PartialEq, Drop)]
 pub enum Status {
     /// What the words ask for was done, and that was said.

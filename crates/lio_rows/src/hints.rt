@@ -39,10 +39,7 @@ fn told(alloc: Global, mistake: &Mistake) -> Result<Vec<u8>, AllocError> {
 /// it; or `ok`.
 fn wrong_script(alloc: Global, names: &Names, script: &[u8]) -> Result<Answer, Refusal> {
     let fault = match read_script(alloc, script, names) {
-        Ok(script) => {
-            drop(script);
-            return Ok(Answer::Text(Vec::from_slice(alloc, b"ok")?));
-        }
+        Ok(_script) => return Ok(Answer::Text(Vec::from_slice(alloc, b"ok")?)),
         Err(fault) => fault,
     };
     let ScriptFault::Bad { line, rule } = fault else {
@@ -71,10 +68,7 @@ fn told_script(
 /// `ok`.
 fn wrong_policy(alloc: Global, json: &[u8]) -> Result<Answer, Refusal> {
     let fault = match read_policy(alloc, json) {
-        Ok(policy) => {
-            drop(policy);
-            return Ok(Answer::Text(Vec::from_slice(alloc, b"ok")?));
-        }
+        Ok(_policy) => return Ok(Answer::Text(Vec::from_slice(alloc, b"ok")?)),
         Err(fault) => fault,
     };
     let PolicyFault::Bad { rule, entry } = fault else {

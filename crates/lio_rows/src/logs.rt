@@ -42,20 +42,17 @@ fn ran_of(alloc: Global, job: &Job) -> Result<Ran, Refusal>
 fn merge_of(alloc: Global, job: &Job) -> Result<Journal, Refusal>
     ensures { IfOk result (λ merged. All (IsPrintable job.now.policy.names) merged) }
 {
-    let Ran { journal, config } = ran_of(alloc, job)?;
-    drop(journal);
-    let merged = merge(alloc, &config);
-    drop(config);
-    Ok(merged?)
+    let ran = ran_of(alloc, job)?;
+    let merged = merge(alloc, &ran.config)?;
+    Ok(merged)
 }
 
 /// Gives that merge as text.
 fn merge_told(alloc: Global, job: &Job) -> Result<Answer, Refusal> {
     let journal = merge_of(alloc, job)?;
     let policy = job.policy();
-    let text = print_journal(alloc, &journal, true, &policy.names);
-    drop(journal);
-    Ok(Answer::Text(text?))
+    let text = print_journal(alloc, &journal, true, &policy.names)?;
+    Ok(Answer::Text(text))
 }
 
 /// `merge JSON SCRIPT INPUT ..`: the history that the merge of the logs after the run gives.
@@ -94,18 +91,16 @@ fn last_of(alloc: Global, job: &Job) -> Result<Config, Refusal>
     ensures { IfOk result (λ config. (n : ℕ)
         → All (IsPrintable job.now.policy.names) (log_in config n)) }
 {
-    let Ran { journal, config } = ran_of(alloc, job)?;
-    drop(journal);
-    Ok(config)
+    let ran = ran_of(alloc, job)?;
+    Ok(ran.config)
 }
 
 /// Gives the log of a node after the run by rounds of a job, as text.
 fn log_told(alloc: Global, job: &Job, number: u32) -> Result<Answer, Refusal> {
     let config = last_of(alloc, job)?;
     let policy = job.policy();
-    let text = log_of(alloc, &config, number, &policy.names);
-    drop(config);
-    Ok(Answer::Text(text?))
+    let text = log_of(alloc, &config, number, &policy.names)?;
+    Ok(Answer::Text(text))
 }
 
 /// `log N JSON SCRIPT INPUT ..`: the log of node N after the run, or `none N` where there is no such

@@ -59,9 +59,7 @@ fn copied_start(alloc: Global, job: &Job) -> Result<Config, NoMemory>
     ensures { IfOk result (λ config. configuration_of job.now.script config ≡ first_of job.now) }
 {
     let config = start(alloc, job)?;
-    let copy = config.copy(alloc);
-    drop(config);
-    copy
+    config.copy(alloc)
 }
 
 /// Gives what an observer sees of the first configuration.
@@ -72,9 +70,7 @@ fn seen_start(alloc: Global, job: &Job, observer: &Label) -> Result<LowConfig, N
     ensures kept { IfOk result LeavesOutBlanks }
 {
     let config = copied_start(alloc, job)?;
-    let seen = erase_config(alloc, &config, observer);
-    drop(config);
-    seen
+    erase_config(alloc, &config, observer)
 }
 
 /// Gives the erased calculus, from what an observer sees of the first configuration.
@@ -205,14 +201,12 @@ fn asked_with(
 {
     let mut low = low_start(alloc, job, observer)?;
     let policy = job.policy();
-    let text = match asked {
+    match asked {
         Asked::Cells => cells(alloc, &mut low, contents, schedule),
         Asked::Turns | Asked::TurnsUntold => {
             turns(alloc, &mut low, contents, &policy.names, schedule)
         }
-    };
-    drop(low);
-    text
+    }
 }
 
 /// Gives what is asked after turns of tasks from the start of the run, with the contents that the
@@ -225,9 +219,8 @@ fn asked_of(
     asked: Asked,
 ) -> Result<Answer, Refusal> {
     let mut contents = told(alloc, job, observer, asked)?;
-    let text = asked_with(alloc, job, observer, &mut contents, schedule, asked);
-    drop(contents);
-    Ok(Answer::Text(text?))
+    let text = asked_with(alloc, job, observer, &mut contents, schedule, asked)?;
+    Ok(Answer::Text(text))
 }
 
 /// `low LABEL ACTORS JSON SCRIPT INPUT ..`: the turns of these tasks in the erased calculus, from

@@ -105,12 +105,7 @@ fn rerun_of(alloc: Global, job: &Job, observer: &Label, told: bool) -> Result<An
         policy.longest,
         contents,
     ) {
-        Ok((journal, left)) => {
-            let answer = computed(alloc, job, &journal, &left);
-            drop(journal);
-            drop(left);
-            answer
-        }
+        Ok((journal, left)) => computed(alloc, job, &journal, &left),
         Err(RerunFault::NoRelease(k)) => {
             Ok(Answer::Text(format!(in alloc; "no release {k}")?.into_bytes()))
         }

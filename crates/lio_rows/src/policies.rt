@@ -19,9 +19,8 @@ pub fn answer(alloc: Global, word: &str, fields: &[Vec<u8>]) -> Answered {
 /// `policy JSON`: `ok` and its numbers of principals, channels, inputs and tasks.
 fn policy(alloc: Global, json: &[u8]) -> Result<Answer, Refusal> {
     let policy = read_policy(alloc, json)?;
-    let text = counts(alloc, &policy);
-    drop(policy);
-    Ok(Answer::Text(text?))
+    let text = counts(alloc, &policy)?;
+    Ok(Answer::Text(text))
 }
 
 /// The text of a policy's numbers of principals, channels, inputs and tasks.

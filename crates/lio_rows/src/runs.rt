@@ -11,7 +11,7 @@ use lio_clauses::{Names, NoMemory};
 use lio_events::{Contents, Journal, print_content, print_journal, releases, view};
 use lio_labels::Label;
 use lio_policy::{Policy, read_policy};
-use lio_rounds::{Ran, run};
+use lio_rounds::run;
 use lio_rows_commands::Answer;
 use lio_start::{Job, fits};
 use lio_syntax::{Script, read_script};
@@ -71,10 +71,7 @@ fn script_of(alloc: Global, policy: &Policy, script: &[u8]) -> Result<Script, Re
     let script = read_script(alloc, script, &policy.names)?;
     match fits(policy, &script) {
         None => Ok(script),
-        Some(fault) => {
-            drop(script);
-            Err(Refusal::from(fault))
-        }
+        Some(fault) => Err(Refusal::from(fault)),
     }
 }
 
@@ -95,18 +92,16 @@ pub fn read_job(alloc: Global, json: &[u8], source: Source<'_>) -> Result<Job, R
 fn journal_of(alloc: Global, job: &Job) -> Result<Journal, Refusal>
     ensures { IfOk result (λ journal. All (IsPrintable job.now.policy.names) journal) }
 {
-    let Ran { journal, config } = run(alloc, job)?;
-    drop(config);
-    Ok(journal)
+    let ran = run(alloc, job)?;
+    Ok(ran.journal)
 }
 
 /// Gives the history of a run.
 fn history_of(alloc: Global, job: &Job) -> Result<Answer, Refusal> {
     let journal = journal_of(alloc, job)?;
     let policy = job.policy();
-    let text = print_journal(alloc, &journal, true, &policy.names);
-    drop(journal);
-    Ok(Answer::Text(text?))
+    let text = print_journal(alloc, &journal, true, &policy.names)?;
+    Ok(Answer::Text(text))
 }
 
 /// `run JSON SCRIPT INPUT ..`: the history of the run.
@@ -152,9 +147,8 @@ fn view_of(
 fn seen_of(alloc: Global, job: &Job, observer: &Label) -> Result<Answer, Refusal> {
     let journal = journal_of(alloc, job)?;
     let policy = job.policy();
-    let text = view_of(alloc, &journal, observer, &policy.names);
-    drop(journal);
-    Ok(Answer::Text(text?))
+    let text = view_of(alloc, &journal, observer, &policy.names)?;
+    Ok(Answer::Text(text))
 }
 
 /// `view LABEL JSON SCRIPT INPUT ..`: the view of the run at the label.
@@ -180,18 +174,16 @@ pub fn released(alloc: Global, job: &Job, observer: &Label) -> Result<Contents, 
     ensures { IfOk result (All (IsContentPrintable job.now.policy.names)) }
 {
     let journal = journal_of(alloc, job)?;
-    let contents = releases(alloc, &journal, observer);
-    drop(journal);
-    Ok(contents?)
+    let contents = releases(alloc, &journal, observer)?;
+    Ok(contents)
 }
 
 /// Gives the contents that a run releases to an observer, as text.
 fn told_of(alloc: Global, job: &Job, observer: &Label) -> Result<Answer, Refusal> {
     let contents = released(alloc, job, observer)?;
     let policy = job.policy();
-    let text = lines_of(alloc, contents.as_slice(), &policy.names);
-    drop(contents);
-    Ok(Answer::Text(text?))
+    let text = lines_of(alloc, contents.as_slice(), &policy.names)?;
+    Ok(Answer::Text(text))
 }
 
 /// `releases LABEL JSON SCRIPT INPUT ..`: the contents that the run releases to the label.

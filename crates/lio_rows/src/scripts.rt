@@ -19,9 +19,8 @@ pub fn answer(alloc: Global, names: &Names, word: &str, fields: &[Vec<u8>]) -> A
 /// `script TEXT`: the canonical text of the script.
 fn script(alloc: Global, names: &Names, text: &[u8]) -> Result<Answer, Refusal> {
     let script = read_script(alloc, text, names)?;
-    let text = print_script(alloc, &script, names);
-    drop(script);
-    Ok(Answer::Text(text?))
+    let text = print_script(alloc, &script, names)?;
+    Ok(Answer::Text(text))
 }
 
 /// The canonical text of a copy of a script.
@@ -35,7 +34,6 @@ fn copied(alloc: Global, names: &Names, script: &Script) -> Result<Vec<u8>, NoMe
 /// `copy_script TEXT`: the canonical text of a copy of the script.
 fn copy(alloc: Global, names: &Names, text: &[u8]) -> Result<Answer, Refusal> {
     let script = read_script(alloc, text, names)?;
-    let text = copied(alloc, names, &script);
-    drop(script);
-    Ok(Answer::Text(text?))
+    let text = copied(alloc, names, &script)?;
+    Ok(Answer::Text(text))
 }

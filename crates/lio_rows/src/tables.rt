@@ -150,9 +150,7 @@ fn merged(alloc: Global, job: &Job, table: Table, seat: LioSeat) -> Result<Journ
 {
     let _ = job.policy();
     let config = closed(alloc, table, seat)?;
-    let journal = merge(alloc, &config);
-    drop(config);
-    journal
+    merge(alloc, &config)
 }
 
 /// Ends a table that a job began, and appends the history that the logs of its nodes give.
@@ -168,9 +166,8 @@ fn push_history(
 {
     let journal = merged(alloc, job, table, seat)?;
     let policy = job.policy();
-    let history = print_journal(alloc, &journal, true, &policy.names);
-    drop(journal);
-    Ok(text.extend_from_slice(history?.as_slice())?)
+    let history = print_journal(alloc, &journal, true, &policy.names)?;
+    Ok(text.extend_from_slice(history.as_slice())?)
 }
 
 /// Tells the turns of the tasks of a schedule at a table, and then the history.

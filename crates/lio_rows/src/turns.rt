@@ -5,7 +5,7 @@ ghost use Rattle.lio_events.specs.Printable.{IsPrintable};
 use crate::refusal::{Answered, Refusal};
 use crate::runs::{Source, read_job};
 use lio_events::{Journal, print_journal};
-use lio_rounds::{Ran, Scheduled, run_by_schedule};
+use lio_rounds::{Scheduled, run_by_schedule};
 use lio_rows_commands::Answer;
 use lio_rows_fields::read_numbers;
 use lio_start::Job;
@@ -43,9 +43,10 @@ fn turns_of(alloc: Global, job: &Job, schedule: &[u32]) -> Result<Taken, Refusal
     ensures { IfOk result (λ taken. All (IsPrintable job.now.policy.names) taken.journal) }
 {
     let Scheduled { ran, taken } = run_by_schedule(alloc, job, schedule)?;
-    let Ran { journal, config } = ran;
-    drop(config);
-    Ok(Taken { journal, taken })
+    Ok(Taken {
+        journal: ran.journal,
+        taken,
+    })
 }
 
 /// The line of each turn that was taken, and which task took none.
@@ -73,9 +74,7 @@ fn lines(
 fn told(alloc: Global, job: &Job, schedule: &[u32]) -> Result<Answer, Refusal> {
     let Taken { journal, taken } = turns_of(alloc, job, schedule)?;
     let policy = job.policy();
-    let history = print_journal(alloc, &journal, true, &policy.names);
-    drop(journal);
-    let history = history?;
+    let history = print_journal(alloc, &journal, true, &policy.names)?;
     let text = lines(alloc, history.as_slice(), schedule, taken.as_slice())?;
     Ok(Answer::Text(text))
 }

@@ -1,9 +1,8 @@
 -- What contracts see of a pass.
-use Rattle.std.specs.Prelude.{ℕ}
+use Rattle.std.specs.Prelude.{ℕ, List, Option}
 use Rattle.atomic_blocks.specs.declared.web.Seat.{Seat}
 use Rattle.crossbeam_queue.specs.declared.seg_queue.Going.{Going}
 use Rattle.crossbeam_queue.specs.SegTies.{SegId, IsSegPassOf}
-use Rattle.std.specs.Prelude.{Option}
 use Rattle.lio_runq.specs.declared.rule.PassView.{PassView}
 
 module _ {A : Type 0} where
@@ -11,14 +10,14 @@ module _ {A : Type 0} where
   abbrev pub done_by : Seat (Option ℕ) (Going ℕ PassView) A → PassView
   done_by seat = seat.me.view.client
 
-  abbrev pub made_of : Seat (Option ℕ) (Going ℕ PassView) A → ℕ
-  made_of seat = (done_by seat).made
+  abbrev pub pushed_of : Seat (Option ℕ) (Going ℕ PassView) A → List ℕ
+  pushed_of seat = (done_by seat).pushed
 
   abbrev pub left_of : Seat (Option ℕ) (Going ℕ PassView) A → ℕ
   left_of seat = (done_by seat).left
 
-  abbrev pub pops_of : Seat (Option ℕ) (Going ℕ PassView) A → ℕ
-  pops_of seat = (done_by seat).pops
+  abbrev pub popped_of : Seat (Option ℕ) (Going ℕ PassView) A → List ℕ
+  popped_of seat = (done_by seat).popped
 
   -- it is a pass of this queue
   abbrev pub IsPassOf : SegId A → Seat (Option ℕ) (Going ℕ PassView) A → Type 0

@@ -1,6 +1,6 @@
 //! The queue.
-ghost use Rattle.std.specs.Prelude.{◌≡◌, ◌<◌, ◌≤◌, ◌+◌, ◌-◌, ◌^◌, [], IfOk, MatchOption, MatchResult};
-ghost use Rattle.lio_runq.specs.Passes.{IsPassOf, left_of, made_of, pops_of, done_by};
+ghost use Rattle.std.specs.Prelude.{◌≡◌, ◌<◌, ◌≤◌, ◌-◌, ◌^◌, [], IfOk, MatchOption, MatchResult};
+ghost use Rattle.lio_runq.specs.Passes.{IsPassOf, left_of, popped_of, pushed_of, done_by};
 ghost use Rattle.lio_runq.specs.Rule.{EmptyTells, Pops, Pushes, pass_of};
 
 use crate::passes::RunPass;
@@ -24,7 +24,7 @@ impl<B: Bound> RunQueue<B> {
     pub fn new(alloc: Global, _bound: u32) -> Result<(RunQueue<B>, RunPass<B>), NoMemory>
         requires { _bound ≡ B.bound }
         ensures { IfOk result (λ both. IsPassOf both.0.numbers both.1.seat
-            × (done_by both.1.seat ≡ pass_of 0 (2 ^ 61) 0)) }
+            × (done_by both.1.seat ≡ pass_of [] (2 ^ 61) [])) }
     {
         let (numbers, seat) = RuledSegQueue::with_rule(alloc)?;
         let pass = RunPass {
@@ -41,9 +41,9 @@ impl<B: Bound> RunQueue<B> {
         requires some { 1 ≤ pushes }
         requires left { pushes < left_of pass.old.seat }
         ensures queue { IsPassOf self.now.numbers pass.new.seat × IsPassOf self.now.numbers result.seat }
-        ensures old { done_by pass.new.seat ≡ pass_of (made_of pass.old.seat)
-            (left_of pass.old.seat - pushes) (pops_of pass.old.seat) }
-        ensures new { done_by result.seat ≡ pass_of 0 pushes 0 }
+        ensures old { done_by pass.new.seat ≡ pass_of (pushed_of pass.old.seat)
+            (left_of pass.old.seat - pushes) (popped_of pass.old.seat) }
+        ensures new { done_by result.seat ≡ pass_of [] pushes [] }
     {
         self.split_share::<Brand>(pass, pushes)
     }
@@ -55,9 +55,9 @@ impl<B: Bound> RunQueue<B> {
         requires some { 1 ≤ pushes }
         requires left { pushes < left_of pass.old.seat }
         ensures queue { IsPassOf self.now.numbers pass.new.seat × IsPassOf self.now.numbers result.seat }
-        ensures old { done_by pass.new.seat ≡ pass_of (made_of pass.old.seat)
-            (left_of pass.old.seat - pushes) (pops_of pass.old.seat) }
-        ensures new { done_by result.seat ≡ pass_of 0 pushes 0 }
+        ensures old { done_by pass.new.seat ≡ pass_of (pushed_of pass.old.seat)
+            (left_of pass.old.seat - pushes) (popped_of pass.old.seat) }
+        ensures new { done_by result.seat ≡ pass_of [] pushes [] }
     {
         let RunPass { seat, left, of: _ } = pass;
         let other = self.numbers.another::<Cut<K>>(seat);
@@ -93,7 +93,7 @@ impl<B: Bound> RunQueue<B> {
         requires queue { IsPassOf self.now.numbers pass.old.seat }
         ensures queue { IsPassOf self.now.numbers pass.new.seat }
         ensures done { MatchOption result
-            ((done_by pass.new.seat ≡ done_by pass.old.seat) × EmptyTells (done_by pass.old.seat) [])
+            ((done_by pass.new.seat ≡ done_by pass.old.seat) × EmptyTells B.bound (done_by pass.old.seat) [])
             (λ n. Pops B.bound (done_by pass.old.seat) n (done_by pass.new.seat)) }
     {
         self.numbers.pop_as::<Popped<B>, R>(rt, &mut pass.seat)

@@ -1,8 +1,9 @@
 //! The rule of a queue: what it holds, and what its passes have done.
-ghost use Rattle.std.specs.Prelude.{ℕ, ◌<◌, ◌≡◌, ◌+◌, ◌^◌};
+ghost use Rattle.std.specs.Prelude.{ℕ, ◌^◌, []};
 ghost use Rattle.lio_runq.specs.Rule.{EmptyTells, IsQueueOf, Pops, Pushes, pass_of};
 
 use crossbeam_queue::protocol::{Lesson, Outcome, Protocol, Split};
+use std::collections::LinkedList;
 use std::marker::{Brand, PhantomData};
 
 /// The number below which all numbers of a queue are.
@@ -14,14 +15,14 @@ impl Bound for Brand {
     ghost bound = { 0 };
 }
 
-/// What a pass has done. No value of it is made.
+/// What a pass has done. No value of it is made: contracts alone speak of it.
 pub struct PassView {
-    /// How many pushes it has made.
-    pub made: u64,
-    /// How many it has left.
+    /// The numbers that it has pushed, the first first.
+    pub pushed: LinkedList<u32>,
+    /// How many pushes it has left.
     pub left: u64,
-    /// How many pops it has made.
-    pub pops: u64,
+    /// The numbers that it has popped, the first first.
+    pub popped: LinkedList<u32>,
 }
 
 /// The rule of a queue of numbers below a bound.
@@ -32,7 +33,7 @@ pub(crate) struct Below<B: Bound> {
 impl<B: Bound> Protocol<u32, PassView> for Below<B> {
     ghost holds = { IsQueueOf B.bound };
 
-    ghost first = { pass_of 0 (2 ^ 61) 0 };
+    ghost first = { pass_of [] (2 ^ 61) [] };
 }
 
 /// A push.
@@ -52,7 +53,7 @@ impl<B: Bound> Outcome<u32, PassView> for Popped<B> {
 }
 
 impl<B: Bound> Lesson<u32, PassView> for Popped<B> {
-    ghost fact = { EmptyTells };
+    ghost fact = { EmptyTells B.bound };
 }
 
 /// How many pushes a new pass is given.
@@ -72,7 +73,7 @@ pub(crate) struct Cut<K: Share> {
 impl<K: Share> Split<PassView> for Cut<K> {
     ghost use Rattle.std.specs.Prelude.{◌-◌};
 
-    ghost left = { λ v. pass_of v.made (v.left - K.pushes) v.pops };
+    ghost left = { λ v. pass_of v.pushed (v.left - K.pushes) v.popped };
 
-    ghost right = { λ v. pass_of 0 K.pushes 0 };
+    ghost right = { λ v. pass_of [] K.pushes [] };
 }

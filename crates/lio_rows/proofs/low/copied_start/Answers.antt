@@ -10,6 +10,6 @@ pub returns : goal.returns
 returns c =
     let job = c.args.job.now in
     let config = c.in_ok-config.config in
-    IfOk-weaker c.copy-copy.result (λ (copy : Config). (s : List Procedure) → configuration_of s copy ≡ configuration_of s config)
+    IfOk-weaker c.copy.result (λ (copy : Config). (s : List Procedure) → configuration_of s copy ≡ configuration_of s config)
     (λ (copy : Config). configuration_of job.script copy ≡ first_of job)
-    (λ copy e. e job.script ∙ c.in_ok-config.ensures.config) c.copy-copy.ensures.configuration
+    (λ copy e. e job.script ∙ c.in_ok-config.ensures.config) c.copy.ensures.configuration

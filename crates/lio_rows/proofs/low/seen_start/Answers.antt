@@ -22,6 +22,6 @@ returns-clause-seen c =
     let config = c.in_ok-config.config in
     let longest : config.longest ≡ job.policy.longest =
     ap (λ (d : Configuration). d.program.longest) c.in_ok-config.ensures ∙ start-longest job in
-    IfOk-weaker c.erase_config-seen.result (λ (low : LowConfig). (s : List Procedure) → low_configuration_of s config.longest low ≡ erase observer (configuration_of s config))
+    IfOk-weaker c.erase_config.result (λ (low : LowConfig). (s : List Procedure) → low_configuration_of s config.longest low ≡ erase observer (configuration_of s config))
     (λ (low : LowConfig). low_configuration_of job.script job.policy.longest low ≡ erase observer (first_of job))
-    (λ low e. ap (λ (n : ℕ). low_configuration_of job.script n low) (sym longest) ∙ e job.script ∙ ap (erase observer) c.in_ok-config.ensures) c.erase_config-seen.ensures.erased
+    (λ low e. ap (λ (n : ℕ). low_configuration_of job.script n low) (sym longest) ∙ e job.script ∙ ap (erase observer) c.in_ok-config.ensures) c.erase_config.ensures.erased

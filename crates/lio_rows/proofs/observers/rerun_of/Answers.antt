@@ -7,8 +7,8 @@ use Rattle.lio_rows.proofs.observers.rerun_of.Goals as goal
 pub rerun_view-requires-clause-pure : goal.rerun_view-requires-clause-pure
 rerun_view-requires-clause-pure c = λ place d within. (c.in_ok-contents.ensures place d within).1
 
-pub computed-answer-requires : goal.computed-answer-requires
-computed-answer-requires c =
+pub computed-requires : goal.computed-requires
+computed-requires c =
     let names = c.args.job.now.policy.names in let start = c.in_ok-start.start in
     let script : c.script.result.now ≡ c.args.job.now.script = search rules in
     let longest : c.policy.inside.longest ≡ c.args.job.now.policy.longest = search rules in

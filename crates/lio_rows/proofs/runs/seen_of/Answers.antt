@@ -3,5 +3,5 @@ use Rattle.lio_events.specs.Printable.{IsPrintable}
 use Rattle.lio_policy.specs.Policy.{PolicyParts}
 use Rattle.lio_rows.proofs.runs.seen_of.Goals as goal
 
-pub view_of-text-requires : goal.view_of-text-requires
-view_of-text-requires c = subst (λ (p : PolicyParts). All (IsPrintable p.names) c.in_ok-journal.journal) (sym (c.policy.view_is ∙ c.policy-policy.ensures.policy)) c.in_ok-journal.ensures
+pub view_of-requires : goal.view_of-requires
+view_of-requires c = subst (λ (p : PolicyParts). All (IsPrintable p.names) c.in_ok-journal.journal) (sym (c.policy.view_is ∙ c.policy-policy.ensures.policy)) c.in_ok-journal.ensures
