@@ -46,6 +46,11 @@ fn compare_about(found: &mut Differences, part: &Part<'_>, about: &str) {
     }
 }
 
+/// How a case says whether something holds.
+fn yes_or_no(holds: bool) -> &'static str {
+    if holds { "yes" } else { "no" }
+}
+
 /// Compares a number.
 fn compare_number(found: &mut Differences, part: &Part<'_>, number: u64) {
     if !is_number(part.about, number) {
@@ -85,7 +90,7 @@ fn compare_part(found: &mut Differences, part: &Part<'_>, did: &Found, store: &M
         "tells" => compare_text(found, part, did.tells.as_str().as_bytes()),
         "told" => compare_about(found, part, did.gate.turns.as_str()),
         "tasks" => compare_about(found, part, did.gate.tasks.as_str()),
-        "comes" => compare_about(found, part, did.gate.comes),
+        "comes" => compare_about(found, part, yes_or_no(did.gate.comes)),
         word => found.add(word, part.about, b"no word of cases"),
     }
 }

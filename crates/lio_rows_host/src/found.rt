@@ -41,7 +41,7 @@ pub(crate) struct GateTold {
     /// Of which tasks.
     pub tasks: String,
     /// Whether another worker came while the first was held.
-    pub comes: &'static str,
+    pub comes: bool,
 }
 
 impl Found {
@@ -59,7 +59,7 @@ impl Found {
             gate: GateTold {
                 turns: String::new(alloc),
                 tasks: String::new(alloc),
-                comes: "no",
+                comes: false,
             },
             again: None,
             host: None,

@@ -104,7 +104,7 @@ fn told_of(alloc: Global, gate: &NotingGate) -> Result<GateTold, NoMemory> {
     Ok(GateTold {
         turns: format!(in alloc; "{turns}{once}")?,
         tasks,
-        comes: if gate.gave_up() { "no" } else { "yes" },
+        comes: !gate.gave_up(),
     })
 }
 

@@ -20,7 +20,7 @@ mod store;
 mod tables;
 
 use crate::blocks::written_out;
-use crate::cases::{Block, Setting, read_blocks};
+use crate::cases::{Block, Case, Setting, read_blocks};
 use crate::running::differences;
 use lio_clauses::NoMemory;
 use std::alloc::Global;
@@ -35,6 +35,45 @@ fn memory_error() -> io::Error {
     io::Error::from(ErrorKind::OutOfMemory)
 }
 
+/// What a block and those behind it have, by what those before it have.
+fn setting_at<'c>(before: Setting<'c>, block: &'c Block<'_>) -> Setting<'c> {
+    match block {
+        Block::Line(_) => before,
+        Block::Case(case) => before.with(case),
+    }
+}
+
+/// Writes what is printed of a case, without a line end.
+fn write_case<R, W>(rt: &R, case: &Case<'_>, setting: Setting<'_>, output: &mut W) -> io::Result<()>
+where
+    R: AllocGlobal + RandomSource + Threads + Wait + Sync,
+    W: Write,
+{
+    output.write_all(case.name.as_bytes())?;
+    match differences(rt, case, setting) {
+        Ok(found) => output.write_all(found.as_slice()),
+        Err(NoMemory) => Err(memory_error()),
+    }
+}
+
+/// Writes what is printed of a block.
+fn write_block<R, W>(
+    rt: &R,
+    block: &Block<'_>,
+    setting: Setting<'_>,
+    output: &mut W,
+) -> io::Result<()>
+where
+    R: AllocGlobal + RandomSource + Threads + Wait + Sync,
+    W: Write,
+{
+    match block {
+        Block::Line(line) => output.write_all(line.as_bytes())?,
+        Block::Case(case) => write_case(rt, case, setting, output)?,
+    }
+    output.write_all(b"\n")
+}
+
 /// Writes what is printed of the blocks of a text, in their order.
 fn write_blocks<R, W>(rt: &R, blocks: &[Block<'_>], output: &mut W) -> io::Result<()>
 where
@@ -43,18 +82,8 @@ where
 {
     let mut setting = Setting::new();
     for block in blocks {
-        match block {
-            Block::Line(line) => output.write_all(line.as_bytes())?,
-            Block::Case(case) => {
-                setting = setting.with(case);
-                output.write_all(case.name.as_bytes())?;
-                match differences(rt, case, setting) {
-                    Ok(found) => output.write_all(found.as_slice())?,
-                    Err(NoMemory) => return Err(memory_error()),
-                }
-            }
-        }
-        output.write_all(b"\n")?;
+        setting = setting_at(setting, block);
+        write_block(rt, block, setting, output)?;
     }
     output.flush()
 }

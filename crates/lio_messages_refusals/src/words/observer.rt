@@ -35,22 +35,27 @@ fn tell_word(message: &mut Message, words: &[String]) -> bool {
     false
 }
 
+/// Tells of words that are too few or too many, or whose label isn't read.
+fn tell_count(message: &mut Message, words: &[String]) {
+    match words {
+        [_, _, _, label] => tell_label(message, label.as_str()),
+        [_, _, _, _, word, ..] => message.fill(
+            "\"{}\" is a fifth word; there are to be four, and a label with blanks is put in quotes",
+            Piece::Words(word.as_str()),
+            Piece::Nothing,
+            Piece::Nothing,
+        ),
+        _ => {
+            let named = Piece::Words(NAMED.get(words.len()).copied().unwrap_or(""));
+            let template = "there are to be four words, and {} is missing";
+            message.fill(template, named, Piece::Nothing, Piece::Nothing);
+        }
+    }
+}
+
 /// Tells of words that give no command, or whose label isn't read.
 pub(crate) fn tell_observer_words(message: &mut Message, words: &[String]) {
-    if tell_word(message, words) {
-        return;
+    if !tell_word(message, words) {
+        tell_count(message, words);
     }
-    let (template, word) = match (words, NAMED.get(words.len())) {
-        (_, Some(named)) => ("there are to be four words, and {} is missing", *named),
-        ([_, _, _, _, word, ..], _) => (
-            "\"{}\" is a fifth word; there are to be four, and a label with blanks is put in quotes",
-            word.as_str(),
-        ),
-        ([.., label], _) => {
-            tell_label(message, label.as_str());
-            return;
-        }
-        ([], None) => return,
-    };
-    message.fill(template, Piece::Words(word), Piece::Nothing, Piece::Nothing);
 }
