@@ -3,32 +3,32 @@
 use crate::words::tell_label;
 use lio_messages_hints::{Message, Piece};
 
-/// What each word names, in their order.
-const NAMED: [&str; 4] = [
-    "the policy's file",
-    "the script's file",
-    "the view's file",
-    "the observer's label",
-];
+/// How many words there are to be.
+const COUNT: usize = 4;
+
+/// What the word at a place names, from 0.
+fn named(place: usize) -> Piece<'static> {
+    Piece::Words(match place {
+        0 => "the policy's file",
+        1 => "the script's file",
+        2 => "the view's file",
+        _ => "the observer's label",
+    })
+}
 
 /// Tells what is wrong with the first of the words that may not stand; answers whether one may not.
 fn tell_word(message: &mut Message, words: &[String]) -> bool {
-    for (word, named) in words.iter().zip(NAMED.iter()) {
+    for (place, word) in words.iter().take(COUNT).enumerate() {
         let word = word.as_str();
-        let named = Piece::Words(*named);
         if word.is_empty() {
-            message.fill(
-                "the word for {} is empty",
-                named,
-                Piece::Nothing,
-                Piece::Nothing,
-            );
+            let template = "the word for {} is empty";
+            message.fill(template, named(place), Piece::Nothing, Piece::Nothing);
             return true;
         }
         if word.starts_with("-") {
             let template =
                 "\"{}\" stands for {}, and begins with `-`; there are no options, and `./` before the name of a file helps";
-            message.fill(template, Piece::Words(word), named, Piece::Nothing);
+            message.fill(template, Piece::Words(word), named(place), Piece::Nothing);
             return true;
         }
     }
@@ -46,9 +46,8 @@ fn tell_count(message: &mut Message, words: &[String]) {
             Piece::Nothing,
         ),
         _ => {
-            let named = Piece::Words(NAMED.get(words.len()).copied().unwrap_or(""));
             let template = "there are to be four words, and {} is missing";
-            message.fill(template, named, Piece::Nothing, Piece::Nothing);
+            message.fill(template, named(words.len()), Piece::Nothing, Piece::Nothing);
         }
     }
 }
