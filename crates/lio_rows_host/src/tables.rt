@@ -189,9 +189,10 @@ fn journal_of<R: Threads + Wait + Sync>(
 }
 
 /// What is told of the journal of a table: how many bytes each channel received.
-fn journal_tells(alloc: Global, journal: &Journal, channels: u32) -> Result<String, NoMemory> {
+fn journal_tells(alloc: Global, journal: &Journal, channels: usize) -> Result<String, NoMemory> {
     let mut text = String::new(alloc);
     for channel in 0..channels {
+        let channel = u32::try_from(channel).unwrap_or(u32::MAX);
         let bytes = channel_bytes(alloc, journal, channel)?.len();
         text.push_str(format!(in alloc; "channel {channel} {bytes}\n")?.as_str())?;
     }
@@ -202,7 +203,7 @@ fn journal_tells(alloc: Global, journal: &Journal, channels: u32) -> Result<Stri
 fn tells<R: Threads + Wait + Sync>(rt: &R, alloc: Global, job: &Job) -> Result<Found, NoMemory> {
     let journal = journal_of(rt, alloc, job)?;
     let entries = journal.entries().len() as u64;
-    let channels = job.policy().channels.as_slice().len() as u32;
+    let channels = job.policy().channels.as_slice().len();
     let tells = journal_tells(alloc, &journal, channels);
     drop(journal);
     let mut found = Found::told(alloc, tells?)?;
