@@ -5,8 +5,8 @@
 mod blocks;
 mod cases;
 mod compare;
+mod coop;
 mod found;
-mod futures;
 mod gate;
 mod host;
 mod jobs;

@@ -4,7 +4,7 @@ use crate::cases::{Case, Kind, Setting};
 use crate::compare::compare;
 use crate::found::Found;
 use crate::store::{store_of, words_of};
-use crate::{futures, host, observer, polls, seats, tables};
+use crate::{coop, host, observer, polls, seats, tables};
 use lio_clauses::NoMemory;
 use lio_outside::MemStore;
 use std::alloc::AllocGlobal;
@@ -26,7 +26,7 @@ where
     let words = words.as_slice();
     match setting.kind {
         Kind::Host => host::run(rt, case, setting, words, store),
-        Kind::Futures => futures::run(rt, case, setting, words, store),
+        Kind::Futures => coop::run(rt, case, setting, words, store),
         Kind::Observer => observer::run(rt.alloc(), case, setting, words, store),
         Kind::Polls => polls::run(rt, case, words, store),
         Kind::Seats => seats::run(rt.alloc(), words, store),
