@@ -3,7 +3,7 @@ use Rattle.std.proofs.lemmas.Result.{err_from_is_err_and}
 use Rattle.lio_outside.specs.FileMap.{FileMap}
 use Rattle.lio_outside.specs.Asking.{Give, Refuse}
 use Rattle.lio_front.specs.declared.loading.Front.{Front}
-use Rattle.lio_front.specs.Causes.{Says}
+use Rattle.lio_front.specs.Status.{Says}
 use Rattle.lio_front.specs.Loading.{loading}
 use Rattle.lio_start.specs.declared.job.Job.{Job}
 use Rattle.lio_front.specs.Sorted.{named}
