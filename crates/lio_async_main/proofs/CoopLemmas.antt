@@ -1,14 +1,13 @@
 -- What the run of an order in rounds says, and what its answers say.
-use Rattle.std.proofs.Common.{◌≡◌, ◌∙◌, ap, refl, sym, subst, ℕ, Bool, true, false, ◌&&◌, List, [], ◌∷◌, Option, None, Some, Result, Ok, Err, inl, inr}
+use Rattle.std.proofs.Common.{◌≡◌, ◌∙◌, ap, refl, sym, subst, ℕ, Bool, true, false, ◌&&◌, List, [], ◌∷◌, Option, None, Some, Ok}
 use Rattle.lio_outside.specs.FileMap.{FileMap}
 use Rattle.lio_outside.specs.Asking.{Give}
 use Rattle.lio_calculus.specs.Run.{Ran, run}
-use Rattle.lio_calculus.specs.Step.{Configuration}
 use Rattle.lio_start.specs.Job.{IsJob, JobParts, first_of}
 use Rattle.lio_rounds.specs.Headline.{IsRunOf}
 use Rattle.lio_rounds.specs.Runs.{IsByRounds, RunsRounds}
 use Rattle.lio_rounds.proofs.RunLemmas.{run-by_rounds, run-of_job}
-use Rattle.lio_front.specs.Command.{Command, Files, Made, Mode, Rounds, Source, command_by, command_of, is_name}
+use Rattle.lio_front.specs.Command.{Command, Mode, Rounds, command_by, command_of, is_name}
 use Rattle.lio_host_main.specs.Answers.{Call, Ends, RanAs, RanBy, Says, StopsBy}
 use Rattle.lio_host_main.specs.Order.{InRounds, Order, Way}
 use Rattle.lio_host_main.specs.Verdict.{AreGiven, ordering}
