@@ -1,12 +1,12 @@
 //! What the words name, and what is printed of words that give no command.
 
-mod coop;
+mod futures;
 mod host;
 mod observer;
 
 use crate::program::Program;
-pub use crate::words::coop::futures_words;
-use crate::words::coop::tell_futures_words;
+pub use crate::words::futures::futures_words;
+use crate::words::futures::tell_futures_words;
 use crate::words::host::tell_host_words;
 use crate::words::observer::tell_observer_words;
 use lio_front::{Command, Mode, Source, read_command};
