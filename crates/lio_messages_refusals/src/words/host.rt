@@ -48,6 +48,25 @@ impl Flag {
     }
 }
 
+/// What is wrong with the value of an option, if something is.
+fn value_fault(flag: Flag, value: &str) -> Option<&'static str> {
+    if !may_stand(value) {
+        return Some(
+            "the value of `{}` may not be \"{}\": a value isn't empty and doesn't begin with `-`",
+        );
+    }
+    match flag.most() {
+        Some(most) if is_up_to(most, value) => None,
+        Some(256) => Some(
+            "the value of `{}` may not be \"{}\": it is a number from 1 to 256, without a sign or a zero in front",
+        ),
+        Some(_) => Some(
+            "the value of `{}` may not be \"{}\": it is a number from 1 to 64, without a sign or a zero in front",
+        ),
+        None => None,
+    }
+}
+
 /// What a word is, as the walk over the words takes it.
 #[derive(Clone, Copy)]
 enum Kind<'a> {
@@ -180,28 +199,15 @@ impl<'a> Seen<'a> {
 
     /// Takes an option and its value, unless they may not stand.
     fn take_value(&mut self, flag: Flag, value: &'a str) -> Option<Wrong<'a>> {
-        let number = match flag.most() {
-            None => "",
-            Some(most) if is_up_to(most, value) => "",
-            Some(256) => {
-                "the value of `{}` may not be \"{}\": it is a number from 1 to 256, without a sign or a zero in front"
-            }
-            Some(_) => {
-                "the value of `{}` may not be \"{}\": it is a number from 1 to 64, without a sign or a zero in front"
-            }
-        };
+        if let Some(template) = value_fault(flag, value) {
+            return Some(of_flag(template, flag, value));
+        }
         let has = self.has(flag);
-        let template = if !may_stand(value) {
-            "the value of `{}` may not be \"{}\": a value isn't empty and doesn't begin with `-`"
-        } else if !number.is_empty() {
-            number
-        } else if *has {
-            "`{}` comes twice; each option comes once"
-        } else {
-            *has = true;
-            return None;
-        };
-        Some(of_flag(template, flag, value))
+        if *has {
+            return Some(of_flag("`{}` comes twice; each option comes once", flag, value));
+        }
+        *has = true;
+        None
     }
 
     /// What is wrong with the names, if something is.
