@@ -81,15 +81,6 @@ pub(crate) struct Setting<'c> {
 }
 
 impl<'c> Setting<'c> {
-    /// What the first case has.
-    pub fn new() -> Setting<'c> {
-        Setting {
-            kind: Kind::Host,
-            policy: "",
-            script: "",
-        }
-    }
-
     /// The policy and the script, for what is printed of an answer.
     pub fn texts(self) -> Texts<'c> {
         Texts {
@@ -97,21 +88,42 @@ impl<'c> Setting<'c> {
             script: Some(self.script.as_bytes()),
         }
     }
+}
 
-    /// What a case has, which says some of it.
-    pub fn with(self, case: &'c Case<'_>) -> Setting<'c> {
-        let mut setting = self;
-        for part in &case.parts {
-            match part.word {
-                "program" => {
-                    setting.kind = kind_named(part.about).unwrap_or(Kind::Host);
-                }
-                "policy" => setting.policy = part.text.as_str(),
-                "script" => setting.script = part.text.as_str(),
-                _ => {}
-            }
+/// The first part with a word of a block, if it has one.
+fn part_of<'c>(block: &'c Block<'_>, word: &str) -> Option<&'c Part<'c>> {
+    match block {
+        Block::Line(_) => None,
+        Block::Case(case) => case.part(word),
+    }
+}
+
+/// The text of the last part with a word in some blocks; no text where there is none.
+fn last_text<'c>(blocks: &'c [Block<'_>], word: &str) -> &'c str {
+    for block in blocks.iter().rev() {
+        if let Some(part) = part_of(block, word) {
+            return part.text.as_str();
         }
-        setting
+    }
+    ""
+}
+
+/// The kind that is named last in some blocks: the host, where none is.
+fn last_kind(blocks: &[Block<'_>]) -> Kind {
+    for block in blocks.iter().rev() {
+        if let Some(part) = part_of(block, "program") {
+            return kind_named(part.about).unwrap_or(Kind::Host);
+        }
+    }
+    Kind::Host
+}
+
+/// What the last of some blocks has, by itself and by those before it.
+pub(crate) fn setting_of<'c>(blocks: &'c [Block<'_>]) -> Setting<'c> {
+    Setting {
+        kind: last_kind(blocks),
+        policy: last_text(blocks, "policy"),
+        script: last_text(blocks, "script"),
     }
 }
 

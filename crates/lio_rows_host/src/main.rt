@@ -20,7 +20,7 @@ mod store;
 mod tables;
 
 use crate::blocks::written_out;
-use crate::cases::{Block, Case, Setting, read_blocks};
+use crate::cases::{Block, Case, Setting, read_blocks, setting_of};
 use crate::running::differences;
 use lio_clauses::NoMemory;
 use std::alloc::Global;
@@ -33,14 +33,6 @@ use std::thread::Threads;
 /// What an input or an output ends with that finds no memory.
 fn memory_error() -> io::Error {
     io::Error::from(ErrorKind::OutOfMemory)
-}
-
-/// What a block and those behind it have, by what those before it have.
-fn setting_at<'c>(before: Setting<'c>, block: &'c Block<'_>) -> Setting<'c> {
-    match block {
-        Block::Line(_) => before,
-        Block::Case(case) => before.with(case),
-    }
 }
 
 /// Writes what is printed of a case, without a line end.
@@ -56,20 +48,16 @@ where
     }
 }
 
-/// Writes what is printed of a block.
-fn write_block<R, W>(
-    rt: &R,
-    block: &Block<'_>,
-    setting: Setting<'_>,
-    output: &mut W,
-) -> io::Result<()>
+/// Writes what is printed of the last of some blocks, if there is one.
+fn write_last<R, W>(rt: &R, blocks: &[Block<'_>], output: &mut W) -> io::Result<()>
 where
     R: AllocGlobal + RandomSource + Threads + Wait + Sync,
     W: Write,
 {
-    match block {
-        Block::Line(line) => output.write_all(line.as_bytes())?,
-        Block::Case(case) => write_case(rt, case, setting, output)?,
+    match blocks.last() {
+        None => return Ok(()),
+        Some(Block::Line(line)) => output.write_all(line.as_bytes())?,
+        Some(Block::Case(case)) => write_case(rt, case, setting_of(blocks), output)?,
     }
     output.write_all(b"\n")
 }
@@ -80,10 +68,8 @@ where
     R: AllocGlobal + RandomSource + Threads + Wait + Sync,
     W: Write,
 {
-    let mut setting = Setting::new();
-    for block in blocks {
-        setting = setting_at(setting, block);
-        write_block(rt, block, setting, output)?;
+    for at in 0..blocks.len() {
+        write_last(rt, blocks.get(..=at).unwrap_or(blocks), output)?;
     }
     output.flush()
 }
