@@ -1,11 +1,10 @@
 -- The host's words that ask for what words of the host over futures ask for.
-use Rattle.std.proofs.Common.{◌≡◌, ◌∙◌, ap, refl, sym, ℕ, Bool, true, false, not, ◌&&◌, ◌||◌, List, [], ◌∷◌, length, take, drop, codes, bytes_eq, ◌==◌, if◌then◌else◌, Option, None, Some}
+use Rattle.std.proofs.Common.{◌≡◌, ◌∙◌, ap, refl, ℕ, Bool, true, false, not, ◌&&◌, ◌||◌, List, [], ◌∷◌, length, take, drop, codes, bytes_eq, ◌==◌, if◌then◌else◌, Option, None, Some}
 use Rattle.lio_front.specs.declared.words.said.Name.{Name}
 use Rattle.lio_front.specs.declared.words.said.Name.TheVariants.{History, View, Observer, Make, Workers, Check}
-use Rattle.lio_front.specs.declared.words.place.Place.{Place}
 use Rattle.lio_front.specs.declared.words.place.Place.TheVariants.{Anywhere}
 use Rattle.lio_front.specs.Command.{Command, Files, Rounds, Watch, command_by, command_of, commanded, is_name}
-use Rattle.lio_front.specs.Walk.{Dashes, Plain, Said, Walked, no_words, said, said_behind, said_by, walked, walked_by, with_plain, with_value}
+use Rattle.lio_front.specs.Walk.{Dashes, Plain, Said, said, said_behind, said_by, walked, walked_by, with_plain}
 use Rattle.lio_async_main.specs.Words.{host_words}
 
 -- a word that doesn't begin with `-` is no option

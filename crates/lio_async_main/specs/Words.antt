@@ -1,5 +1,5 @@
 -- What the words of the host over futures ask for, as words of the host.
-use Rattle.std.specs.Prelude.{ℕ, Bool, ◌&&◌, List, [], ◌∷◌, codes, if◌then◌else◌}
+use Rattle.std.specs.Prelude.{ℕ, ◌&&◌, List, [], ◌∷◌, codes, if◌then◌else◌}
 use Rattle.lio_front.specs.Command.{is_name}
 
 -- the words of the host that ask for the same: the files of the policy and of the script, and with four words also the file of a view and the text of its observer's label; none where there aren't two

@@ -5,7 +5,7 @@ ghost use Rattle.lio_front.specs.Sorted.{bytes_of_words};
 ghost use Rattle.lio_outside.specs.Call.{outside};
 ghost use Rattle.lio_start.specs.Job.{IsJob, first_of};
 ghost use Rattle.lio_rounds.specs.Runs.{RunsRounds, ran_of};
-ghost use Rattle.lio_host_main.specs.Answers.{Follows, Says, journal_with};
+ghost use Rattle.lio_host_main.specs.Answers.{Completes, Follows, Says, journal_with};
 ghost use Rattle.lio_host_main.specs.Order.{seen_by};
 ghost use Rattle.lio_async_main.specs.Answers.{GivesRounds};
 ghost use Rattle.lio_async_main.specs.Words.{host_words};
@@ -50,10 +50,7 @@ fn unfinished(alloc: Global, status: CoopStatus, journal: Journal) -> CoopOutcom
     ensures journal { result.journal ≡ journal_with status journal }
 {
     match status {
-        CoopStatus::NoMemory => {
-            drop(journal);
-            refused(alloc, CoopStatus::NoMemory)
-        }
+        CoopStatus::NoMemory => refused(alloc, CoopStatus::NoMemory),
         status => CoopOutcome { status, journal },
     }
 }
@@ -73,25 +70,12 @@ fn run_seen<R: Wait + RandomSource + AllocGlobal>(
     let ran = run_polled(rt, alloc, job)?;
     match seen_polled(rt, alloc, job, observer, &ran) {
         Ok(seen) => Ok((ran, seen)),
-        Err(NoMemory) => {
-            drop(ran);
-            Err(NoMemory)
-        }
+        Err(NoMemory) => Err(NoMemory),
     }
 }
 
 /// Gives up what was to be run.
-fn give_up(order: Order<'_>) {
-    let Order {
-        job,
-        observer,
-        way,
-        ..
-    } = order;
-    drop(job);
-    drop(observer);
-    drop(way);
-}
+fn give_up(_order: Order<'_>) {}
 
 /// What `coop_main` answers.
 fn answer<R: Wait + RandomSource + AllocGlobal, S: Store, W: Say>(
@@ -101,7 +85,7 @@ fn answer<R: Wait + RandomSource + AllocGlobal, S: Store, W: Say>(
     store: &mut S,
     say: &mut W,
 ) -> CoopOutcome
-    ensures count { S.faults store.old ≤ S.faults store.new }
+    ensures count { (S.faults store.old).count ≤ (S.faults store.new).count }
     ensures say_count { W.faults say.old ≤ W.faults say.new }
     ensures says { Says (record {
       words = host_words (bytes_of_words words.now);
@@ -139,9 +123,9 @@ fn answer<R: Wait + RandomSource + AllocGlobal, S: Store, W: Say>(
     }
 }
 
-/// Does what the words ask for: runs the script under the policy in rounds, as a future that is polled
-/// by hand, writes the files, and says the summary. What is promised is what `host_main` promises of
-/// the words of the host that ask for the same. It may wait, and then doesn't return.
+/// Does what the words ask for: runs the script under the policy in rounds, as a future that is
+/// polled by hand, writes the files, and says the summary. What is promised is what `host_main`
+/// promises of the words of the host that ask for the same. It may wait, and then doesn't return.
 pub fn coop_main<R, S: Store, W: Say>(
     rt: &R,
     alloc: Global,
@@ -151,7 +135,7 @@ pub fn coop_main<R, S: Store, W: Say>(
 ) -> CoopOutcome
 where
     R: Threads + Wait + Sync + RandomSource + AllocGlobal,
-    ensures count { S.faults store.old ≤ S.faults store.new }
+    ensures count { (S.faults store.old).count ≤ (S.faults store.new).count }
     ensures say_count { W.faults say.old ≤ W.faults say.new }
     ensures says { Says (record {
       words = host_words (bytes_of_words words.now);
@@ -160,6 +144,12 @@ where
       journal = result.journal;
     }) result.status }
     ensures follows { IfSome (S.holds store.old) (Follows (record {
+      words = host_words (bytes_of_words words.now);
+      before = outside S.holds S.faults W.said W.faults store.old say.old;
+      after = outside S.holds S.faults W.said W.faults store.new say.new;
+      journal = result.journal;
+    }) result.status) }
+    ensures completes { IfSome (S.holds store.old) (Completes (record {
       words = host_words (bytes_of_words words.now);
       before = outside S.holds S.faults W.said W.faults store.old say.old;
       after = outside S.holds S.faults W.said W.faults store.new say.new;

@@ -1,5 +1,5 @@
-//! The host over futures: the words, the policy, the script, the inputs, the rounds as a future, the
-//! view as a stream, the files, and the summary.
+//! The host over futures: the words, the policy, the script, the inputs, the rounds as a future,
+//! the view as a stream, the files, and the summary.
 #![tactic(auto)]
 
 mod coop;

@@ -72,8 +72,8 @@ pub(crate) fn run_polled<R: Wait + RandomSource + AllocGlobal>(
     }
 }
 
-/// What an observer sees of the rounds of a job, as a stream; where that can't be run, what it sees of
-/// their journal.
+/// What an observer sees of the rounds of a job, as a stream; where that can't be run, what it sees
+/// of their journal.
 fn view_polled<R: Wait + RandomSource + AllocGlobal>(
     rt: &R,
     alloc: Global,

@@ -7,8 +7,8 @@ pub fn futures_give_the_run()
     ensures { FuturesGiveTheRun }
 {}
 
-/// What the stream yields of a machine that has taken no turn, where no memory is wanting, is what the
-/// observer sees of the journal of its rounds, and what the erased calculus's own rounds give.
+/// What the stream yields of a machine that has taken no turn, where no memory is wanting, is what
+/// the observer sees of the journal of its rounds, and what the erased calculus's own rounds give.
 pub fn streams_yield_the_view()
     ensures { StreamsYieldTheView }
 {}

@@ -10,8 +10,8 @@ use lio_clauses::NoMemory;
 use lio_rounds::Machine;
 use std::alloc::Global;
 
-/// Runs a machine by rounds, one round each time that it is polled, until a round moves nothing, and
-/// then gives the machine.
+/// Runs a machine by rounds, one round each time that it is polled, until a round moves nothing,
+/// and then gives the machine.
 #[derive(Drop)]
 pub struct RoundsFuture {
     alloc: Global,
@@ -42,10 +42,7 @@ impl RoundsFuture {
                 self.machine = Some(machine);
                 Poll::Pending
             }
-            Err(NoMemory) => {
-                drop(machine);
-                Poll::Ready(Err(NoMemory))
-            }
+            Err(NoMemory) => Poll::Ready(Err(NoMemory)),
         }
     }
 }

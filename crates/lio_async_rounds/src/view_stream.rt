@@ -31,8 +31,8 @@ impl ViewStream {
     ghost use Rattle.lio_rounds.specs.MachineParts.{machine_of};
     ghost use Rattle.lio_async_rounds.specs.ViewStream.{Gave, GivesNext, IsFound, waiting};
 
-    /// What an observer sees of the journal of a machine, and of the rounds that it is still to make.
-    /// It takes no memory.
+    /// What an observer sees of the journal of a machine, and of the rounds that it is still to
+    /// make. It takes no memory.
     pub fn new(alloc: Global, machine: Machine, observer: Label) -> ViewStream
         ensures machine { result.machine ≡ Some machine }
         ensures observer { result.observer ≡ observer }
@@ -48,8 +48,8 @@ impl ViewStream {
         }
     }
 
-    /// Goes on to the first entry of a machine's journal that waits to be given, and answers whether
-    /// there is one.
+    /// Goes on to the first entry of a machine's journal that waits to be given, and answers
+    /// whether there is one.
     fn find(&mut self, machine: &Machine) -> bool
         requires none { self.old.machine ≡ None }
         requires within { self.old.next ≤ length (machine_of machine.now).entries }
@@ -82,10 +82,7 @@ impl ViewStream {
                 self.machine = Some(machine);
                 Poll::Ready(Some(Ok(entry)))
             }
-            Err(NoMemory) => {
-                drop(machine);
-                Poll::Ready(Some(Err(NoMemory)))
-            }
+            Err(NoMemory) => Poll::Ready(Some(Err(NoMemory))),
         }
     }
 
@@ -100,10 +97,7 @@ impl ViewStream {
             return self.give(machine);
         }
         match machine.round(self.alloc) {
-            Ok(0) => {
-                drop(machine);
-                Poll::Ready(None)
-            }
+            Ok(0) => Poll::Ready(None),
             Ok(_) => {
                 if self.find(&machine) {
                     return self.give(machine);
@@ -111,10 +105,7 @@ impl ViewStream {
                 self.machine = Some(machine);
                 Poll::Pending
             }
-            Err(NoMemory) => {
-                drop(machine);
-                Poll::Ready(Some(Err(NoMemory)))
-            }
+            Err(NoMemory) => Poll::Ready(Some(Err(NoMemory))),
         }
     }
 }
@@ -130,10 +121,10 @@ impl Stream for ViewStream {
 
     ghost yields = { λ stream items last. Yields stream items last };
 
-    /// Gives the next entry that the observer sees, erased, with the next ticket. Where none waits, it
-    /// makes one round: the stream ends where that moved nothing, and is pending only where it moved
-    /// a task and the observer sees nothing of it; it has then woken its own task. Want of memory is
-    /// followed by the end alone, and the end by the end.
+    /// Gives the next entry that the observer sees, erased, with the next ticket. Where none waits,
+    /// it makes one round: the stream ends where that moved nothing, and is pending only where it
+    /// moved a task and the observer sees nothing of it; it has then woken its own task. Want of
+    /// memory is followed by the end alone, and the end by the end.
     fn poll_next(&mut self, cx: &mut Context<'_>) -> Poll<Option<Result<Entry, NoMemory>>>
         ensures value { IfReady result (Yields self.old []) }
         ensures rest { IfReady result

@@ -3,13 +3,14 @@ use Rattle.std.proofs.Common.{◌≡◌, ◌∙◌, sym, ap, subst, ℕ, ◌+◌
 use Rattle.lio_events.specs.JournalText.{entry_text, journal_text}
 use Rattle.lio_calculus.specs.Run.{Ran}
 use Rattle.lio_calculus.specs.Step.{Configuration, can}
-use Rattle.lio_audit.specs.History.{BeginsTurn, CanGoOn, Stops}
+use Rattle.lio_calculus.specs.Sound.{IsSound}
+use Rattle.lio_audit.specs.History.{BeginsTurn, CanGoOn, HaveTooMany, IsHistoryOf, IsOneHistoryOf, Stops, StopsAt, StopsAtOne, most_history_bytes}
 use Rattle.lio_audit.specs.Laws.{HistoryIsOfOneRun, HistoryStopsNowhere, StopsAtOneLine}
 use Rattle.lio_audit.proofs.MeetLemmas.{Meets, meet}
 use Rattle.lio_audit.proofs.TextLemmas.{text-some}
 
 -- no line stands at the front of nothing
-none-begins : (names : List (List ℕ)) (ticket : ℕ) (c : Configuration) → BeginsTurn names ticket c [] → ⊥
+pub none-begins : (names : List (List ℕ)) (ticket : ℕ) (c : Configuration) → BeginsTurn names ticket c [] → ⊥
 none-begins names ticket c b =
     let some : 0 < length (entry_text names true b.turn.entry) = text-some names b.turn.entry in
     let long : 0 ≡ length (entry_text names true b.turn.entry) + length b.rest = ap (λ (q : List ℕ). length q) b.stands ∙ length-append (entry_text names true b.turn.entry) b.rest in
@@ -66,3 +67,26 @@ stops_at_one_line names c bytes one two sound a b =
     by (inl both) = a.line_is ∙ ap (λ (q : Ran). length q.entries + 1) both.0 ∙ sym b.line_is
     by (inr (inl t)) = absurd (stops-not names (length a.ran.entries) a.ran.last a.rest a.stops t)
     by (inr (inr t)) = absurd (stops-not names (length b.ran.entries) b.ran.last b.rest b.stops t)
+
+-- a history is that of its run alone
+pub one-history : (names : List (List ℕ)) (c : Configuration) (bytes : List ℕ) (ran : Ran) → IsSound c → IsHistoryOf names c bytes ran → IsOneHistoryOf names c bytes ran
+one-history names c bytes ran sound history = record {
+  is_history = history;
+  only = λ other is. history_is_of_one_run names c bytes other ran sound is history;
+  nowhere = λ line stop. history_stops_nowhere names c bytes ran line sound history stop;
+}
+
+-- bytes that stop at a line stop there alone
+pub one-stop : (names : List (List ℕ)) (c : Configuration) (bytes : List ℕ) (line : ℕ) → IsSound c → StopsAt names c bytes line → StopsAtOne names c bytes line
+one-stop names c bytes line sound stop = record {
+  stops_at = stop;
+  none = λ ran history. history_stops_nowhere names c bytes ran line sound history stop;
+  only = λ other at. stops_at_one_line names c bytes other line sound at stop;
+}
+
+pub too-many : (names : List (List ℕ)) (c : Configuration) (bytes : List ℕ) → most_history_bytes < length bytes → HaveTooMany names c bytes
+too-many names c bytes many = record {
+  many = many;
+  none = λ ran history. let few = history.few in absurd (omega arith);
+  nowhere = λ line stop. let few = stop.few in absurd (omega arith);
+}

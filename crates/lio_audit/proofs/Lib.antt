@@ -1,6 +1,7 @@
 pub mod RunLemmas
 pub mod LineLemmas
 pub mod TextLemmas
+pub mod InputLemmas
 pub mod ReplayLemmas
 pub mod MeetLemmas
 pub mod ExpectedLemmas

@@ -6,6 +6,7 @@ use Rattle.lio_calculus.specs.Step.{Configuration, Turn, can, step}
 use Rattle.lio_calculus.specs.Sound.{IsSound}
 use Rattle.lio_calculus.proofs.LocalityLemmas.{step_changes_two_cells}
 use Rattle.lio_audit.specs.History.{BeginsTurn, Stops}
+use Rattle.lio_events_reading.proofs.LineLemmas.{actor_of_line}
 use Rattle.lio_audit.proofs.RunLemmas.{still-step, step-has_ticket, step-small}
 
 -- the task of the turn whose line stands there is the one that was read
@@ -15,7 +16,7 @@ begins-task names ticket c bytes k sound wide finds begins =
     let has : begins.turn.entry.ticket ≡ ticket = step-has_ticket ticket c begins.task begins.turn begins.is_step in
     let one : begins.turn.entry.ticket < 2 ^ 64 = subst (λ (n : ℕ). n < 2 ^ 64) (sym has) wide in
     let two : begins.turn.entry.actor < 2 ^ 32 = subst (λ (n : ℕ). n < 2 ^ 32) (sym actor) (step-small ticket c begins.task begins.turn sound.few begins.is_step) in
-    finds names begins.turn.entry begins.rest one two begins.stands ∙ actor
+    actor_of_line bytes k finds names begins.turn.entry begins.rest one two begins.stands ∙ actor
 
 -- a task that can't take a turn has no line there
 pub still-begins : (names : List (List ℕ)) (ticket : ℕ) (c : Configuration) (bytes : List ℕ) (k : ℕ) → IsSound c → ticket < 2 ^ 64 → IsActorOf bytes k → can c k ≡ false → BeginsTurn names ticket c bytes → ⊥

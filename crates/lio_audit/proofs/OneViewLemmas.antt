@@ -1,8 +1,15 @@
 -- The answers of a check of a view, once it ends.
-use Rattle.std.proofs.Common.{◌≡◌, ◌∙◌, sym, ap, subst, ℕ, ◌+◌, ◌-◌, ◌<◌, ◌≤◌, List, [], length, drop, arith}
+use Rattle.std.proofs.Common.{◌≡◌, ◌∙◌, sym, ap, subst, ℕ, ◌+◌, ◌-◌, ◌<◌, ◌≤◌, List, [], length, drop, append-nil, false, arith}
 use Rattle.std.proofs.lemmas.List.{length-drop}
 use Rattle.std.proofs.Math.ListN.{drop_of_length-le}
+use Rattle.std.proofs.lemmas.List.Elements.{All-weaker}
+use Rattle.lio_clauses.specs.Names.{AreNames}
 use Rattle.lio_labels.specs.declared.label.Label.{Label}
+use Rattle.lio_events.specs.JournalText.{journal_text}
+use Rattle.lio_events.specs.Printable.{IsPrintable}
+use Rattle.lio_events_reading.specs.Lines.{line_ends}
+use Rattle.lio_events_reading.specs.Over.{IsEntryOver}
+use Rattle.lio_events_reading.proofs.EndLemmas.{lines_are_entries}
 use Rattle.lio_calculus.specs.Erased.{erase}
 use Rattle.lio_calculus.specs.Run.{LowRan}
 use Rattle.lio_calculus.specs.Step.{Configuration}
@@ -25,12 +32,15 @@ seen-erased observer c seen = ap (erase observer) seen.seen ∙ erase-twice obse
 at-end : (bytes : List ℕ) (at : ℕ) → length bytes ≤ at → drop at bytes ≡ []
 at-end bytes at over = drop_of_length-le bytes over
 
-pub seen-whole : (names : List (List ℕ)) (observer : Label) (c : Configuration) (bytes : List ℕ) (state : ErasedState) (at count : ℕ) → IsSeenOfSound observer c → IsSeenSoFar names observer c bytes state at count → length bytes ≤ at
-    → length bytes ≤ most_history_bytes → IsComplete state.configuration → IsOneViewOfTurns names observer c bytes count
-seen-whole names observer c bytes state at count seen so_far over few complete = record {
+pub seen-whole : (names : List (List ℕ)) (observer : Label) (c : Configuration) (bytes : List ℕ) (state : ErasedState) (at count : ℕ) → AreNames names → IsSeenOfSound observer c
+    → IsSeenSoFar names observer c bytes state at count → length bytes ≤ at → length bytes ≤ most_history_bytes → IsComplete state.configuration → IsOneViewOfTurns names observer c bytes count
+seen-whole names observer c bytes state at count known seen so_far over few complete = record {
   ran = ran;
   is_view = is_view;
   count_is = so_far.count_is;
+  lines =
+      ap line_ends (is_view.lines.text ∙ append-nil (journal_text names false so_far.entries))
+      ∙ lines_are_entries names false so_far.entries known (All-weaker (IsEntryOver names) (IsPrintable names) (λ e over. over.printable) so_far.entries so_far.lines.over) ∙ sym so_far.count_is;
   only = λ other is. view-of_one names observer c bytes ran other so_far.of_one (seen-erased observer c seen) is_view is;
   nowhere = λ line stop. view-stops_nowhere names observer c bytes ran line so_far.of_one (seen-erased observer c seen) is_view stop;
 }

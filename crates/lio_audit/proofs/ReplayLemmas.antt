@@ -23,13 +23,17 @@ use Rattle.lio_task.specs.Logs.{Appends, AreFresh, IsLaterThanLogs, log_in}
 use Rattle.lio_task.proofs.LogLemmas.{fresh-log}
 use Rattle.lio_audit.specs.declared.fault.AuditFault.{AuditFault}
 use Rattle.lio_audit.specs.declared.fault.AuditFault.TheVariants.{NotARun, NoMemory}
-use Rattle.lio_audit.specs.History.{CanGoOn, IsHistoryOf, IsRunFrom, Says, StopsAt, most_history_bytes}
+use Rattle.lio_audit.specs.History.{CanGoOn, IsOneHistoryOf, IsRunFrom, Says, StopsAtOne, most_history_bytes}
 use Rattle.lio_audit.specs.Replay.{LineEndsAt, Refuses, Stands, TakesLine}
 use Rattle.lio_calculus.proofs.LocalityLemmas.{step_changes_two_cells}
-use Rattle.lio_calculus_runs.proofs.NamedTurns.{turn_names_only}
+use Rattle.lio_clauses.specs.Names.{AreNames}
+use Rattle.lio_events_reading.specs.Lines.{line_ends}
+use Rattle.lio_events_reading.proofs.EndLemmas.{lines_are_entries}
+use Rattle.lio_calculus_runs.proofs.NamedTurns.{run_names_only, turn_names_only}
 use Rattle.lio_audit.proofs.RunLemmas.{run-nothing, run-push, step-has_ticket}
 use Rattle.lio_audit.proofs.LineLemmas.{stops-begins}
 use Rattle.lio_audit.proofs.TextLemmas.{text-some}
+use Rattle.lio_audit.proofs.LawLemmas.{one-history, one-stop}
 
 -- tickets that are below a number are below the next
 below-next : (count : ℕ) (entries : List Entry) → AreBelow count entries → AreBelow (count + 1) entries
@@ -126,35 +130,40 @@ pub so_far-end : (names : List (List ℕ)) (script : List Procedure) (c : Config
 so_far-end names script c bytes config journal at so_far over =
     so_far.text ∙ ap (λ (r : List ℕ). journal_text names true journal ++ r) (drop_of_length-le bytes over) ∙ append-nil (journal_text names true journal)
 
-pub is-history : (names : List (List ℕ)) (script : List Procedure) (c : Configuration) (bytes : List ℕ) (config : Config) (journal : List Entry) (at : ℕ) → IsSoFar names script c bytes config journal at → length bytes ≤ at
-    → length bytes ≤ most_history_bytes → IsComplete (configuration_of script config) → IsHistoryOf names c bytes (record { entries = journal; last = configuration_of script config })
-is-history names script c bytes config journal at so_far over few complete = record {
-  few = few;
-  text = so_far-end names script c bytes config journal at so_far over;
-  is_run = so_far.is_run;
-  complete = complete;
-}
+pub is-history : (names : List (List ℕ)) (script : List Procedure) (c : Configuration) (bytes : List ℕ) (config : Config) (journal : List Entry) (at : ℕ) → AreNames names → IsSound c → NamesOnly names c
+    → IsSoFar names script c bytes config journal at → length bytes ≤ at → length bytes ≤ most_history_bytes → IsComplete (configuration_of script config) → IsOneHistoryOf names c bytes (record { entries = journal; last = configuration_of script config })
+is-history names script c bytes config journal at known sound named so_far over few complete =
+    let ran : Ran = record { entries = journal; last = configuration_of script config } in
+    let text : bytes ≡ journal_text names true journal = so_far-end names script c bytes config journal at so_far over in
+    one-history names c bytes ran sound (record {
+      few = few;
+      text = text;
+      lines = ap line_ends text ∙ lines_are_entries names true journal known (run_names_only names 0 c (actors journal) ran named so_far.is_run).entries;
+      is_run = so_far.is_run;
+      complete = complete;
+    })
 
 -- and a task can go on
-pub stops-short : (names : List (List ℕ)) (script : List Procedure) (c : Configuration) (bytes : List ℕ) (config : Config) (journal : List Entry) (at line : ℕ) → IsSoFar names script c bytes config journal at → length bytes ≤ at
-    → length bytes ≤ most_history_bytes → CanGoOn (configuration_of script config) → line ≡ length journal + 1 → StopsAt names c bytes line
-stops-short names script c bytes config journal at line so_far over few goes is = record {
-  few = few;
-  ran = record { entries = journal; last = configuration_of script config };
-  rest = [];
-  text = so_far-end names script c bytes config journal at so_far over ∙ sym (append-nil (journal_text names true journal));
-  is_run = so_far.is_run;
-  line_is = is;
-  stops = goes;
-}
+pub stops-short : (names : List (List ℕ)) (script : List Procedure) (c : Configuration) (bytes : List ℕ) (config : Config) (journal : List Entry) (at line : ℕ) → IsSound c → IsSoFar names script c bytes config journal at
+    → length bytes ≤ at → length bytes ≤ most_history_bytes → CanGoOn (configuration_of script config) → line ≡ length journal + 1 → StopsAtOne names c bytes line
+stops-short names script c bytes config journal at line sound so_far over few goes is =
+    one-stop names c bytes line sound (record {
+      few = few;
+      ran = record { entries = journal; last = configuration_of script config };
+      rest = [];
+      text = so_far-end names script c bytes config journal at so_far over ∙ sym (append-nil (journal_text names true journal));
+      is_run = so_far.is_run;
+      line_is = is;
+      stops = goes;
+    })
 
 -- a line is none
-pub stops-at : (names : List (List ℕ)) (script : List Procedure) (c : Configuration) (bytes : List ℕ) (config : Config) (journal : List Entry) (at : ℕ) (fault : AuditFault) → IsSoFar names script c bytes config journal at → at < length bytes
-    → length bytes ≤ most_history_bytes → Refuses names (configuration_of script config) journal (drop at bytes) fault → Says names c bytes fault
-stops-at names script c bytes config journal at (NotARun line) so_far within few refuses =
+pub stops-at : (names : List (List ℕ)) (script : List Procedure) (c : Configuration) (bytes : List ℕ) (config : Config) (journal : List Entry) (at : ℕ) (fault : AuditFault) → IsSound c
+    → IsSoFar names script c bytes config journal at → at < length bytes → length bytes ≤ most_history_bytes → Refuses names (configuration_of script config) journal (drop at bytes) fault → Says names c bytes fault
+stops-at names script c bytes config journal at (NotARun line) sound so_far within few refuses =
     let left : length (drop at bytes) ≡ length bytes - at = length-drop at bytes in
     let some : 0 < length (drop at bytes) = omega arith in
-    inr (record {
+    inr (one-stop names c bytes line sound (record {
       few = few;
       ran = record { entries = journal; last = configuration_of script config };
       rest = drop at bytes;
@@ -162,8 +171,8 @@ stops-at names script c bytes config journal at (NotARun line) so_far within few
       is_run = so_far.is_run;
       line_is = refuses.0;
       stops = stops-begins names (length journal) (configuration_of script config) (drop at bytes) some refuses.1;
-    })
-stops-at names script c bytes config journal at NoMemory so_far within few refuses = tt
+    }))
+stops-at names script c bytes config journal at NoMemory sound so_far within few refuses = tt
 
 -- a configuration in which no node has served a turn
 pub stands-first : (names : List (List ℕ)) (script : List Procedure) (config : Config) → IsSound (configuration_of script config) → NamesOnly names (configuration_of script config) → AreFresh config → Stands names script config []

@@ -1,6 +1,7 @@
 -- Which bytes are the history of a complete run, and where bytes stop being one.
 use Rattle.std.specs.Prelude.{◌≡◌, ◌⊎◌, ℕ, ◌+◌, ◌<◌, ◌≤◌, true, List, [], ◌∷◌, ◌++◌, length, Some}
 use Rattle.lio_events.specs.JournalText.{entry_text, journal_text}
+use Rattle.lio_events_reading.specs.Lines.{line_ends}
 use Rattle.lio_calculus.specs.Run.{Ran, run}
 use Rattle.lio_calculus.specs.Step.{Configuration, Turn, can, step}
 use Rattle.lio_calculus.specs.Journals.{actors}
@@ -21,6 +22,8 @@ pub record IsHistoryOf (names : List (List ℕ)) (c : Configuration) (bytes : Li
   pub few : length bytes ≤ most_history_bytes
   -- each line is the text, with its ticket, of an entry of the run, in their order
   pub text : bytes ≡ journal_text names true ran.entries
+  -- so there are as many line ends as turns
+  pub lines : line_ends bytes ≡ length ran.entries
   pub is_run : IsRunFrom c ran
   -- and then no task can take a turn
   pub complete : IsComplete ran.last
@@ -52,7 +55,28 @@ pub record StopsAt (names : List (List ℕ)) (c : Configuration) (bytes : List �
   pub line_is : line ≡ length ran.entries + 1
   pub stops : Stops names (length ran.entries) ran.last rest
 
+-- Bytes are the history of one complete run.
+pub record IsOneHistoryOf (names : List (List ℕ)) (c : Configuration) (bytes : List ℕ) (ran : Ran) : Type 0 where
+  pub is_history : IsHistoryOf names c bytes ran
+  -- they are the history of no other run, and stop at no line
+  pub only : (other : Ran) → IsHistoryOf names c bytes other → other ≡ ran
+  pub nowhere : (line : ℕ) → StopsAt names c bytes line → ⊥
+
+-- Bytes stop being a history at one line.
+pub record StopsAtOne (names : List (List ℕ)) (c : Configuration) (bytes : List ℕ) (line : ℕ) : Type 0 where
+  pub stops_at : StopsAt names c bytes line
+  -- they are the history of no run, and stop at no other line
+  pub none : (ran : Ran) → IsHistoryOf names c bytes ran → ⊥
+  pub only : (other : ℕ) → StopsAt names c bytes other → other ≡ line
+
+-- There are more bytes than a history may have.
+pub record HaveTooMany (names : List (List ℕ)) (c : Configuration) (bytes : List ℕ) : Type 0 where
+  pub many : most_history_bytes < length bytes
+  -- they are the history of no run, and stop at no line
+  pub none : (ran : Ran) → IsHistoryOf names c bytes ran → ⊥
+  pub nowhere : (line : ℕ) → StopsAt names c bytes line → ⊥
+
 -- why bytes aren't the history of a complete run: there are too many of them, or they stop at a line
 abbrev pub Says : List (List ℕ) → Configuration → List ℕ → AuditFault → Type 0
-Says names c bytes (NotARun line) = ((line ≡ 0) × (most_history_bytes < length bytes)) ⊎ StopsAt names c bytes line
+Says names c bytes (NotARun line) = ((line ≡ 0) × HaveTooMany names c bytes) ⊎ StopsAtOne names c bytes line
 Says names c bytes NoMemory = Unit {0}

@@ -7,3 +7,4 @@ pub mod Rerun
 pub mod Seen
 pub mod Asking
 pub mod RunLaws
+pub mod Inputs

@@ -5,6 +5,7 @@ use Rattle.lio_labels.specs.declared.label.Label.{Label}
 use Rattle.lio_values.specs.declared.entry.Entry.{Entry}
 use Rattle.lio_events.specs.JournalText.{entry_text, journal_text}
 use Rattle.lio_events.specs.Views.{released_to, releases}
+use Rattle.lio_events_reading.specs.Lines.{line_ends}
 use Rattle.lio_events_reading.specs.Over.{IsEntryOver}
 use Rattle.lio_calculus.specs.Erased.{LowTurn, low}
 use Rattle.lio_calculus.specs.Laws.{IsShownContent}
@@ -70,6 +71,8 @@ pub record IsOneViewOfTurns (names : List (List ℕ)) (observer : Label) (c : Co
   pub ran : LowRan
   pub is_view : IsViewOf names observer c bytes ran
   pub count_is : count ≡ length ran.entries
+  -- and so many line ends
+  pub lines : line_ends bytes ≡ count
   -- they are the view of no other run, and stop at no line
   pub only : (other : LowRan) → IsViewOf names observer c bytes other → other ≡ ran
   pub nowhere : (line : ℕ) → SeenStopsAt names observer c bytes line → ⊥

@@ -1,12 +1,13 @@
 //! The line with which a history that stops should have gone on.
 
-ghost use Rattle.std.specs.Prelude.{◌≡◌, ◌⊎◌, ◌≤◌, [], length, IfOk, IfSome};
+ghost use Rattle.std.specs.Prelude.{◌≡◌, ◌≤◌, [], false, length, IfOk, MatchOption};
+ghost use Rattle.lio_calculus.specs.Step.{can};
 ghost use Rattle.lio_calculus.specs.Sound.{IsSound};
 ghost use Rattle.lio_calculus_runs.specs.Configuration.{NamesOnly};
 ghost use Rattle.lio_task.specs.Configuration.{configuration_of};
 ghost use Rattle.lio_task.specs.Logs.{AreFresh};
-ghost use Rattle.lio_events_reading.specs.Lines.{IsActorOf};
-ghost use Rattle.lio_audit.specs.Expected.{CouldGoOn, IsLineOf};
+ghost use Rattle.lio_audit.specs.Expected.{CouldGoOn, CouldNotGoOn, IsLineOf, IsNext};
+ghost use Rattle.lio_audit.specs.Expected.{NoneIsNext};
 ghost use Rattle.lio_audit.specs.History.{most_history_bytes};
 ghost use Rattle.lio_audit.specs.Replay.{Stands};
 
@@ -19,11 +20,13 @@ use lio_syntax::Script;
 use lio_task::{Config, StepFault};
 use std::alloc::Global;
 
-/// The task whose turn comes next: the one that these bytes show, or where there are none, the first
-/// that can take one.
+/// The task whose turn comes next: the one that these bytes show, or where there are none, the
+/// first that can take one.
 fn next_task(config: &Config, script: &Script, bytes: &[u8]) -> Option<u32>
     requires { IsSound (configuration_of script.now config.now) }
-    ensures { IfSome result (λ k. (bytes.now ≡ []) ⊎ IsActorOf bytes.now k) }
+    ensures { MatchOption result
+        (NoneIsNext (configuration_of script.now config.now) bytes.now)
+        (IsNext (configuration_of script.now config.now) bytes.now) }
 {
     if bytes.is_empty() {
         first_to_move(config, script)
@@ -43,7 +46,8 @@ fn line_of(
 ) -> Result<Option<Vec<u8>>, NoMemory>
     requires sound { IsSound (configuration_of script.now config.now) }
     requires named { NamesOnly names.now (configuration_of script.now config.now) }
-    ensures { IfOk result (λ text. IfSome text
+    ensures { IfOk result (λ text. MatchOption text
+        (can (configuration_of script.now config.now) k ≡ false)
         (λ t. IsLineOf names.now (configuration_of script.now config.now) k ticket t.items)) }
 {
     match config.next_entry(alloc, script, k, ticket) {
@@ -72,7 +76,8 @@ fn line_behind(
     requires nothing { journal.old ≡ [] }
     requires first { 1 ≤ line }
     requires few { length bytes.now ≤ most_history_bytes }
-    ensures { IfOk result (λ text. IfSome text
+    ensures { IfOk result (λ text. MatchOption text
+        (CouldNotGoOn names.now (configuration_of script.now config.old) bytes.now line)
         (λ t. CouldGoOn names.now (configuration_of script.now config.old) bytes.now line
         t.items)) }
 {
@@ -104,8 +109,8 @@ fn line_behind(
 
 /// The line with which a history that stops at a line, from 1, should have gone on there, from a
 /// configuration in which no node has served a turn: that of the turn of the task that the line
-/// shows, or where the line is missing, of the first task that can take one. Nothing where that task
-/// can't, or the history stops before.
+/// shows, or where the line is missing, of the first task that can take one. Nothing where that
+/// task can't, or the history stops before.
 pub fn expected_line(
     alloc: Global,
     mut config: Config,
@@ -119,12 +124,10 @@ pub fn expected_line(
     requires named { NamesOnly names.now (configuration_of script.now config) }
     requires few { length bytes.now ≤ most_history_bytes }
     requires line { 1 ≤ line }
-    ensures { IfOk result (λ text. IfSome text
+    ensures { IfOk result (λ text. MatchOption text
+        (CouldNotGoOn names.now (configuration_of script.now config) bytes.now line)
         (λ t. CouldGoOn names.now (configuration_of script.now config) bytes.now line t.items)) }
 {
     let mut journal = Journal::new(alloc);
-    let text = line_behind(alloc, &mut config, &mut journal, script, bytes, line, names);
-    drop(journal);
-    drop(config);
-    text
+    line_behind(alloc, &mut config, &mut journal, script, bytes, line, names)
 }

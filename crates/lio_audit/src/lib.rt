@@ -13,7 +13,7 @@ pub mod view_laws;
 
 pub use expected::expected_line;
 pub use fault::AuditFault;
-pub use observer::low_start;
+pub use observer::{low_start, low_start_of};
 pub use replay::{MOST_HISTORY_BYTES, check_journal};
 pub use rerun::rerun_view;
 pub use view::check_view;

@@ -10,7 +10,7 @@ ghost use Rattle.lio_calculus_runs.specs.Configuration.{NamesOnly};
 ghost use Rattle.lio_calculus_runs.specs.Rounds.{IsComplete};
 ghost use Rattle.lio_task.specs.Configuration.{configuration_of};
 ghost use Rattle.lio_task.specs.Logs.{AreFresh};
-ghost use Rattle.lio_audit.specs.History.{IsHistoryOf, Says, most_history_bytes};
+ghost use Rattle.lio_audit.specs.History.{IsOneHistoryOf, Says, most_history_bytes};
 ghost use Rattle.lio_audit.specs.Replay.{LineEndsAt, Refuses, Stands, TakesLine};
 
 use crate::fault::AuditFault;
@@ -119,7 +119,7 @@ fn replay(
     requires stands { Stands names.now script.now config.old journal.old }
     requires nothing { journal.old ≡ [] }
     requires few { length bytes.now ≤ most_history_bytes }
-    ensures ok { OnOk result (IsHistoryOf names.now (configuration_of script.now config.old)
+    ensures ok { OnOk result (IsOneHistoryOf names.now (configuration_of script.now config.old)
         bytes.now (record {
           entries = journal.new;
           last = configuration_of script.now config.new;
@@ -127,6 +127,7 @@ fn replay(
     ensures err { IfErr result
         (Says names.now (configuration_of script.now config.old) bytes.now) }
 {
+    let _ = names.len();
     let mut at = 0;
     while at < bytes.len() {
         at += take_line(alloc, config, journal, script, &bytes[at..], names)?;
@@ -150,7 +151,7 @@ pub fn check_journal(
     requires sound { IsSound (configuration_of script.now config) }
     requires fresh { AreFresh config }
     requires named { NamesOnly names.now (configuration_of script.now config) }
-    ensures ok { IfOk result (λ it. IsHistoryOf names.now
+    ensures ok { IfOk result (λ it. IsOneHistoryOf names.now
         (configuration_of script.now config) bytes.now (record {
           entries = it.0;
           last = configuration_of script.now it.1;
@@ -159,16 +160,11 @@ pub fn check_journal(
         (Says names.now (configuration_of script.now config) bytes.now) }
 {
     if bytes.len() > MOST_HISTORY_BYTES {
-        drop(config);
         return Err(AuditFault::NotARun(0));
     }
     let mut journal = Journal::new(alloc);
     match replay(alloc, &mut config, &mut journal, script, bytes, names) {
         Ok(()) => Ok((journal, config)),
-        Err(fault) => {
-            drop(journal);
-            drop(config);
-            Err(fault)
-        }
+        Err(fault) => Err(fault),
     }
 }

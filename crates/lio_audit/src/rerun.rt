@@ -6,7 +6,7 @@ ghost use Rattle.lio_syntax.specs.Statements.{Procedure};
 ghost use Rattle.lio_calculus_runs.specs.Rounds.{tasks};
 ghost use Rattle.lio_erasure.specs.Low.{IsSeenOfSound, LeavesOutBlanks, low_cell_of};
 ghost use Rattle.lio_erasure.specs.Low.{low_configuration_of};
-ghost use Rattle.lio_rounds.specs.Births.{listed};
+ghost use Rattle.lio_task.specs.Outcome.{listed};
 ghost use Rattle.lio_audit.specs.Rerun.{AreRoundsOf, CanBePrinted, RerunSays};
 
 use crate::observer::low_from;
@@ -15,9 +15,8 @@ use lio_clauses::NoMemory;
 use lio_erasure::{Low, LowConfig, LowFault};
 use lio_events::{Contents, Journal};
 use lio_labels::Label;
-use lio_rounds::born_in;
 use lio_syntax::Script;
-use lio_task::Holder;
+use lio_task::{Holder, born_in};
 use std::alloc::Global;
 
 /// Puts a child last in an order, if there is one.
@@ -156,18 +155,12 @@ pub fn rerun_view(
     match rerun.run(alloc) {
         Ok(()) => {
             let Rerun {
-                low,
                 releases,
                 journal,
-                order,
+                ..
             } = rerun;
-            drop(low);
-            drop(order);
             Ok((journal, releases))
         }
-        Err(fault) => {
-            drop(rerun);
-            Err(fault)
-        }
+        Err(fault) => Err(fault),
     }
 }

@@ -147,6 +147,7 @@ fn follow_lines(
     ensures err { IfErr result (SeenSays names.now observer.now (low_of low.old).configuration
         bytes.now) }
 {
+    let _ = names.len();
     let mut at = 0;
     let mut lines = 0;
     while at < bytes.len() {
@@ -184,11 +185,8 @@ pub fn check_view(
         (low_configuration_of script.now longest start) bytes.now) }
 {
     if bytes.len() > MOST_HISTORY_BYTES {
-        drop(start);
         return Err(ViewFault::NotAView(0));
     }
     let mut low = low_from(alloc, start, observer, script, longest)?;
-    let lines = follow_lines(alloc, &mut low, observer, bytes, names);
-    drop(low);
-    lines
+    follow_lines(alloc, &mut low, observer, bytes, names)
 }

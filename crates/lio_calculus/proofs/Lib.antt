@@ -45,3 +45,4 @@ pub mod PurityLemmas
 pub mod JournalLemmas
 pub mod FoldLemmas
 pub mod LocalRunLemmas
+pub mod MergeLemmas

@@ -14,9 +14,13 @@ pub record IsRunOfLogs (c : Configuration) (logs : Logs) (journal : List Entry) 
   pub is_run : run 0 c (actors journal) ≡ Some (record { entries = journal; last = folded c logs })
   pub sound : IsSound (folded c logs)
 
--- the merge of logs whose entries are each local is a run
+-- logs in which each ticket below a number stands in one entry, and no other ticket does, have a merge
+abbrev pub LogsHaveAMerge : Type 0
+LogsHaveAMerge = (c : Configuration) (logs : Logs) (count : ℕ) → IsLogged c logs count → (journal : List Entry) × IsMerged logs journal
+
+-- logs whose entries are each local have a merge, and it is a run
 abbrev pub LocalEntriesMakeARun : Type 0
-LocalEntriesMakeARun = (c : Configuration) (logs : Logs) (count : ℕ) (journal : List Entry) → IsSound c → IsLogged c logs count → IsMerged logs journal → IsRunOfLogs c logs journal
+LocalEntriesMakeARun = (c : Configuration) (logs : Logs) (count : ℕ) → IsSound c → IsLogged c logs count → (journal : List Entry) × IsMerged logs journal × IsRunOfLogs c logs journal
 
 -- the parts of a journal with the tickets from 0 on are such logs, where each of its entries is local
 abbrev pub PartsOfAJournalAreLogged : Type 0

@@ -11,7 +11,7 @@ use Rattle.lio_cells.specs.declared.state.State.{State}
 use Rattle.lio_cells.specs.declared.waiter.Waiter.{Waiter}
 use Rattle.lio_cells.specs.State.{grants, state_after}
 use Rattle.lio_cells.specs.Log.{KeepsFirst, LogState, first_of, folded, with_ticket}
-use Rattle.lio_cells.specs.Node.{IsKept, NodeState, at_rest, node_of, served_node}
+use Rattle.lio_cells.specs.Node.{IsKept, NodeState, node_of, served_node}
 
 -- a state that is kept is the first one, whatever the state is now
 pub first-kept : (first : Option State) (one other : State) → IsSome first → first_of first one ≡ first_of first other

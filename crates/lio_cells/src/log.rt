@@ -49,9 +49,9 @@ fn copy_first(alloc: Global, first: &Option<State>) -> Result<Option<State>, NoM
     }
 }
 
-/// The entries that a node has served, the state that it began with, and the entry of a turn that is
-/// prepared, which waits for its ticket. That state is kept from the first such entry on; until then
-/// it is the one that the node has.
+/// The entries that a node has served, the state that it began with, and the entry of a turn that
+/// is prepared, which waits for its ticket. That state is kept from the first such entry on; until
+/// then it is the one that the node has.
 #[derive(Drop)]
 pub struct Log {
     first: Option<State>,

@@ -185,9 +185,9 @@ impl Node {
         self.log.keep(alloc, &self.state, entry)
     }
 
-    /// Keeps ready what a turn with this entry needs in this node: what the state needs for its act,
-    /// and a copy of the entry with a place in the log. After a refusal the node keeps nothing ready.
-    /// All else is as before.
+    /// Keeps ready what a turn with this entry needs in this node: what the state needs for its
+    /// act, and a copy of the entry with a place in the log. After a refusal the node keeps nothing
+    /// ready. All else is as before.
     pub fn reserve(&mut self, alloc: Global, entry: &Entry) -> Result<(), NoMemory>
         ensures ok { OnOk result (self.new ≡ record self.old {
           room = room_for self.old.state entry.now.act;
@@ -213,8 +213,8 @@ impl Node {
         self.log.pending()
     }
 
-    /// Serves the turn for which it is ready, with its ticket: its act changes the state by what was
-    /// reserved for it, and its entry comes last in the log. It takes no memory.
+    /// Serves the turn for which it is ready, with its ticket: its act changes the state by what
+    /// was reserved for it, and its entry comes last in the log. It takes no memory.
     pub fn serve(&mut self, ticket: u64)
         requires { MayServe self.old ticket }
         ensures { (entry : Entry) → self.old.pending ≡ Some entry

@@ -78,8 +78,8 @@ impl LowConfig {
         }
     }
 
-    /// Whether a task can take a turn: it hasn't ended, and has no turns left or stands at no access
-    /// that has to wait.
+    /// Whether a task can take a turn: it hasn't ended, and has no turns left or stands at no
+    /// access that has to wait.
     pub(crate) fn can_go_on(&self, script: &Script, task: &Task) -> bool
         ensures { (longest : ℕ) → result ≡ moves_at
             (low_configuration_of script.now longest self.now)

@@ -35,7 +35,7 @@ no_colon_whole : (z : ℤ) (rest : List ℕ) → is_whole z ≡ true → is_no_c
 no_colon_whole (pos n) rest e = let small : n < 2 ^ 64 = grind (arith, nat_tests) in no_colon_digits (decimal n) rest (decimal_nonempty n small) (digits_decimal own n small)
 no_colon_whole (negsuc n) rest e = refl
 
-no_colon : (names : List (List ℕ)) (value : Value) (rest : List ℕ) → ValueFits value → is_no_colon (value_text names value ++ rest) ≡ true
+pub no_colon : (names : List (List ℕ)) (value : Value) (rest : List ℕ) → ValueFits value → is_no_colon (value_text names value ++ rest) ≡ true
 no_colon names (Sealed label content) rest fits = refl
 no_colon names (Bare (Whole z)) rest fits = no_colon_whole z rest fits
 no_colon names (Bare (Flag true)) rest fits = refl
@@ -62,7 +62,7 @@ none_left names found text all rest e left = by left.more left.are left.over lef
         let yes : begins_argument text ≡ true = ap begins_argument here ∙ no_colon names value (args_text names more ++ (colon ++ rest)) (over 0 value (omega arith)).1 in
         absurd (true≢false (sym yes ∙ e))
 
-args_end : (names : List (List ℕ)) (more : List Value) (rest : List ℕ) → Ends (args_text names more ++ (colon ++ rest))
+pub args_end : (names : List (List ℕ)) (more : List Value) (rest : List ℕ) → Ends (args_text names more ++ (colon ++ rest))
 args_end names [] rest = refl
 args_end names (value ∷ more) rest = refl
 
@@ -87,7 +87,7 @@ pub one_is_over : (names : List (List ℕ)) (value : Value) → IsValueOver name
 one_is_over names value over zero d within = over
 one_is_over names value over (suc k) d within = absurd (omega arith)
 
-regroup : (s p l t f c a end : List ℕ) → (((((((((s ++ p) ++ l) ++ s) ++ t) ++ s) ++ f) ++ s) ++ c) ++ a) ++ end ≡ (s ++ p) ++ (l ++ ((s ++ t) ++ ((s ++ f) ++ ((s ++ c) ++ (a ++ end)))))
+pub regroup : (s p l t f c a end : List ℕ) → (((((((((s ++ p) ++ l) ++ s) ++ t) ++ s) ++ f) ++ s) ++ c) ++ a) ++ end ≡ (s ++ p) ++ (l ++ ((s ++ t) ++ ((s ++ f) ++ ((s ++ c) ++ (a ++ end)))))
 regroup s p l t f c a end = simp append_assoc
 
 pub finds_birth : (names : List (List ℕ)) (old : List ℕ) (proc_at : ℕ) (one : List ℕ) (result clearance : Label) (two : List ℕ) (turns : ℕ) (three : List ℕ) (first : ℕ) (four : List ℕ) (cells : ℕ) (five : List ℕ)

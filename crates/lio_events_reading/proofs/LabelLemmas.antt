@@ -25,17 +25,21 @@ clean_inside : (byte : ℕ) → is_clean byte ≡ true → is_inside byte ≡ tr
 clean_inside byte e = (and_parts (is_inline byte) (is_in_label byte) e).1
 
 -- no label's text has the sign that ends it
-inside_label : (names : List (List ℕ)) (label : Label) → AreNames names → AreNamed names label → IsInside (label_text names label)
+pub inside_label : (names : List (List ℕ)) (label : Label) → AreNames names → AreNamed names label → IsInside (label_text names label)
 inside_label names label known named = list_all-weaker is_clean is_inside clean_inside (label_text names label) (clean_label names label known named)
 
--- nor has a formula's
-inside_formula : (names A : List (List ℕ)) → AreNames names → formula.AreNamed names A → IsInside (formula_text names A)
-inside_formula names A known named =
+-- the bytes of a formula's text are those of a label's
+pub clean_formula : (names A : List (List ℕ)) → AreNames names → formula.AreNamed names A → list_all is_clean (formula_text names A) ≡ true
+clean_formula names A known named =
     let label : Label = record { secrecy = A; integrity = [] } in
     let all : list_all is_clean ((formula_text names A ++ codes " %% ") ++ codes "True") ≡ true = clean_label names label known (named, λ k d within. absurd (omega arith)) in
     let more = and_parts (list_all is_clean (formula_text names A ++ codes " %% ")) (list_all is_clean (codes "True")) (sym (list_all-append is_clean (formula_text names A ++ codes " %% ") (codes "True")) ∙ all) in
     let most = and_parts (list_all is_clean (formula_text names A)) (list_all is_clean (codes " %% ")) (sym (list_all-append is_clean (formula_text names A) (codes " %% ")) ∙ more.0) in
-    list_all-weaker is_clean is_inside clean_inside (formula_text names A) most.0
+    most.0
+
+-- so it doesn't have the sign either
+pub inside_formula : (names A : List (List ℕ)) → AreNames names → formula.AreNamed names A → IsInside (formula_text names A)
+inside_formula names A known named = list_all-weaker is_clean is_inside clean_inside (formula_text names A) (clean_formula names A known named)
 
 pub finds_label : (names : List (List ℕ)) (old inside left : List ℕ) (found : Label) → AreNames names → Finds bracketed IsInside old inside left → IfOk (reading names inside) (λ label. found ≡ label)
     → Finds (label_in_brackets names) (IsLabelOver names) old found left

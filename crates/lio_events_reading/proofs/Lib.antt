@@ -10,5 +10,7 @@ pub mod ReplyLemmas
 pub mod ActLemmas
 pub mod BirthLemmas
 pub mod LineLemmas
+pub mod EndLemmas
+pub mod OneTextLemmas
 mod AllLemmas
 mod ItemLemmas

@@ -73,13 +73,20 @@ behind_ticket : (d s l r : List ℕ) → ((d ++ s) ++ l) ++ r ≡ d ++ (s ++ (l 
 behind_ticket d s l r = simp append_assoc
 
 pub finds_actor : (bytes word mid next : List ℕ) (actor : ℕ) (left : List ℕ) → Finds (λ word. word) IsWord bytes word mid → next ≡ drop 1 mid → Finds decimal (λ n. n < 2 ^ 32) next actor left → IsActorOf bytes actor
+finds_actor bytes word mid next actor left finds d number ticket n rest wide short ends is =
+    let blank : List ℕ = codes " " in
+    let w = finds (decimal ticket) (blank ++ (decimal n ++ rest)) (digits_word ticket wide) refl is in
+    (number n rest short ends (d ∙ ap (λ bytes. drop 1 bytes) w.1)).0
+
+-- so it is the actor of the entry whose line stands there
+pub actor_of_line : (bytes : List ℕ) (actor : ℕ) → IsActorOf bytes actor → (names : List (List ℕ)) (entry : Entry) (rest : List ℕ) → entry.ticket < 2 ^ 64 → entry.actor < 2 ^ 32 → bytes ≡ entry_text names true entry ++ rest
+    → actor ≡ entry.actor
 unfolding entry_text line_text
-finds_actor bytes word mid next actor left finds d number names entry rest wide short is =
+actor_of_line bytes actor finds names entry rest wide short is =
     let blank : List ℕ = codes " " in
     let end : List ℕ = codes "\n" in
-    let w = finds (decimal entry.ticket) (blank ++ (line_text names entry ++ rest)) (digits_word entry.ticket wide) refl (is ∙ behind_ticket (decimal entry.ticket) blank (line_text names entry) rest) in
-    (number entry.actor _ short refl (d ∙ ap (λ bytes. drop 1 bytes) w.1
-    ∙ behind_actor (decimal entry.actor) blank (target_text entry.target) (label_in_brackets names entry.at) (act_text names entry.act) colon (reply_text names entry.reply) end rest)).0
+    finds entry.ticket entry.actor _ wide short refl (is ∙ behind_ticket (decimal entry.ticket) blank (line_text names entry) rest
+    ∙ ap (λ (bytes : List ℕ). decimal entry.ticket ++ (blank ++ bytes)) (behind_actor (decimal entry.actor) blank (target_text entry.target) (label_in_brackets names entry.at) (act_text names entry.act) colon (reply_text names entry.reply) end rest))
 
 -- so lines with the same ticket at the front of the same bytes are of one actor
 pub same_actor : (names : List (List ℕ)) (one two : Entry) (r s : List ℕ) → one.ticket ≡ two.ticket → one.actor < 2 ^ 32 → two.actor < 2 ^ 32 → entry_text names true one ++ r ≡ entry_text names true two ++ s → one.actor ≡ two.actor

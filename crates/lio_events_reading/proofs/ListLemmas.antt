@@ -1,5 +1,5 @@
 -- Lists are found.
-use Rattle.std.proofs.Common.{◌≡◌, ◌≢◌, ℕ, ◌+◌, ◌-◌, ◌^◌, ◌<◌, ◌≤◌, ◌==◌, true, false, zero, suc, All, IsTrue, List, [], ◌∷◌, ◌++◌, length, drop, refl, ap, sym, subst, ◌∙◌, arith, append_assoc, codes, true≢false, not, ne_eqb, append-nil, ℤ, pos, negsuc}
+use Rattle.std.proofs.Common.{◌≡◌, ℕ, ◌-◌, ◌^◌, ◌<◌, ◌≤◌, ◌==◌, true, false, zero, suc, All, IsTrue, List, [], ◌∷◌, ◌++◌, length, drop, refl, ap, sym, subst, ◌∙◌, arith, append_assoc, codes, true≢false, not, ne_eqb, append-nil, ℤ, pos, negsuc}
 use Rattle.std.specs.Prelude.{decimal}
 use Rattle.std.specs.Fmt.{signed_decimal}
 use Rattle.std.specs.List.{list_all}
@@ -41,7 +41,7 @@ no_end_whole : (z : ℤ) (rest : List ℕ) → is_whole z ≡ true → is_no_end
 no_end_whole (pos n) rest e = let small : n < 2 ^ 64 = grind (arith, nat_tests) in no_end_digits (decimal n) rest (decimal_nonempty n small) (digits_decimal own n small)
 no_end_whole (negsuc n) rest e = refl
 
-no_end : (names : List (List ℕ)) (value : Value) (rest : List ℕ) → ValueFits value → is_no_end (value_text names value ++ rest) ≡ true
+pub no_end : (names : List (List ℕ)) (value : Value) (rest : List ℕ) → ValueFits value → is_no_end (value_text names value ++ rest) ≡ true
 no_end names (Sealed label content) rest fits = refl
 no_end names (Bare (Whole z)) rest fits = no_end_whole z rest fits
 no_end names (Bare (Flag true)) rest fits = refl
@@ -87,7 +87,7 @@ none_left names over fits found text next all rest e d left = by found left.more
         absurd (true≢false (sym yes ∙ e))
 
 -- behind an item a word may end
-further_end : (names : List (List ℕ)) (more : List Value) (rest : List ℕ) → Ends (further_text names (forest_of more) ++ (codes "]" ++ rest))
+pub further_end : (names : List (List ℕ)) (more : List Value) (rest : List ℕ) → Ends (further_text names (forest_of more) ++ (codes "]" ++ rest))
 further_end names [] rest = refl
 further_end names (value ∷ more) rest = refl
 
@@ -116,11 +116,11 @@ one_less names over found text one value next all rest e d finds left = by found
         go (first ∷ found) v more are o (d ∙ ap (λ bytes. drop 2 bytes) stands ∙ append_assoc (value_text names v) (further_text names (forest_of more)) (codes "]" ++ rest)) (λ x. refl)
 
 -- what holds of each item
-abbrev each : (Item → Type 0) → Forest → Type 0
+abbrev pub each : (Item → Type 0) → Forest → Type 0
 each over Nothing = Unit {0}
 each over (Then item items) = over item × each over items
 
-apart : (over : Item → Type 0) (items : Forest) → each over items → All (λ value. over (item_of value)) (values_of items)
+pub apart : (over : Item → Type 0) (items : Forest) → each over items → All (λ value. over (item_of value)) (values_of items)
 apart over Nothing o k def within = absurd (omega arith)
 apart over (Then item items) o zero def within = subst over (sym (item_of-value_of item)) o.0
 apart over (Then item items) o (suc k) def within = apart over items o.1 k def (omega arith)
@@ -130,7 +130,7 @@ together over [] o = tt
 together over (value ∷ values) o = (o 0 value (omega arith), together over values (λ k def within. o (suc k) def (omega arith)))
 
 -- an item of a list of this depth
-abbrev IsItemWithin : List (List ℕ) → (Item → Type 0) → ℕ → Item → Type 0
+abbrev pub IsItemWithin : List (List ℕ) → (Item → Type 0) → ℕ → Item → Type 0
 IsItemWithin names pure depth item = (IsItemNamed names item × ItemFits item × pure item) × (item_depth item ≤ depth)
 
 -- what is known of a list's items, and so of each
@@ -139,11 +139,11 @@ record AreWithin (names : List (List ℕ)) (depth : ℕ) (items : Forest) : Type
   fit : ItemsFit items
   deep : deepest items ≤ depth
 
-values_each : (names : List (List ℕ)) (depth : ℕ) (items : Forest) → AreItemsNamed names items → ItemsFit items → KeepPureItems items → deepest items ≤ depth → each (IsItemWithin names KeepsPureItem depth) items
+pub values_each : (names : List (List ℕ)) (depth : ℕ) (items : Forest) → AreItemsNamed names items → ItemsFit items → KeepPureItems items → deepest items ≤ depth → each (IsItemWithin names KeepsPureItem depth) items
 values_each names depth Nothing n f p d = tt
 values_each names depth (Then item items) n f p d = (((n.0, f.0, p.0), omega (arith, d)), values_each names depth items n.1 f.1 p.1 (omega (arith, d)))
 
-pures_each : (names : List (List ℕ)) (depth : ℕ) (items : Forest) → AreItemsNamed names items → ItemsFit items → IsTrue (items_are_pure items) → deepest items ≤ depth
+pub pures_each : (names : List (List ℕ)) (depth : ℕ) (items : Forest) → AreItemsNamed names items → ItemsFit items → IsTrue (items_are_pure items) → deepest items ≤ depth
     → each (IsItemWithin names (λ item. IsTrue (item_is_pure item)) depth) items
 pures_each names depth Nothing n f p d = tt
 pures_each names depth (Then item items) n f p d =

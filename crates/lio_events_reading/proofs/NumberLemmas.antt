@@ -36,7 +36,7 @@ finds_long old word left found finds number n rest small e is =
 short_is : (long short n : ℕ) → (long < 2 ^ 32 → short ≡ long) → n < 2 ^ 32 → long ≡ n → short ≡ n
 short_is long short n f small e = let within : long < 2 ^ 32 = subst (λ (m : ℕ). m < 2 ^ 32) (sym e) small in f within ∙ e
 
-no_dash : (byte : ℕ) → is_digit byte ≡ true → byte ≡ 45 → ⊥
+pub no_dash : (byte : ℕ) → is_digit byte ≡ true → byte ≡ 45 → ⊥
 no_dash byte e f = let g : is_digit 45 ≡ true = ap is_digit (sym f) ∙ e in absurd (true≢false (sym g))
 
 pub finds_no_target : (old word left : List ℕ) → Finds (λ word. word) IsWord old word left → get_or old 0 0 ≡ 45 → Finds target_text TargetFits old None left

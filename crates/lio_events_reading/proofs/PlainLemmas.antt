@@ -69,7 +69,7 @@ starts_plain names (ChanOf handle) rest fits = refl
 starts_plain names (Items items) rest fits = refl
 
 -- a whole is a word, and begins with none of the words of privileges and handles
-whole_word : (z : ℤ) → is_whole z ≡ true → IsWord (signed_decimal z)
+pub whole_word : (z : ℤ) → is_whole z ≡ true → IsWord (signed_decimal z)
 whole_word (pos n) e = let small : n < 2 ^ 64 = grind (arith, nat_tests) in digits_word n small
 whole_word (negsuc n) e = let small : suc n < 2 ^ 64 = grind (arith, nat_tests) in digits_word (suc n) small
 
@@ -82,7 +82,7 @@ no_word_of_digits : (digits : List ℕ) → 0 < length digits → list_all is_di
 no_word_of_digits [] some all = absurd (omega arith)
 no_word_of_digits (byte ∷ bytes) some all = no_plain_word byte bytes (and_parts (is_digit byte) (list_all is_digit bytes) all).0
 
-whole_is_no_word : (z : ℤ) → is_whole z ≡ true → plain_of (signed_decimal z) ≡ None
+pub whole_is_no_word : (z : ℤ) → is_whole z ≡ true → plain_of (signed_decimal z) ≡ None
 whole_is_no_word (pos n) e =
     let small : n < 2 ^ 64 = grind (arith, nat_tests) in no_word_of_digits (decimal n) (decimal_nonempty n small) (digits_decimal own n small)
 whole_is_no_word (negsuc n) e = refl

@@ -35,7 +35,7 @@ kind_begins_plain : (plain : Plain) → begins_plain (start_kind plain) ≡ true
 kind_begins_plain plain.Unit = refl
 kind_begins_plain other = refl
 
-no_such : (plain : Plain) (s : Start) → begins_plain s ≡ false → s ≡ start_kind plain → ⊥
+pub no_such : (plain : Plain) (s : Start) → begins_plain s ≡ false → s ≡ start_kind plain → ⊥
 no_such value s none e = let yes : begins_plain s ≡ true = ap begins_plain e ∙ kind_begins_plain value in true≢false (sym yes ∙ none)
 
 pub finds_fault : (names : List (List ℕ)) (old : List ℕ) (kind : FaultKind) (mid next : List ℕ) (at : Label) (left : List ℕ) → Finds (kind_text names) (IsKindOver names) old kind mid → next ≡ drop 4 mid

@@ -3,6 +3,7 @@ pub mod Births
 pub mod Cut
 pub mod Fits
 pub mod Labels
+pub mod Laws
 pub mod Lines
 pub mod Lists
 pub mod Numbers

@@ -72,12 +72,14 @@ fn quoted_len(bytes: &[u8]) -> usize
 }
 
 impl<'a> Cursor<'a> {
-    ghost use Rattle.std.specs.Prelude.{◌≡◌, ◌≤◌, ◌+◌, ◌++◌, ℕ, List, take, drop, length, codes, IsTrue};
+    ghost use Rattle.std.specs.Prelude.{◌≡◌, ◌≤◌, ◌+◌, ◌++◌, ℕ, List, take, drop, length, codes};
+    ghost use Rattle.std.specs.Prelude.{IsTrue};
     ghost use Rattle.std.specs.List.{list_all, prefix_len};
     ghost use Rattle.lio_values.specs.Quoted.{quoted};
     ghost use Rattle.lio_syntax_lines.specs.Literals.{is_byte};
     ghost use Rattle.lio_events_reading.specs.Reading.{Ends, Finds};
-    ghost use Rattle.lio_events_reading.specs.Cut.{is_inside, bracketed, IsWord, IsInside, AreBytes};
+    ghost use Rattle.lio_events_reading.specs.Cut.{is_inside, bracketed, IsWord, IsInside};
+    ghost use Rattle.lio_events_reading.specs.Cut.{AreBytes};
 
     /// All of a line.
     pub(crate) fn new(line: &'a [u8]) -> Cursor<'a>

@@ -5,7 +5,8 @@ ghost use Rattle.lio_labels.specs.LabelText as label;
 ghost use Rattle.lio_values.specs.PlainText.{label_in_brackets};
 ghost use Rattle.lio_events_reading.specs.Over.{IsLabelOver, IsPowerOver};
 ghost use Rattle.lio_events_reading.specs.Labels as spec;
-ghost use Rattle.lio_events_reading.specs.Labels.{AreLabelsOver, blank_power, both_text, power_inside};
+ghost use Rattle.lio_events_reading.specs.Labels.{AreLabelsOver, blank_power, both_text};
+ghost use Rattle.lio_events_reading.specs.Labels.{power_inside};
 ghost use Rattle.lio_events_reading.specs.Reading.{Finds};
 
 use crate::cursor::Cursor;

@@ -5,9 +5,11 @@ ghost use Rattle.lio_values.specs.PlainText.{plain_text};
 ghost use Rattle.lio_values.specs.Quoted.{quoted};
 ghost use Rattle.lio_syntax_lines.specs.Literals.{literal_of};
 ghost use Rattle.lio_events_reading.specs.Cut.{AreBytes};
-ghost use Rattle.lio_events_reading.specs.Over.{IsHandleOver, IsPlainOver, IsPureOver, IsPureWithin};
+ghost use Rattle.lio_events_reading.specs.Over.{IsHandleOver, IsPlainOver, IsPureOver};
+ghost use Rattle.lio_events_reading.specs.Over.{IsPureWithin};
 ghost use Rattle.lio_events_reading.specs.Plains as spec;
-ghost use Rattle.lio_events_reading.specs.Plains.{word_of_plain, IsSingle, IsSingleOver, IsWordedOver};
+ghost use Rattle.lio_events_reading.specs.Plains.{word_of_plain, IsSingle, IsSingleOver};
+ghost use Rattle.lio_events_reading.specs.Plains.{IsWordedOver};
 ghost use Rattle.lio_events_reading.specs.Plains.{handle_behind};
 ghost use Rattle.lio_events_reading.specs.Reading.{Finds};
 

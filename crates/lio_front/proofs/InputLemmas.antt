@@ -3,6 +3,7 @@ use Rattle.std.proofs.Common.{◌≡◌, ◌∙◌, sym, ap, refl, subst, ℕ, s
 use Rattle.std.proofs.Math.Seq.{take-suc}
 use Rattle.std.proofs.lemmas.List.{take-append-drop, take_all}
 use Rattle.lio_outside.specs.FileMap.{FileMap}
+use Rattle.lio_outside.specs.Count.{Faults}
 use Rattle.lio_outside.specs.Steps.{Steps, Over, ◌>>=◌, asked}
 use Rattle.lio_outside.specs.Asking.{Cause, Give, Refuse}
 use Rattle.lio_outside.proofs.StepsLemmas.{give-then, refuse-behind, refuse-first}
@@ -46,18 +47,18 @@ give-each told longest (i ∷ inputs) (t ∷ given) each =
     (give-then told (texts longest inputs) (λ others. Over (Ok (t ∷ others))) given (Ok (t ∷ given)) (give-each told longest inputs given each.1) refl)
 
 -- one isn't fetched, behind some that are given
-refuse-each : (cause : Cause) (told : Option FileMap) (longest : ℕ) (inputs : List FileEntry) (input : FileEntry) (after : List FileEntry) (given : List (List ℕ)) (begun middle ended : ℕ) (fault : Status)
-    → EachGave told longest inputs given → begun ≤ middle → middle ≤ ended → Refuse cause told (asked (Missing input.file) input.file longest) middle ended fault
+refuse-each : (cause : Cause) (told : Option FileMap) (longest : ℕ) (inputs : List FileEntry) (input : FileEntry) (after : List FileEntry) (given : List (List ℕ)) (begun middle ended : Faults) (fault : Status)
+    → EachGave told longest inputs given → begun.count ≤ middle.count → Refuse cause told (asked (Missing input.file) input.file longest) middle ended fault
     → Refuse cause told (texts longest (inputs ++ input ∷ after)) begun ended fault
-refuse-each cause told longest [] input after [] begun middle ended fault each below above says =
-    refuse-first cause told (asked (Missing input.file) input.file longest) (next longest after) begun ended ended fault (omega (arith, below, above)) (omega arith)
-    (refuse-behind cause told (Over (Ok input)) (λ i. asked (Missing i.file) i.file longest) input begun middle ended fault below above refl says)
-refuse-each cause told longest [] input after (t ∷ given) begun middle ended fault each below above says = absurd each
-refuse-each cause told longest (i ∷ inputs) input after [] begun middle ended fault each below above says = absurd each
-refuse-each cause told longest (i ∷ inputs) input after (t ∷ given) begun middle ended fault each below above says =
-    refuse-behind cause told (asked (Missing i.file) i.file longest) (next longest (inputs ++ input ∷ after)) t begun begun ended fault (omega arith) (omega (arith, below, above)) each.0
-    (refuse-first cause told (texts longest (inputs ++ input ∷ after)) (λ others. Over (Ok (t ∷ others))) begun ended ended fault (omega (arith, below, above)) (omega arith)
-    (refuse-each cause told longest inputs input after given begun middle ended fault each.1 below above says))
+refuse-each cause told longest [] input after [] begun middle ended fault each below says =
+    refuse-first cause told (asked (Missing input.file) input.file longest) (next longest after) begun ended fault
+    (refuse-behind cause told (Over (Ok input)) (λ i. asked (Missing i.file) i.file longest) input begun middle ended fault below refl says)
+refuse-each cause told longest [] input after (t ∷ given) begun middle ended fault each below says = absurd each
+refuse-each cause told longest (i ∷ inputs) input after [] begun middle ended fault each below says = absurd each
+refuse-each cause told longest (i ∷ inputs) input after (t ∷ given) begun middle ended fault each below says =
+    refuse-behind cause told (asked (Missing i.file) i.file longest) (next longest (inputs ++ input ∷ after)) t begun begun ended fault (omega arith) each.0
+    (refuse-first cause told (texts longest (inputs ++ input ∷ after)) (λ others. Over (Ok (t ∷ others))) begun ended fault
+    (refuse-each cause told longest inputs input after given begun middle ended fault each.1 below says))
 
 -- those around a place
 around : (entries : List FileEntry) (i : ℕ) (entry : FileEntry) → i < length entries → entry ≡ get_or entries i entry → entries ≡ take i entries ++ entry ∷ drop (i + 1) entries
@@ -65,12 +66,12 @@ around entries i entry below is =
     sym (take-append-drop i entries)
     ∙ ap (λ (rest : List FileEntry). take i entries ++ rest) (drop-cons entries i entry below ∙ ap (λ (e : FileEntry). e ∷ drop (suc i) entries) (sym is) ∙ ap (λ (n : ℕ). entry ∷ drop n entries) (sym (add-one i)))
 
-pub says-input : (told : Option FileMap) (longest : ℕ) (inputs : List FileEntry) (i : ℕ) (input : FileEntry) (given : List (List ℕ)) (begun middle ended : ℕ) (fault : Status)
-    → i < length inputs → input ≡ get_or inputs i input → EachGave told longest (take i inputs) given → begun ≤ middle → middle ≤ ended → Says told (asked (Missing input.file) input.file longest) middle ended fault
+pub says-input : (told : Option FileMap) (longest : ℕ) (inputs : List FileEntry) (i : ℕ) (input : FileEntry) (given : List (List ℕ)) (begun middle ended : Faults) (fault : Status)
+    → i < length inputs → input ≡ get_or inputs i input → EachGave told longest (take i inputs) given → begun.count ≤ middle.count → Says told (asked (Missing input.file) input.file longest) middle ended fault
     → Says told (texts longest inputs) begun ended fault
-says-input told longest inputs i input given begun middle ended fault below at each first second says =
+says-input told longest inputs i input given begun middle ended fault below at each first says =
     subst (λ (xs : List FileEntry). Says told (texts longest xs) begun ended fault) (sym (around inputs i input below at))
-    (refuse-each (cause_of fault) told longest (take i inputs) input (drop (i + 1) inputs) given begun middle ended fault each first second says)
+    (refuse-each (cause_of fault) told longest (take i inputs) input (drop (i + 1) inputs) given begun middle ended fault each first says)
 
 -- those before the next place
 pub take-next : (entries : List FileEntry) (i : ℕ) (entry : FileEntry) → i < length entries → entry ≡ get_or entries i entry → take (i + 1) entries ≡ take i entries ++ entry ∷ []

@@ -2,6 +2,7 @@
 use Rattle.std.proofs.Common.{◌≡◌, ◌∙◌, ap, refl, ℕ, ◌≤◌, arith, List, Option, Some, None, Ok, Err, inl, inr}
 use Rattle.std.specs.Prelude.{◌⊎◌}
 use Rattle.lio_outside.specs.FileMap.{FileMap}
+use Rattle.lio_outside.specs.Count.{Faults}
 use Rattle.lio_outside.specs.Steps.{Steps, Over, ◌>>=◌, asked, unless}
 use Rattle.lio_outside.proofs.StepsLemmas.{give-then, refuse-behind, refuse-first}
 use Rattle.lio_outside.specs.Asking.{Give}
@@ -32,7 +33,7 @@ pub policy_from-read : (text : List ℕ) (policy : Policy) → policy_of text �
 policy_from-read text policy is = rw is refl
 
 -- the policy isn't read
-pub says-bad_policy : (told : Option FileMap) (text : List ℕ) (before after : ℕ) (fault : PolicyFault) → (fault ≡ policy_fault.NoMemory) ⊎ (policy_of text ≡ Err fault) → Says told (Over (policy_from text)) before after (of_policy fault)
+pub says-bad_policy : (told : Option FileMap) (text : List ℕ) (before after : Faults) (fault : PolicyFault) → (fault ≡ policy_fault.NoMemory) ⊎ (policy_of text ≡ Err fault) → Says told (Over (policy_from text)) before after (of_policy fault)
 says-bad_policy told text before after (policy_fault.Bad rule entry) (inl is) = absurd (cc)
 says-bad_policy told text before after (policy_fault.Bad rule entry) (inr is) = rw is refl
 says-bad_policy told text before after policy_fault.NoMemory says = tt
@@ -53,12 +54,12 @@ unfolding script_from
 script_from-bad names text line rule is = ap (λ (place : Option Place). unless bad place (script_of_lines (said (parsed_lines names text)))) is
 
 -- the script isn't read
-pub says-bad_script : (told : Option FileMap) (names : List (List ℕ)) (text : List ℕ) (before after : ℕ) (fault : ScriptFault) → Refuses (syntax.script_fault names text) fault → Says told (Over (script_from names text)) before after (of_script fault)
+pub says-bad_script : (told : Option FileMap) (names : List (List ℕ)) (text : List ℕ) (before after : Faults) (fault : ScriptFault) → Refuses (syntax.script_fault names text) fault → Says told (Over (script_from names text)) before after (of_script fault)
 says-bad_script told names text before after (script_fault.Bad line rule) is = script_from-bad names text line rule is
 says-bad_script told names text before after script_fault.NoMemory is = tt
 
 -- a task can't begin
-pub says-bad_start : (told : Option FileMap) (policy : Policy) (procedures : List Procedure) (before after : ℕ) (fault : StartFault) → fits policy.tasks procedures ≡ Some fault
+pub says-bad_start : (told : Option FileMap) (policy : Policy) (procedures : List Procedure) (before after : Faults) (fault : StartFault) → fits policy.tasks procedures ≡ Some fault
     → Says told (Over (unless of_start (fits policy.tasks procedures) procedures)) before after (of_start fault)
 says-bad_start told policy procedures before after (start_fault.NoProc place) is = rw is refl
 says-bad_start told policy procedures before after (start_fault.Arity place) is = rw is refl
@@ -78,18 +79,18 @@ give-script told policy file text script gave is fit =
     (give-then told (Over (script_from policy.names text)) (behind_script policy) script (Ok script) is (ap (λ (fault : Option StartFault). unless of_start fault script) fit))
 
 -- it isn't read
-pub refuse-script : (told : Option FileMap) (policy : Policy) (file text : List ℕ) (before after : ℕ) (fault : Status) → before ≤ after → Give told (asked (Missing file) file 262144) (Ok text) → Says told (Over (script_from policy.names text)) after after fault
+pub refuse-script : (told : Option FileMap) (policy : Policy) (file text : List ℕ) (before after : Faults) (fault : Status) → before.count ≤ after.count → Give told (asked (Missing file) file 262144) (Ok text) → Says told (Over (script_from policy.names text)) after after fault
     → Says told (script_steps policy file) before after fault
 refuse-script told policy file text before after fault below gave says =
-    refuse-behind (cause_of fault) told (asked (Missing file) file 262144) (behind_text policy) text before after after fault below (omega arith) gave
-    (refuse-first (cause_of fault) told (Over (script_from policy.names text)) (behind_script policy) after after after fault (omega arith) (omega arith) says)
+    refuse-behind (cause_of fault) told (asked (Missing file) file 262144) (behind_text policy) text before after after fault below gave
+    (refuse-first (cause_of fault) told (Over (script_from policy.names text)) (behind_script policy) after after fault says)
 
 -- a task can't begin
-pub refuse-start : (told : Option FileMap) (policy : Policy) (file text : List ℕ) (script : List Procedure) (before after : ℕ) (fault : StartFault) → before ≤ after → Give told (asked (Missing file) file 262144) (Ok text) → script_from policy.names text ≡ Ok script
+pub refuse-start : (told : Option FileMap) (policy : Policy) (file text : List ℕ) (script : List Procedure) (before after : Faults) (fault : StartFault) → before.count ≤ after.count → Give told (asked (Missing file) file 262144) (Ok text) → script_from policy.names text ≡ Ok script
     → fits policy.tasks script ≡ Some fault → Says told (script_steps policy file) before after (of_start fault)
 refuse-start told policy file text script before after fault below gave is unfit =
-    refuse-behind (cause_of (of_start fault)) told (asked (Missing file) file 262144) (behind_text policy) text before after after (of_start fault) below (omega arith) gave
-    (refuse-behind (cause_of (of_start fault)) told (Over (script_from policy.names text)) (behind_script policy) script after after after (of_start fault) (omega arith) (omega arith) is
+    refuse-behind (cause_of (of_start fault)) told (asked (Missing file) file 262144) (behind_text policy) text before after after (of_start fault) below gave
+    (refuse-behind (cause_of (of_start fault)) told (Over (script_from policy.names text)) (behind_script policy) script after after after (of_start fault) (omega arith) is
     (says-bad_start told policy script after after fault unfit))
 
 abbrev behind_policy : List ℕ → Option (List ℕ) → Policy → Steps Front Status
@@ -103,8 +104,8 @@ give-load told policy script label read observer procedures first second =
     (give-then told (steps_under read script label) (λ under. Over (Ok (record { policy = read; script = under.1; observer = under.0 }))) (observer, procedures) (Ok (record { policy = read; script = procedures; observer = observer })) second refl)
 
 -- what is read under the policy is refused
-pub refuse-under : (told : Option FileMap) (policy script : List ℕ) (label : Option (List ℕ)) (read : Policy) (before middle after : ℕ) (fault : Status) → before ≤ middle → middle ≤ after → Give told (policy_steps policy) (Ok read)
+pub refuse-under : (told : Option FileMap) (policy script : List ℕ) (label : Option (List ℕ)) (read : Policy) (before middle after : Faults) (fault : Status) → before.count ≤ middle.count → Give told (policy_steps policy) (Ok read)
     → Says told (steps_under read script label) middle after fault → Says told (loading policy script label) before after fault
-refuse-under told policy script label read before middle after fault below above gave says =
-    refuse-behind (cause_of fault) told (policy_steps policy) (behind_policy script label) read before middle after fault below above gave
-    (refuse-first (cause_of fault) told (steps_under read script label) (λ under. Over (Ok (record { policy = read; script = under.1; observer = under.0 }))) middle after after fault above (omega arith) says)
+refuse-under told policy script label read before middle after fault below gave says =
+    refuse-behind (cause_of fault) told (policy_steps policy) (behind_policy script label) read before middle after fault below gave
+    (refuse-first (cause_of fault) told (steps_under read script label) (λ under. Over (Ok (record { policy = read; script = under.1; observer = under.0 }))) middle after fault says)

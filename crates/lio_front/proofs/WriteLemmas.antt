@@ -5,7 +5,8 @@ use Rattle.lio_outside.specs.FileMap.{FileMap}
 use Rattle.lio_outside.specs.Keep.{PartlyKept}
 use Rattle.lio_outside.specs.Outputs.{Output, kept, StopsAt}
 use Rattle.lio_outside.specs.Taken.{first_taken}
-use Rattle.lio_outside.proofs.CountLemmas.{Rose-in_part}
+use Rattle.lio_outside.specs.Count.{Faults}
+use Rattle.lio_outside.proofs.CountLemmas.{FailedAt-in_part}
 use Rattle.lio_outside.proofs.OutputLemmas.{AreApart, AreOthers, IsOneOf, apart-free, each-holds, keeps-before, keeps-behind, kept-append, one-before, one-behind, others-append, others-stay, stops-before, stops-behind}
 use Rattle.lio_values.specs.declared.entry.Entry.{Entry}
 use Rattle.lio_events.specs.JournalText.{journal_text}
@@ -28,17 +29,17 @@ if_err (Ok a) P Q then_ holds = holds
 if_err (Err e) P Q then_ holds = then_ e holds
 
 -- files that aren't all written, before others that aren't reached
-pub out-before : (told now : Option FileMap) (xs ys : List Output) (before middle after : ℕ) (fault : Status) → before ≤ middle → middle ≤ after → OutSays told now xs before middle fault → OutSays told now (xs ++ ys) before after fault
-out-before told now xs ys before middle after (WriteFault name) first second says = (stops-before told now xs ys name says.0, Rose-in_part before before middle after (omega arith) first second says.1)
-out-before told now xs ys before middle after NoMemory first second says = keeps-before told now xs ys says
-out-before told now xs ys before middle after other first second says = absurd says
+pub out-before : (told now : Option FileMap) (xs ys : List Output) (before after : Faults) (fault : Status) → OutSays told now xs before after fault → OutSays told now (xs ++ ys) before after fault
+out-before told now xs ys before after (WriteFault name) says = (stops-before told now xs ys name says.0, says.1)
+out-before told now xs ys before after NoMemory says = keeps-before told now xs ys says
+out-before told now xs ys before after other says = absurd says
 
 -- and behind others that are whole
-pub out-behind : (told kept_so_far now : Option FileMap) (xs ys : List Output) (before middle after : ℕ) (fault : Status) → before ≤ middle → middle ≤ after → kept_so_far ≡ kept told xs → OutSays kept_so_far now ys middle after fault
+pub out-behind : (told kept_so_far now : Option FileMap) (xs ys : List Output) (before middle after : Faults) (fault : Status) → before.count ≤ middle.count → kept_so_far ≡ kept told xs → OutSays kept_so_far now ys middle after fault
     → OutSays told now (xs ++ ys) before after fault
-out-behind told kept_so_far now xs ys before middle after (WriteFault name) first second is says = (stops-behind told kept_so_far now xs ys name is says.0, Rose-in_part before middle after after first second (omega arith) says.1)
-out-behind told kept_so_far now xs ys before middle after NoMemory first second is says = keeps-behind told kept_so_far now xs ys is says
-out-behind told kept_so_far now xs ys before middle after other first second is says = absurd says
+out-behind told kept_so_far now xs ys before middle after (WriteFault name) first is says = (stops-behind told kept_so_far now xs ys name is says.0, FailedAt-in_part name before middle after first says.1)
+out-behind told kept_so_far now xs ys before middle after NoMemory first is says = keeps-behind told kept_so_far now xs ys is says
+out-behind told kept_so_far now xs ys before middle after other first is says = absurd says
 
 outputs-append : (journal : List Entry) (n : ℕ) (xs ys : List FileEntry) → outputs_from journal n (xs ++ ys) ≡ outputs_from journal n xs ++ outputs_from journal (n + length xs) ys
 outputs-append journal n [] ys = ap (λ (m : ℕ). outputs_from journal m ys) (omega arith)
@@ -74,17 +75,16 @@ pub kept-all : (told now : Option FileMap) (journal : List Entry) (channels : Li
 kept-all told now journal channels i past before = before ∙ ap (λ (cs : List FileEntry). kept told (outputs_from journal 0 cs)) (take_all i channels past)
 
 -- one channel's file isn't written
-pub out-says : (told now after : Option FileMap) (journal : List Entry) (channels : List FileEntry) (i : ℕ) (channel : FileEntry) (begun middle ended : ℕ) (fault : Status) → i < length channels → channel ≡ get_or channels i channel
-    → now ≡ kept told (outputs_from journal 0 (take i channels)) → begun ≤ middle → middle ≤ ended → OutSays now after (output_of journal i channel ∷ []) middle ended fault
+pub out-says : (told now after : Option FileMap) (journal : List Entry) (channels : List FileEntry) (i : ℕ) (channel : FileEntry) (begun middle ended : Faults) (fault : Status) → i < length channels → channel ≡ get_or channels i channel
+    → now ≡ kept told (outputs_from journal 0 (take i channels)) → begun.count ≤ middle.count → OutSays now after (output_of journal i channel ∷ []) middle ended fault
     → OutSays told after (outputs_from journal 0 channels) begun ended fault
-out-says told now after journal channels i channel begun middle ended fault below is so_far first second says =
+out-says told now after journal channels i channel begun middle ended fault below is so_far first says =
     let next = outputs-next journal channels i channel below is in
     let all = outputs-split journal channels (i + 1) in
     subst (λ (files : List Output). OutSays told after files begun ended fault)
     (ap (λ (files : List Output). files ++ outputs_from journal (length (take (i + 1) channels)) (drop (i + 1) channels)) (sym next) ∙ sym all)
-    (out-before told after (outputs_from journal 0 (take i channels) ++ output_of journal i channel ∷ []) (outputs_from journal (length (take (i + 1) channels)) (drop (i + 1) channels)) begun ended ended fault
-    (omega (arith, first, second)) (omega arith)
-    (out-behind told now after (outputs_from journal 0 (take i channels)) (output_of journal i channel ∷ []) begun middle ended fault first second so_far says))
+    (out-before told after (outputs_from journal 0 (take i channels) ++ output_of journal i channel ∷ []) (outputs_from journal (length (take (i + 1) channels)) (drop (i + 1) channels)) begun ended fault
+    (out-behind told now after (outputs_from journal 0 (take i channels)) (output_of journal i channel ∷ []) begun middle ended fault first so_far says))
 
 -- the files of a history and a view behind those of the channels
 pub kept-both : (told first second now : Option FileMap) (xs ys zs : List Output) → first ≡ kept told xs → second ≡ kept first ys → now ≡ kept second zs → now ≡ kept told (xs ++ (ys ++ zs))
@@ -93,16 +93,16 @@ kept-both told first second now xs ys zs a b c =
     ∙ sym (kept-append told xs (ys ++ zs) ∙ kept-append (kept told xs) ys zs)
 
 -- the history isn't written
-pub out-history : (told first now : Option FileMap) (xs ys zs : List Output) (before middle after : ℕ) (fault : Status) → before ≤ middle → middle ≤ after → first ≡ kept told xs → OutSays first now ys middle after fault
+pub out-history : (told first now : Option FileMap) (xs ys zs : List Output) (before middle after : Faults) (fault : Status) → before.count ≤ middle.count → first ≡ kept told xs → OutSays first now ys middle after fault
     → OutSays told now (xs ++ (ys ++ zs)) before after fault
-out-history told first now xs ys zs before middle after fault below above is says =
-    out-behind told first now xs (ys ++ zs) before middle after fault below above is (out-before first now ys zs middle after after fault above (omega arith) says)
+out-history told first now xs ys zs before middle after fault below is says =
+    out-behind told first now xs (ys ++ zs) before middle after fault below is (out-before first now ys zs middle after fault says)
 
 -- the view isn't written
-pub out-view : (told first second now : Option FileMap) (xs ys zs : List Output) (before one two after : ℕ) (fault : Status) → before ≤ one → one ≤ two → two ≤ after → first ≡ kept told xs → second ≡ kept first ys
+pub out-view : (told first second now : Option FileMap) (xs ys zs : List Output) (before one two after : Faults) (fault : Status) → before.count ≤ one.count → one.count ≤ two.count → first ≡ kept told xs → second ≡ kept first ys
     → OutSays second now zs two after fault → OutSays told now (xs ++ (ys ++ zs)) before after fault
-out-view told first second now xs ys zs before one two after fault a b c is then_is says =
-    out-behind told first now xs (ys ++ zs) before one after fault a (omega (arith, b, c)) is (out-behind first second now ys zs one two after fault b c then_is says)
+out-view told first second now xs ys zs before one two after fault a b is then_is says =
+    out-behind told first now xs (ys ++ zs) before one after fault a is (out-behind first second now ys zs one two after fault b then_is says)
 
 -- the names of the files that a run writes
 names-from : (journal : List Entry) (n : ℕ) (channels : List FileEntry) → map (λ (o : Output). o.name) (outputs_from journal n channels) ≡ map (λ (c : FileEntry). c.file) channels

@@ -2,7 +2,7 @@
 use Rattle.std.specs.Prelude.{ℕ, ◌+◌, Bool, true, false, List, [], ◌∷◌, ◌++◌, Option, Some, None}
 use Rattle.lio_outside.specs.FileMap.{FileMap}
 use Rattle.lio_outside.specs.Outputs.{Output, KeepsFirst, StopsAt}
-use Rattle.lio_outside.specs.Count.{Rose}
+use Rattle.lio_outside.specs.Count.{Faults, FailedAt}
 use Rattle.lio_values.specs.declared.entry.Entry.{Entry}
 use Rattle.lio_events.specs.ChannelBytes.{channel_bytes}
 use Rattle.lio_events.specs.JournalText.{journal_text}
@@ -31,7 +31,7 @@ outputs policy journal history view seen =
     outputs_from journal 0 policy.channels ++ (journal_output policy.names true journal history ++ journal_output policy.names false seen view)
 
 -- why the files aren't all written, and what then holds
-abbrev pub OutSays : Option FileMap → Option FileMap → List Output → ℕ → ℕ → Status → Type 0
-OutSays told now files before after (WriteFault name) = StopsAt told now files name × Rose before after
+abbrev pub OutSays : Option FileMap → Option FileMap → List Output → Faults → Faults → Status → Type 0
+OutSays told now files before after (WriteFault name) = StopsAt told now files name × FailedAt name before after
 OutSays told now files before after NoMemory = KeepsFirst told now files
 OutSays told now files before after other = ⊥

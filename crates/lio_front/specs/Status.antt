@@ -1,7 +1,7 @@
 -- The answers: the exit status of each, what each says of the steps that are refused with it, and which answer a fault is.
 use Rattle.std.specs.Prelude.{ℕ, Option, Result, Ok, Err}
 use Rattle.lio_outside.specs.FileMap.{FileMap}
-use Rattle.lio_outside.specs.Count.{Rose}
+use Rattle.lio_outside.specs.Count.{Faults, FailedAt, Rose}
 use Rattle.lio_outside.specs.Steps.{Steps}
 use Rattle.lio_outside.specs.Asking.{Cause, IsNotThere, IsNotRead, IsWanting, IsSaid, IsNever, Refuse}
 use Rattle.lio_outside.specs.Call.{Outside}
@@ -46,13 +46,13 @@ cause_of NoMemory = IsWanting
 cause_of other = IsNever
 
 -- why steps are refused, by what has to hold for the answer
-abbrev pub Says : {A : Type 0} → Option FileMap → Steps A Status → ℕ → ℕ → Status → Type 0
+abbrev pub Says : {A : Type 0} → Option FileMap → Steps A Status → Faults → Faults → Status → Type 0
 Says told steps before after status = Refuse (cause_of status) told steps before after status
 
--- an answer of a file or of the output that failed, for which its count of faults rose
+-- an answer of a file, for which the last call of the store that failed was made, or of the output that failed, whose count of faults rose
 abbrev pub Failed : Outside → Outside → Status → Type 0
-Failed before after (ReadFault name) = Rose before.faults after.faults
-Failed before after (WriteFault name) = Rose before.faults after.faults
+Failed before after (ReadFault name) = FailedAt name before.faults after.faults
+Failed before after (WriteFault name) = FailedAt name before.faults after.faults
 Failed before after SayFault = Rose before.say_faults after.say_faults
 Failed before after other = ⊥
 

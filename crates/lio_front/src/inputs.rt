@@ -20,7 +20,7 @@ pub fn load_inputs<S: Store>(
     policy: &Policy,
 ) -> Result<List<Text>, Status>
     ensures files { S.holds store.new ≡ S.holds store.old }
-    ensures count { S.faults store.old ≤ S.faults store.new }
+    ensures count { (S.faults store.old).count ≤ (S.faults store.new).count }
     ensures ok { IfOk result (λ texts. Give (S.holds store.old)
         (spec.texts policy.now.longest policy.now.inputs) (Ok texts)) }
     ensures each { IfOk result (λ texts. length texts ≡ length policy.now.inputs) }

@@ -43,7 +43,7 @@ pub fn fetch<S: Store>(
     limit: u32,
 ) -> Result<Vec<u8>, Status>
     ensures files { S.holds store.new ≡ S.holds store.old }
-    ensures count { S.faults store.old ≤ S.faults store.new }
+    ensures count { (S.faults store.old).count ≤ (S.faults store.new).count }
     ensures ok { IfOk result (λ bytes. Give (S.holds store.old)
         (asked (missing name.now) name.now limit) (Ok bytes.items)) }
     ensures err { IfErr result (Says (S.holds store.old) (asked (missing name.now) name.now limit)
@@ -60,7 +60,7 @@ pub fn fetch<S: Store>(
 /// Fetches and reads the policy. The store's files stay.
 fn load_policy<S: Store>(alloc: Global, store: &mut S, policy: &[u8]) -> Result<Policy, Status>
     ensures files { S.holds store.new ≡ S.holds store.old }
-    ensures count { S.faults store.old ≤ S.faults store.new }
+    ensures count { (S.faults store.old).count ≤ (S.faults store.new).count }
     ensures ok { IfOk result (λ read. Give (S.holds store.old) (policy_steps policy.now)
         (Ok read)) }
     ensures err { IfErr result (Says (S.holds store.old) (policy_steps policy.now)
@@ -96,7 +96,7 @@ fn load_script<S: Store>(
     script: &[u8],
 ) -> Result<Script, Status>
     ensures files { S.holds store.new ≡ S.holds store.old }
-    ensures count { S.faults store.old ≤ S.faults store.new }
+    ensures count { (S.faults store.old).count ≤ (S.faults store.new).count }
     ensures ok { IfOk result (λ procedures. Give (S.holds store.old)
         (script_steps policy.now script.now) (Ok procedures)) }
     ensures fits { IfOk result (λ procedures. start.fits policy.now.tasks procedures ≡ None) }
@@ -122,7 +122,7 @@ fn load_under<S: Store>(
     label: Option<&[u8]>,
 ) -> Result<(Option<Label>, Script), Status>
     ensures files { S.holds store.new ≡ S.holds store.old }
-    ensures count { S.faults store.old ≤ S.faults store.new }
+    ensures count { (S.faults store.old).count ≤ (S.faults store.new).count }
     ensures ok { IfOk result (λ read. Give (S.holds store.old)
         (steps_under policy.now script.now (option_map (λ text. text.now) label.entry)) (Ok read)) }
     ensures fits { IfOk result (λ read. start.fits policy.now.tasks read.1 ≡ None) }
@@ -146,7 +146,7 @@ pub fn load<S: Store>(
     label: Option<&[u8]>,
 ) -> Result<Front, Status>
     ensures files { S.holds store.new ≡ S.holds store.old }
-    ensures count { S.faults store.old ≤ S.faults store.new }
+    ensures count { (S.faults store.old).count ≤ (S.faults store.new).count }
     ensures ok { IfOk result (λ front. Give (S.holds store.old)
         (loading policy.now script.now (option_map (λ text. text.now) label.entry)) (Ok front)) }
     ensures fits { IfOk result (λ front. start.fits front.policy.tasks front.script ≡ None) }

@@ -17,7 +17,7 @@ use std::alloc::Global;
 
 /// Writes a file, and names it where it can't be written.
 fn keep<S: Store>(alloc: Global, store: &mut S, file: &[u8], bytes: &[u8]) -> Result<(), Status>
-    ensures count { S.faults store.old ≤ S.faults store.new }
+    ensures count { (S.faults store.old).count ≤ (S.faults store.new).count }
     ensures ok { OnOk result (S.holds store.new ≡ kept (S.holds store.old)
         (record { name = file.now; bytes = bytes.now } ∷ [])) }
     ensures err { IfErr result (OutSays (S.holds store.old) (S.holds store.new)
@@ -40,7 +40,7 @@ fn keep_channel<S: Store>(
     number: u32,
     journal: &Journal,
 ) -> Result<(), Status>
-    ensures count { S.faults store.old ≤ S.faults store.new }
+    ensures count { (S.faults store.old).count ≤ (S.faults store.new).count }
     ensures ok { OnOk result (S.holds store.new
         ≡ kept (S.holds store.old) (output_of journal.now number channel.now ∷ [])) }
     ensures err { IfErr result (OutSays (S.holds store.old) (S.holds store.new)
@@ -58,7 +58,7 @@ fn keep_channels<S: Store>(
     policy: &Policy,
     journal: &Journal,
 ) -> Result<(), Status>
-    ensures count { S.faults store.old ≤ S.faults store.new }
+    ensures count { (S.faults store.old).count ≤ (S.faults store.new).count }
     ensures ok { OnOk result (S.holds store.new
         ≡ kept (S.holds store.old) (outputs_from journal.now 0 policy.now.channels)) }
     ensures err { IfErr result (OutSays (S.holds store.old) (S.holds store.new)
@@ -81,7 +81,7 @@ fn keep_journal<S: Store>(
     file: Option<&[u8]>,
 ) -> Result<(), Status>
     requires { All (IsPrintable names.now) journal.now }
-    ensures count { S.faults store.old ≤ S.faults store.new }
+    ensures count { (S.faults store.old).count ≤ (S.faults store.new).count }
     ensures ok { OnOk result (S.holds store.new ≡ kept (S.holds store.old)
         (journal_output names.now ticket journal.now (option_map (λ name. name.now) file.entry))) }
     ensures err { IfErr result (OutSays (S.holds store.old) (S.holds store.new)
@@ -110,7 +110,7 @@ pub fn write_out<S: Store>(
 ) -> Result<(), Status>
     requires journal { All (IsPrintable policy.now.names) journal.now }
     requires seen { All (IsPrintable policy.now.names) seen.now }
-    ensures count { S.faults store.old ≤ S.faults store.new }
+    ensures count { (S.faults store.old).count ≤ (S.faults store.new).count }
     ensures ok { OnOk result (S.holds store.new ≡ kept (S.holds store.old)
         (outputs policy.now journal.now (option_map (λ name. name.now) history.entry)
         (option_map (λ name. name.now) view.entry) seen.now)) }

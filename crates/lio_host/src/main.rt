@@ -56,7 +56,7 @@ fn notes<R: AllocGlobal + Files, S: Store>(
     journal: &Journal,
 ) -> Result<String, NoMemory>
     ensures files { S.holds store.new ≡ S.holds store.old }
-    ensures count { S.faults store.old ≤ S.faults store.new }
+    ensures count { (S.faults store.old).count ≤ (S.faults store.new).count }
 {
     let alloc = rt.alloc();
     let troubles = troubles_of(alloc, job, journal)?;
@@ -81,7 +81,7 @@ fn print_notes<R: AllocGlobal + Files + Eprint, S: Store>(
     journal: &Journal,
 )
     ensures files { S.holds store.new ≡ S.holds store.old }
-    ensures count { S.faults store.old ≤ S.faults store.new }
+    ensures count { (S.faults store.old).count ≤ (S.faults store.new).count }
 {
     let (Some(job), Some(name)) = (job, script_name(words)) else {
         return;
@@ -107,7 +107,7 @@ fn stop_of<R: AllocGlobal + Files, S: Store>(
     job: &Option<Job>,
 ) -> Option<Stop>
     ensures files { S.holds store.new ≡ S.holds store.old }
-    ensures count { S.faults store.old ≤ S.faults store.new }
+    ensures count { (S.faults store.old).count ≤ (S.faults store.new).count }
 {
     let (HostStatus::NotARun(line), Some(job), Some(name)) = (status, job, history_name(words))
     else {
@@ -131,7 +131,7 @@ fn report<R: AllocGlobal + Files + Eprint, S: Store>(
     journal: &Journal,
 )
     ensures files { S.holds store.new ≡ S.holds store.old }
-    ensures count { S.faults store.old ≤ S.faults store.new }
+    ensures count { (S.faults store.old).count ≤ (S.faults store.new).count }
 {
     if let HostStatus::Done = status {
         print_notes(rt, words, store, job, journal);

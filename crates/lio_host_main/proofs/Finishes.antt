@@ -1,5 +1,5 @@
 -- What is written and said of a run, as far as it comes.
-use Rattle.std.proofs.Common.{◌≡◌, ◌∙◌, ap, refl, subst, sym, arith, ℕ, ◌≤◌, List, [], Option, Some, None, All}
+use Rattle.std.proofs.Common.{◌≡◌, ◌∙◌, ap, refl, subst, sym, ℕ, ◌≤◌, List, [], Option, Some, None, All}
 use Rattle.std.proofs.lemmas.List.{append-nil}
 use Rattle.std.proofs.lemmas.List.Elements.{All-nil}
 use Rattle.lio_labels.specs.declared.label.Label.{Label}
@@ -8,8 +8,8 @@ use Rattle.lio_events.specs.Printable.{IsPrintable}
 use Rattle.lio_events.proofs.ViewLaws.{view_is_printable}
 use Rattle.lio_outside.specs.FileMap.{FileMap}
 use Rattle.lio_outside.specs.Call.{Outside}
-use Rattle.lio_outside.specs.Count.{Rose}
-use Rattle.lio_outside.proofs.CountLemmas.{Rose-in_part}
+use Rattle.lio_outside.specs.Count.{Faults, Rose}
+use Rattle.lio_outside.proofs.CountLemmas.{FailedAt-in_part}
 use Rattle.lio_outside.specs.Said.{SaidPartly}
 use Rattle.lio_outside.specs.Outputs.{kept, KeepsFirst, StopsAt}
 use Rattle.lio_outside.specs.declared.say.SayFault as say
@@ -59,11 +59,11 @@ pub summary-is : (order : Order) (ran : Ran) (policy : PolicyParts) (text bytes 
 summary-is order ran policy text bytes first second third = third ∙ second ∙ ap (λ (p : PolicyParts). summary_text p ran.last ran.entries) first
 
 -- the steps before the run left the files, and their faults were counted
-pub finishes-from : (order : Order) (ran : Ran) (before after : Outside) (told : Option FileMap) (faults : ℕ) (status : Status) → told ≡ before.told → before.faults ≤ faults → faults ≤ after.faults
+pub finishes-from : (order : Order) (ran : Ran) (before after : Outside) (told : Option FileMap) (faults : Faults) (status : Status) → told ≡ before.told → before.faults.count ≤ faults.count
     → Finishes order ran (record before { told = told; faults = faults }) after status → Finishes order ran before after status
-finishes-from order ran before after told faults Done same first second says = (subst (λ (t : Option FileMap). after.told ≡ kept t (written order ran.entries)) same says.0, says.1)
-finishes-from order ran before after told faults (WriteFault name) same first second says =
-    (subst (λ (t : Option FileMap). StopsAt t after.told (written order ran.entries) name) same says.0, Rose-in_part before.faults faults after.faults after.faults first second (omega arith) says.1, says.2)
-finishes-from order ran before after told faults SayFault same first second says = (subst (λ (t : Option FileMap). after.told ≡ kept t (written order ran.entries)) same says.0, says.1, says.2)
-finishes-from order ran before after told faults NoMemory same first second says = (subst (λ (t : Option FileMap). KeepsFirst t after.told (written order ran.entries)) same says.0, says.1)
-finishes-from order ran before after told faults other same first second says = absurd says
+finishes-from order ran before after told faults Done same first says = (subst (λ (t : Option FileMap). after.told ≡ kept t (written order ran.entries)) same says.0, says.1)
+finishes-from order ran before after told faults (WriteFault name) same first says =
+    (subst (λ (t : Option FileMap). StopsAt t after.told (written order ran.entries) name) same says.0, FailedAt-in_part name before.faults faults after.faults first says.1, says.2)
+finishes-from order ran before after told faults SayFault same first says = (subst (λ (t : Option FileMap). after.told ≡ kept t (written order ran.entries)) same says.0, says.1, says.2)
+finishes-from order ran before after told faults NoMemory same first says = (subst (λ (t : Option FileMap). KeepsFirst t after.told (written order ran.entries)) same says.0, says.1)
+finishes-from order ran before after told faults other same first says = absurd says

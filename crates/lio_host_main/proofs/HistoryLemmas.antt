@@ -1,12 +1,6 @@
 -- A run that is taken again as a history tells.
-use Rattle.std.proofs.Common.{List, ℕ, inl, inr, arith}
-use Rattle.lio_audit.specs.History.{IsHistoryOf, Says}
-use Rattle.lio_audit.specs.declared.fault.AuditFault.{AuditFault}
-use Rattle.lio_audit.specs.declared.fault.AuditFault.TheVariants.{NotARun, NoMemory}
-use Rattle.lio_audit.proofs.LawLemmas.{history_stops_nowhere}
-use Rattle.lio_calculus.specs.Sound.{IsSound}
-use Rattle.lio_calculus.specs.Step.{Configuration}
-use Rattle.lio_host_main.specs.Answers.{IsNone}
+use Rattle.std.proofs.Common.{List, ℕ}
+use Rattle.lio_audit.specs.History.{IsHistoryOf}
 use Rattle.lio_calculus.specs.Run.{Ran}
 use Rattle.lio_calculus.specs.Journals.{actors}
 use Rattle.lio_calculus_runs.specs.WellFormed.{IsWellFormed}
@@ -23,9 +17,3 @@ history-run job bytes ran is well_formed history = complete-run_of_job job ran i
   first = well_formed;
   last = run_keeps_well_formed 0 (first_of job) (actors ran.entries) ran well_formed history.is_run;
 })
-
--- where bytes are refused as a history, they are that of no complete run
-pub none-of : (names : List (List ℕ)) (c : Configuration) (bytes : List ℕ) (fault : AuditFault) → IsSound c → Says names c bytes fault → IsNone names c bytes fault
-none-of names c bytes (NotARun line) sound (inl many) = λ ran history. let few = history.few in let more = many.1 in absurd (omega arith)
-none-of names c bytes (NotARun line) sound (inr stops) = λ ran history. history_stops_nowhere names c bytes ran line sound history stops
-none-of names c bytes NoMemory sound says = tt

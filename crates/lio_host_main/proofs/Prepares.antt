@@ -1,8 +1,8 @@
 -- How the steps of a command stand together.
-use Rattle.std.proofs.Common.{◌≡◌, refl, sym, ap, subst, ℕ, ◌≤◌, arith, List, Option, Some, None, Result, Ok, Err, inl, inr}
+use Rattle.std.proofs.Common.{◌≡◌, refl, sym, ap, subst, ℕ, ◌≤◌, arith, List, Option, Some, None, Result, Ok, Err, inr}
 use Rattle.std.specs.Prelude.{IfOk, IfErr}
 use Rattle.lio_outside.specs.FileMap.{FileMap}
-use Rattle.lio_outside.specs.Count.{Rose}
+use Rattle.lio_outside.specs.Count.{Faults, Rose, no_faults}
 use Rattle.lio_outside.specs.Steps.{Steps, Over, ◌>>=◌, asked, unless}
 use Rattle.lio_outside.specs.Asking.{Cause, IsNotThere, IsNotRead, IsWanting, IsSaid, IsNever, Give, Refuse}
 use Rattle.lio_outside.proofs.StepsLemmas.{give-parts, give-refused, give-then, refuse-behind, refuse-first, refuse-in_part}
@@ -13,7 +13,7 @@ use Rattle.lio_front.specs.declared.loading.Front.{Front}
 use Rattle.lio_front.specs.Status.{Says}
 use Rattle.lio_front.specs.Clash.{clash}
 use Rattle.lio_front.specs.Loading.{loading as front_loading, texts}
-use Rattle.lio_front.specs.Command.{Command, Mode, Replay, Source, Files, Made}
+use Rattle.lio_front.specs.Command.{Command, Replay, Source, Files, Made}
 use Rattle.lio_audit.specs.History.{most_history_bytes}
 use Rattle.lio_host_main.specs.declared.order.Loaded.{Loaded}
 use Rattle.lio_host_main.specs.Order.{Order, Way, AsTold, label_text, names_added, names_read}
@@ -21,7 +21,7 @@ use Rattle.lio_host_main.specs.Verdict.{AreGiven, IsRefusedBy, cause_of, loading
 use Rattle.lio_host_main.specs.Workload.{made_files, policy_name, script_name}
 
 -- a step that reads is refused
-refuse-read : {A : Type 0} → (told : Option FileMap) (steps : Steps A Status) (before after : ℕ) (status : Status) → Says told steps before after status → Refuse (cause_of status) told steps before after status
+refuse-read : {A : Type 0} → (told : Option FileMap) (steps : Steps A Status) (before after : Faults) (status : Status) → Says told steps before after status → Refuse (cause_of status) told steps before after status
 refuse-read told steps before after (Clash name) says = absurd says
 refuse-read told steps before after status says = says
 
@@ -47,10 +47,10 @@ give-clash told command policy name taken =
     give-refused told (free command policy) inputs_of (Clash name) (ap (λ (n : Option (List ℕ)). unless Clash n policy) taken)
 
 -- an input isn't fetched
-pub refuse-input : (told : Option FileMap) (command : Command) (policy : Policy) (before after : ℕ) (status : Status) → clash policy (names_added command) (names_read command) ≡ None → before ≤ after
+pub refuse-input : (told : Option FileMap) (command : Command) (policy : Policy) (before after : Faults) (status : Status) → clash policy (names_added command) (names_read command) ≡ None
     → Says told (texts policy.longest policy.inputs) before after status → Refuse (cause_of status) told (taking command policy) before after status
-refuse-input told command policy before after status none below says =
-    refuse-behind (cause_of status) told (free command policy) inputs_of policy before before after status (omega arith) below (is-free told command policy none)
+refuse-input told command policy before after status none says =
+    refuse-behind (cause_of status) told (free command policy) inputs_of policy before before after status (omega arith) (is-free told command policy none)
     (refuse-read told (texts policy.longest policy.inputs) before after status says)
 
 -- the steps behind the policy and the script
@@ -64,19 +64,19 @@ abbrev front_steps : List ℕ → List ℕ → Command → Steps Front Status
 front_steps policy script command = front_loading policy script (label_text command)
 
 -- nothing is loaded
-pub refuse-load : (told : Option FileMap) (policy script : List ℕ) (command : Command) (before after : ℕ) (status : Status) → before ≤ after
+pub refuse-load : (told : Option FileMap) (policy script : List ℕ) (command : Command) (before after : Faults) (status : Status)
     → Says told (front_loading policy script (label_text command)) before after status → Refuse (cause_of status) told (loading_from policy script command) before after status
-refuse-load told policy script command before after status below says =
-    refuse-first (cause_of status) told (front_steps policy script command) (behind_front command) before after after status below (omega arith)
+refuse-load told policy script command before after status says =
+    refuse-first (cause_of status) told (front_steps policy script command) (behind_front command) before after status
     (refuse-read told (front_loading policy script (label_text command)) before after status says)
 
 -- the inputs aren't there
-pub refuse-inputs : (told : Option FileMap) (policy script : List ℕ) (command : Command) (read : Front) (before middle after : ℕ) (status : Status) → before ≤ middle → middle ≤ after
+pub refuse-inputs : (told : Option FileMap) (policy script : List ℕ) (command : Command) (read : Front) (before middle after : Faults) (status : Status) → before.count ≤ middle.count
     → Give told (front_loading policy script (label_text command)) (Ok read) → Refuse (cause_of status) told (taking command read.policy) middle after status
     → Refuse (cause_of status) told (loading_from policy script command) before after status
-refuse-inputs told policy script command read before middle after status first second gave says =
-    refuse-behind (cause_of status) told (front_steps policy script command) (behind_front command) read before middle after status first second gave
-    (refuse-first (cause_of status) told (taking command read.policy) (loaded_from read) middle after after status second (omega arith) says)
+refuse-inputs told policy script command read before middle after status first gave says =
+    refuse-behind (cause_of status) told (front_steps policy script command) (behind_front command) read before middle after status first gave
+    (refuse-first (cause_of status) told (taking command read.policy) (loaded_from read) middle after status says)
 
 -- all is there
 pub give-loaded : (told : Option FileMap) (policy script : List ℕ) (command : Command) (read : Front) (inputs : List (List ℕ)) (loaded : Loaded)
@@ -88,9 +88,9 @@ give-loaded told policy script command read inputs loaded is gave taken =
     (give-then told (taking command read.policy) (loaded_from read) inputs (Ok _) taken refl))
 
 -- what a store without faults refuses of a workload is refused whatever another one counts
-pub refuse-sure : {A E : Type 0} → (cause : Cause) (size : ℕ) (files : FileMap) (steps : Steps A E) (before after : ℕ) (fault : E) → Refuse cause (Some files) steps 0 0 fault → Refuse (of_source (Made size) cause) (Some files) steps before after fault
+pub refuse-sure : {A E : Type 0} → (cause : Cause) (size : ℕ) (files : FileMap) (steps : Steps A E) (before after : Faults) (fault : E) → Refuse cause (Some files) steps no_faults no_faults fault → Refuse (of_source (Made size) cause) (Some files) steps before after fault
 refuse-sure (IsNotThere name) size files steps before after fault says = says
-refuse-sure (IsNotRead name) size files steps before after fault (asks, rose) = never rose
+refuse-sure (IsNotRead name) size files steps before after fault (asks, failed) = never failed.0
   where
     never : Rose 0 0 → ⊥
     never rose = grind arith
@@ -105,7 +105,7 @@ by_source source command = loading_from (policy_file source) (script_file source
 pub give-source : (told : Option FileMap) (source : Source) (command : Command) (is : Result Loaded Status) → command.source ≡ source → Give (told_of source told) (by_source source command) is → Give (told_of command.source told) (loading command) is
 give-source told source command is same gave = subst (λ (s : Source). Give (told_of s told) (by_source s command) is) (sym same) gave
 
-pub refuse-source : (cause : Cause) (told : Option FileMap) (source : Source) (command : Command) (before after : ℕ) (status : Status) → command.source ≡ source → Refuse (of_source source cause) (told_of source told) (by_source source command) before after status
+pub refuse-source : (cause : Cause) (told : Option FileMap) (source : Source) (command : Command) (before after : Faults) (status : Status) → command.source ≡ source → Refuse (of_source source cause) (told_of source told) (by_source source command) before after status
     → Refuse (of_source command.source cause) (told_of command.source told) (loading command) before after status
 refuse-source cause told source command before after status same says = subst (λ (s : Source). Refuse (of_source s cause) (told_of s told) (by_source s command) before after status) (sym same) says
 
@@ -117,7 +117,7 @@ of-files policy script IsWanting = refl
 of-files policy script IsSaid = refl
 of-files policy script IsNever = refl
 
-pub refuse-files : (told : Option FileMap) (policy script : List ℕ) (command : Command) (before after : ℕ) (r : Result Loaded Status) → command.source ≡ Files policy script
+pub refuse-files : (told : Option FileMap) (policy script : List ℕ) (command : Command) (before after : Faults) (r : Result Loaded Status) → command.source ≡ Files policy script
     → IfErr r (λ status. Refuse (cause_of status) told (loading_from policy script command) before after status) → IfErr r (λ status. Refuse (of_source command.source (cause_of status)) (told_of command.source told) (loading command) before after status)
 refuse-files told policy script command before after (Ok loaded) same says = says
 refuse-files told policy script command before after (Err status) same says =
@@ -131,28 +131,28 @@ give-made told size files command (Err status) same made gave = gave
 give-made told size files command (Ok loaded) same made gave =
     give-source told (Made size) command (Ok loaded) same (subst (λ (f : FileMap). Give (Some f) (loading_from policy_name script_name command) (Ok loaded)) made gave)
 
-pub refuse-made : (told : Option FileMap) (size : ℕ) (files : FileMap) (command : Command) (before after : ℕ) (r : Result Loaded Status) → command.source ≡ Made size → files ≡ made_files size
-    → IfErr r (λ status. Refuse (cause_of status) (Some files) (loading_from policy_name script_name command) 0 0 status) → IfErr r (λ status. Refuse (of_source command.source (cause_of status)) (told_of command.source told) (loading command) before after status)
+pub refuse-made : (told : Option FileMap) (size : ℕ) (files : FileMap) (command : Command) (before after : Faults) (r : Result Loaded Status) → command.source ≡ Made size → files ≡ made_files size
+    → IfErr r (λ status. Refuse (cause_of status) (Some files) (loading_from policy_name script_name command) no_faults no_faults status) → IfErr r (λ status. Refuse (of_source command.source (cause_of status)) (told_of command.source told) (loading command) before after status)
 refuse-made told size files command before after (Ok loaded) same made says = says
 refuse-made told size files command before after (Err status) same made says =
     refuse-source (cause_of status) told (Made size) command before after status same
     (refuse-sure (cause_of status) size (made_files size) (by_source (Made size) command) before after status
-    (subst (λ (f : FileMap). Refuse (cause_of status) (Some f) (loading_from policy_name script_name command) 0 0 status) made says))
+    (subst (λ (f : FileMap). Refuse (cause_of status) (Some f) (loading_from policy_name script_name command) no_faults no_faults status) made says))
 
 -- a history isn't fetched
-pub refuse-history : (told : Option FileMap) (file : List ℕ) (before after : ℕ) (status : Status) → before ≤ after → Says told (asked (Missing file) file most_history_bytes) before after status
+pub refuse-history : (told : Option FileMap) (file : List ℕ) (before after : Faults) (status : Status) → Says told (asked (Missing file) file most_history_bytes) before after status
     → Refuse (cause_of status) told (ordering (Replay file)) before after status
-refuse-history told file before after status below says =
-    refuse-first (cause_of status) told (asked (Missing file) file most_history_bytes) told_as_way before after after status below (omega arith)
+refuse-history told file before after status says =
+    refuse-first (cause_of status) told (asked (Missing file) file most_history_bytes) told_as_way before after status
     (refuse-read told (asked (Missing file) file most_history_bytes) before after status says)
   where
     told_as_way : List ℕ → Steps Way Status
     told_as_way bytes = Over (Ok (AsTold bytes))
 
 -- how the turns are taken isn't given, once what is run was
-pub refused-way : (command : Command) (told : Option FileMap) (before middle after : ℕ) (loaded : Loaded) (status : Status) → before ≤ middle → middle ≤ after → Give (told_of command.source told) (loading command) (Ok loaded)
+pub refused-way : (command : Command) (told : Option FileMap) (before middle after : Faults) (loaded : Loaded) (status : Status) → before.count ≤ middle.count → Give (told_of command.source told) (loading command) (Ok loaded)
     → Refuse (cause_of status) told (ordering command.mode) middle after status → IsRefusedBy command told before after status
-refused-way command told before middle after loaded status first second gave says = inr (loaded, gave, refuse-in_part (cause_of status) told (ordering command.mode) before middle after after status first second (omega arith) says)
+refused-way command told before middle after loaded status first gave says = inr (loaded, gave, refuse-in_part (cause_of status) told (ordering command.mode) before middle after status first says)
 
 -- no name is there
 pub no-name : (name : Option (List ℕ)) → ((file : List ℕ) → name ≡ Some file → ⊥) → name ≡ None

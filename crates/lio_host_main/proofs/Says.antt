@@ -1,14 +1,13 @@
 -- How the answers of the steps make the answer of the call.
-use Rattle.std.proofs.Common.{◌≡◌, ◌≤◌, ◌∙◌, sym, ap, subst, arith, refl, ℕ, List, [], All, Option, Some, None, Result, Ok, Err, inl, inr}
+use Rattle.std.proofs.Common.{◌≡◌, ◌∙◌, sym, ap, subst, refl, ℕ, List, [], All, Option, Some, None, Result, Ok, Err, inl, inr}
 use Rattle.std.specs.Prelude.{IfSome, ◌⊎◌}
 use Rattle.lio_outside.specs.FileMap.{FileMap}
 use Rattle.lio_outside.specs.Fetch.{given}
 use Rattle.lio_outside.specs.Steps.{Steps, outcome}
 use Rattle.lio_outside.specs.Asking.{Cause, IsNotThere, IsNotRead, IsWanting, IsSaid, IsNever, Give, Refuse}
-use Rattle.lio_outside.specs.Count.{Rose}
-use Rattle.lio_outside.proofs.CountLemmas.{Rose-in_part}
+use Rattle.lio_outside.specs.Count.{Faults, FailedAt, Rose}
 use Rattle.lio_outside.specs.Outputs.{kept}
-use Rattle.lio_outside.proofs.StepsLemmas.{give-outcome, refuse-in_part}
+use Rattle.lio_outside.proofs.StepsLemmas.{give-outcome}
 use Rattle.lio_front.proofs.WriteLemmas.{outputs_hold_each_file}
 use Rattle.lio_values.specs.declared.entry.Entry.{Entry}
 use Rattle.lio_events_reading.specs.Fits.{EntryFits}
@@ -20,10 +19,10 @@ use Rattle.lio_front.specs.declared.status.Status.{Status}
 use Rattle.lio_front.specs.declared.status.Status.TheVariants.{Done, BadWords, Missing, ReadFault, BadPolicy, BadScript, BadStart, WriteFault, SayFault, NoMemory, NotARun, Clash}
 use Rattle.lio_front.specs.Status.{answer_of}
 use Rattle.lio_host_main.specs.declared.order.Loaded.{Loaded}
-use Rattle.lio_host_main.specs.Order.{Order, Way, names_read, seen_by, view_file, written}
+use Rattle.lio_host_main.specs.Order.{Order, Way, AsTold, names_read, seen_by, view_file, written}
 use Rattle.lio_host_main.specs.Workload.{made_files}
 use Rattle.lio_host_main.specs.Verdict.{AreGiven, IsRefusedBy, IsVerdict, cause_of, files_of, loading, of_source, order_by, ordering, told_of, verdict, verdict_by}
-use Rattle.lio_host_main.specs.Answers.{Call, NothingDone, RanAs, Refused, RunsOrder, Finishes, Ends, SaysBadWords, SaysDone, SaysNoMemory, SaysNotARun, StopsTheRun, Says, Follows, journal_with}
+use Rattle.lio_host_main.specs.Answers.{Call, CanBeRun, Completes, IsFault, NothingDone, RanAs, Refused, RunsOrder, Finishes, Ends, SaysBadWords, SaysDone, SaysNoMemory, StopsBy, StopsTheRun, Says, Follows, journal_with}
 use Rattle.lio_host_main.proofs.ObservedLemmas.{rerun-by-each, seen-by-each}
 use Rattle.lio_host_main.proofs.Prepares.{none-taken}
 
@@ -71,14 +70,14 @@ said-of source (IsNotRead name) is = absurd is
 said-of source IsWanting is = absurd is
 said-of source IsNever is = absurd is
 
-said-steps : {A E : Type 0} → (cause : Cause) → WhatIsSaid cause → (told : Option FileMap) (steps : Steps A E) (before after : ℕ) (fault : E) → Refuse cause told steps before after fault → Give told steps (Err fault)
+said-steps : {A E : Type 0} → (cause : Cause) → WhatIsSaid cause → (told : Option FileMap) (steps : Steps A E) (before after : Faults) (fault : E) → Refuse cause told steps before after fault → Give told steps (Err fault)
 said-steps (IsNotThere name) is told steps before after fault says = says.0
 said-steps (IsNotRead name) is told steps before after fault says = absurd is
 said-steps IsWanting is told steps before after fault says = absurd is
 said-steps IsSaid is told steps before after fault says = says
 said-steps IsNever is told steps before after fault says = absurd is
 
-verdict-refused : (files : FileMap) (words : List (List ℕ)) (command : Command) (before after : ℕ) (status : Status) → WhatIsSaid (cause_of status) → command_of words ≡ Some command → IsRefusedBy command (Some files) before after status
+verdict-refused : (files : FileMap) (words : List (List ℕ)) (command : Command) (before after : Faults) (status : Status) → WhatIsSaid (cause_of status) → command_of words ≡ Some command → IsRefusedBy command (Some files) before after status
     → verdict files words ≡ Err status
 verdict-refused files words command before after status is named (inl says) =
     verdict-unloaded files words command status named (said-steps (of_source command.source (cause_of status)) (said-of command.source (cause_of status) is) (told_of command.source (Some files)) (loading command) before after status says)
@@ -98,13 +97,13 @@ follows-bad_words call files told (inl says) = follows-none call files says.0
 follows-bad_words call files told (inr says) = follows-refused call BadWords files tt told says
 
 -- a file couldn't be read
-unread : (call : Call) (name : List ℕ) → Refused call (ReadFault name) → Rose call.before.faults call.after.faults
+unread : (call : Call) (name : List ℕ) → Refused call (ReadFault name) → FailedAt name call.before.faults call.after.faults
 unread call name refused = by refused.refuse
   where
-    by : IsRefusedBy refused.command call.before.told call.before.faults call.after.faults (ReadFault name) → Rose call.before.faults call.after.faults
+    by : IsRefusedBy refused.command call.before.told call.before.faults call.after.faults (ReadFault name) → FailedAt name call.before.faults call.after.faults
     by (inl says) = by_files refused.command.source says
       where
-        by_files : (source : Source) → Refuse (of_source source (IsNotRead name)) (told_of refused.command.source call.before.told) (loading refused.command) call.before.faults call.after.faults (ReadFault name) → Rose call.before.faults call.after.faults
+        by_files : (source : Source) → Refuse (of_source source (IsNotRead name)) (told_of refused.command.source call.before.told) (loading refused.command) call.before.faults call.after.faults (ReadFault name) → FailedAt name call.before.faults call.after.faults
         by_files (Files policy script) says = says.1
         by_files (Made size) says = absurd says
     by (inr (loaded, gave, says)) = says.1
@@ -129,6 +128,44 @@ follows call other files told says = absurd says
 pub follows_verdict : (call : Call) (status : Status) (told : Option FileMap) → call.before.told ≡ told → Says call status → IfSome told (Follows call status)
 follows_verdict call status None is says = tt
 follows_verdict call status (Some files) is says = follows call status files is says
+
+-- the turns of an order can't be taken as it says where its history stops
+stops-not : (way : Way) (order : Order) (line : ℕ) → CanBeRun way order → StopsBy way order line → ⊥
+stops-not (AsTold bytes) order line can stops = by stops
+  where
+    by : StopsBy (AsTold bytes) order line → ⊥
+    by (inl stops) = stops.1.none can.0 can.1
+    by (inr stops) = stops.none can.0 can.1
+stops-not other order line can stops = absurd stops
+
+abbrev ordered : Order → Result Order Status
+ordered order = Ok order
+
+same-order : (one two : Order) → ordered one ≡ ordered two → one ≡ two
+same-order one two same = cc
+
+-- a fault is none of an order that can be run where no count rose
+no-fault : (call : Call) (status : Status) (files : FileMap) (order : Order) → call.before.told ≡ Some files → verdict files call.words ≡ Ok order → CanBeRun order.way order → (Rose call.before.faults.count call.after.faults.count → ⊥)
+    → (Rose call.before.say_faults call.after.say_faults → ⊥) → IsFault call status → ⊥
+no-fault call (ReadFault name) files order told is can files_stay lines_said fault = files_stay fault.0
+no-fault call (WriteFault name) files order told is can files_stay lines_said fault = files_stay fault.0
+no-fault call SayFault files order told is can files_stay lines_said fault = lines_said fault
+no-fault call (NotARun line) files order told is can files_stay lines_said fault =
+    let there : verdict files call.words ≡ Ok fault.order = verdict-order files call.words fault.order (subst (λ (t : Option FileMap). IsVerdict t call.words fault.order) told fault.verdict) in
+    stops-not fault.order.way fault.order line (subst (λ (o : Order). CanBeRun o.way o) (same-order order fault.order (sym is ∙ there)) can) fault.stops
+no-fault call other files order told is can files_stay lines_said fault = fault
+
+completes : (call : Call) (status : Status) (files : FileMap) → call.before.told ≡ Some files → Follows call status files → Completes call status files
+completes call status files told follows order is can files_stay lines_said = by follows.answer
+  where
+    by : (status ≡ answer_of (verdict files call.words)) ⊎ ((status ≡ NoMemory) ⊎ IsFault call status) → (status ≡ Done) ⊎ (status ≡ NoMemory)
+    by (inl same) = inl (same ∙ ap answer_of is)
+    by (inr (inl none)) = inr none
+    by (inr (inr fault)) = absurd (no-fault call status files order told is can files_stay lines_said fault)
+
+pub completes_verdict : (call : Call) (status : Status) (told : Option FileMap) → call.before.told ≡ told → Says call status → IfSome told (Completes call status)
+completes_verdict call status None is says = tt
+completes_verdict call status (Some files) is says = completes call status files is (follows call status files is says)
 
 -- words that give no command have one verdict
 verdict-none : (told : Option FileMap) (words : List (List ℕ)) (order : Order) → command_of words ≡ None → IsVerdict told words order → ⊥
@@ -232,67 +269,10 @@ says-unfinished call order ran other made same finishes = absurd finishes
 pub says-same : (call : Call) (status got : Status) → got ≡ status → Says call status → Says call got
 says-same call status got is says = subst (λ (s : Status). Says call s) (sym is) says
 
--- what an answer says of a call stays so where the store counts more faults and its files stay
-abbrev later : Call → Option FileMap → ℕ → Call
-later call told faults = record call { after = record call.after { told = told; faults = faults } }
+-- the call, where the store then tells this
+abbrev pub later : Call → Option FileMap → Call
+later call told = record call { after = record call.after { told = told } }
 
-nothing-later : (call : Call) (faults : ℕ) → NothingDone call → NothingDone (later call call.after.told faults)
-nothing-later call faults nothing = record { files = nothing.files; said = nothing.said; journal = nothing.journal }
-
-refused_by-later : (command : Command) (told : Option FileMap) (before middle after : ℕ) (status : Status) → before ≤ middle → middle ≤ after → IsRefusedBy command told before middle status → IsRefusedBy command told before after status
-refused_by-later command told before middle after status first second (inl says) = inl (refuse-in_part (of_source command.source (cause_of status)) (told_of command.source told) (loading command) before before middle after status (omega arith) first second says)
-refused_by-later command told before middle after status first second (inr (loaded, gave, says)) = inr (loaded, gave, refuse-in_part (cause_of status) told (ordering command.mode) before before middle after status (omega arith) first second says)
-
-refused-later : (call : Call) (status : Status) (faults : ℕ) → call.before.faults ≤ call.after.faults → call.after.faults ≤ faults → Refused call status → Refused (later call call.after.told faults) status
-refused-later call status faults first second refused = record {
-  command = refused.command;
-  words = refused.words;
-  refuse = refused_by-later refused.command call.before.told call.before.faults call.after.faults faults status first second refused.refuse;
-  nothing = nothing-later call faults refused.nothing;
-}
-
-finishes-later : (order : Order) (ran : Ran) (call : Call) (status : Status) (faults : ℕ) → call.before.faults ≤ call.after.faults → call.after.faults ≤ faults → Finishes order ran call.before call.after status
-    → Finishes order ran call.before (later call call.after.told faults).after status
-finishes-later order ran call Done faults first second says = says
-finishes-later order ran call (WriteFault name) faults first second says = (says.0, Rose-in_part call.before.faults call.before.faults call.after.faults faults (omega arith) first second says.1, says.2)
-finishes-later order ran call SayFault faults first second says = says
-finishes-later order ran call NoMemory faults first second says = says
-finishes-later order ran call other faults first second says = absurd says
-
-ends-later : (call : Call) (journal : List Entry) (status : Status) (faults : ℕ) → call.before.faults ≤ call.after.faults → call.after.faults ≤ faults → Ends call journal status → Ends (later call call.after.told faults) journal status
-ends-later call journal status faults first second ends = record {
-  order = ends.order;
-  last = ends.last;
-  ran = record { verdict = ends.ran.verdict; is_run = ends.ran.is_run; ran_as = ends.ran.ran_as; seen = ends.ran.seen; rerun = ends.ran.rerun };
-  finishes = finishes-later ends.order (record { entries = journal; last = ends.last }) call status faults first second ends.finishes;
-}
-
-bad_words-later : (call : Call) (faults : ℕ) → call.before.faults ≤ call.after.faults → call.after.faults ≤ faults → SaysBadWords call → SaysBadWords (later call call.after.told faults)
-bad_words-later call faults first second (inl says) = inl (says.0, nothing-later call faults says.1)
-bad_words-later call faults first second (inr says) = inr (refused-later call BadWords faults first second says)
-
-no_memory-later : (call : Call) (faults : ℕ) → call.before.faults ≤ call.after.faults → call.after.faults ≤ faults → SaysNoMemory call → SaysNoMemory (later call call.after.told faults)
-no_memory-later call faults first second says = record { command = says.command; words = says.words; done = by says.done; journal = says.journal }
-  where
-    by : NothingDone call ⊎ ((journal : List Entry) × Ends call journal NoMemory) → NothingDone (later call call.after.told faults) ⊎ ((journal : List Entry) × Ends (later call call.after.told faults) journal NoMemory)
-    by (inl nothing) = inl (nothing-later call faults nothing)
-    by (inr (journal, ends)) = inr (journal, ends-later call journal NoMemory faults first second ends)
-
-says-later : (call : Call) (status : Status) (faults : ℕ) → call.before.faults ≤ call.after.faults → call.after.faults ≤ faults → Says call status → Says (later call call.after.told faults) status
-unfolding ends-later
-says-later call Done faults first second says = record { ends = ends-later call call.journal Done faults first second says.ends; files = says.files }
-says-later call BadWords faults first second says = bad_words-later call faults first second says
-says-later call (Missing name) faults first second says = refused-later call (Missing name) faults first second says
-says-later call (ReadFault name) faults first second says = refused-later call (ReadFault name) faults first second says
-says-later call (BadPolicy rule entry) faults first second says = refused-later call (BadPolicy rule entry) faults first second says
-says-later call (BadScript line rule) faults first second says = refused-later call (BadScript line rule) faults first second says
-says-later call (BadStart place cause) faults first second says = refused-later call (BadStart place cause) faults first second says
-says-later call (WriteFault name) faults first second says = ends-later call call.journal (WriteFault name) faults first second says
-says-later call SayFault faults first second says = ends-later call call.journal SayFault faults first second says
-says-later call NoMemory faults first second says = no_memory-later call faults first second says
-says-later call (NotARun line) faults first second says = record { order = says.order; verdict = says.verdict; stops = says.stops; nothing = nothing-later call faults says.nothing }
-says-later call (Clash name) faults first second says = refused-later call (Clash name) faults first second says
-says-later call other faults first second says = absurd says
-
-pub says-at_last : (call : Call) (status : Status) (told : Option FileMap) (faults : ℕ) → told ≡ call.after.told → call.before.faults ≤ call.after.faults → call.after.faults ≤ faults → Says call status → Says (later call told faults) status
-says-at_last call status told faults same first second says = subst (λ (t : Option FileMap). Says (later call t faults) status) (sym same) (says-later call status faults first second says)
+-- what an answer says of a call stays so where files are read once more
+pub says-later : (call : Call) (status : Status) (told : Option FileMap) → told ≡ call.after.told → Says call status → Says (later call told) status
+says-later call status told same says = subst (λ (t : Option FileMap). Says (later call t) status) (sym same) says

@@ -1,9 +1,9 @@
 -- What each answer of the host says.
-use Rattle.std.specs.Prelude.{◌≡◌, ℕ, List, [], Some, None, ◌⊎◌}
+use Rattle.std.specs.Prelude.{◌≡◌, ◌<◌, ◌≤◌, ℕ, List, [], length, Ok, Some, None, IfSome, ◌⊎◌}
 use Rattle.lio_values.specs.declared.entry.Entry.{Entry}
 use Rattle.lio_outside.specs.FileMap.{FileMap}
 use Rattle.lio_outside.specs.Call.{Outside}
-use Rattle.lio_outside.specs.Count.{Rose}
+use Rattle.lio_outside.specs.Count.{Faults, FailedAt, Rose}
 use Rattle.lio_outside.specs.Said.{said_with, SaidPartly}
 use Rattle.lio_outside.specs.Outputs.{kept, KeepsFirst, StopsAt}
 use Rattle.lio_front.specs.Laws.{HoldsEachFile}
@@ -12,13 +12,13 @@ use Rattle.lio_calculus.specs.Run.{Ran}
 use Rattle.lio_calculus.specs.Step.{Configuration}
 use Rattle.lio_start.specs.Job.{first_of}
 use Rattle.lio_rounds.specs.Headline.{IsRunOf}
-use Rattle.lio_rounds.specs.Runs.{IsByRounds}
+use Rattle.lio_rounds.specs.Runs.{IsByRounds, IsMergeOfLogs}
 use Rattle.lio_front.specs.Command.{Command, command_of}
 use Rattle.lio_front.specs.declared.status.Status.{Status}
 use Rattle.lio_front.specs.declared.status.Status.TheVariants.{Done, BadWords, Missing, ReadFault, BadPolicy, BadScript, BadStart, WriteFault, SayFault, NoMemory, NotARun, Clash}
 use Rattle.lio_front.specs.Status.{Failed, answer_of, exit_status}
-use Rattle.lio_audit.specs.History.{IsHistoryOf, Says as StopsRun}
-use Rattle.lio_audit.specs.declared.fault.AuditFault.{AuditFault}
+use Rattle.lio_audit.specs.Expected.{CouldNotGoOn}
+use Rattle.lio_audit.specs.History.{IsHistoryOf, Says as StopsRun, most_history_bytes}
 use Rattle.lio_audit.specs.declared.fault.AuditFault.TheVariants as audit_fault
 use Rattle.lio_host_main.specs.Order.{Order, Way, InRounds, ByWorkers, AsTold, seen_by, view_file, written}
 use Rattle.lio_host_main.specs.Verdict.{IsRefusedBy, IsVerdict, verdict}
@@ -48,10 +48,10 @@ pub record Refused (call : Call) (status : Status) : Type 0 where
 abbrev pub SaysBadWords : Call → Type 0
 SaysBadWords call = ((command_of call.words ≡ None) × NothingDone call) ⊎ Refused call BadWords
 
--- how a run was made: in rounds; in the order in which workers came to take turns, which is theirs; or as the bytes of a history tell, which are that of the run
+-- how a run was made: in rounds; in the order in which workers came to take turns, which is theirs, so that its journal is the merge of the logs of all nodes; or as the bytes of a history tell, which are that of the run
 abbrev pub RanBy : Way → Order → Ran → Type 0
 RanBy InRounds order ran = IsByRounds (first_of order.job) ran
-RanBy (ByWorkers count) order ran = Unit {0}
+RanBy (ByWorkers count) order ran = IsMergeOfLogs (first_of order.job) ran
 RanBy (AsTold bytes) order ran = IsHistoryOf order.job.policy.names (first_of order.job) bytes ran
 
 abbrev pub RanAs : Order → Ran → Type 0
@@ -65,15 +65,13 @@ pub record RunsOrder (call : Call) (order : Order) (ran : Ran) : Type 0 where
   pub seen : IsSeenByEach order.job.policy.names (first_of order.job) ran
   pub rerun : IsRerunByEach order.way (first_of order.job) ran
 
--- where a history is refused, its bytes are that of no complete run
-abbrev pub IsNone : List (List ℕ) → Configuration → List ℕ → AuditFault → Type 0
-IsNone names first bytes (audit_fault.NotARun line) = (ran : Ran) → IsHistoryOf names first bytes ran → ⊥
-IsNone names first bytes audit_fault.NoMemory = Unit {0}
+-- bytes aren't the history of a complete run from a configuration, from a line on: they are that of no run, and stop at no other line
+abbrev pub StopsAtLine : List (List ℕ) → Configuration → List ℕ → ℕ → Type 0
+StopsAtLine names first bytes line = StopsRun names first bytes (audit_fault.NotARun line)
 
--- Bytes aren't the history of a complete run from a configuration, from a line on.
-pub record StopsAtLine (names : List (List ℕ)) (first : Configuration) (bytes : List ℕ) (line : ℕ) : Type 0 where
-  pub stops : StopsRun names first bytes (audit_fault.NotARun line)
-  pub none : (ran : Ran) → IsHistoryOf names first bytes ran → ⊥
+-- no line with this number, from 1, could stand in bytes, or a history may not have as many
+abbrev pub HasNoLine : List (List ℕ) → Configuration → List ℕ → ℕ → Type 0
+HasNoLine names first bytes line = (line ≡ 0) ⊎ ((most_history_bytes < length bytes) ⊎ CouldNotGoOn names first bytes line)
 
 -- the bytes that a run was to follow aren't the history of one, from a line on
 abbrev pub StopsBy : Way → Order → ℕ → Type 0
@@ -98,11 +96,11 @@ abbrev pub summary_of : Order → Ran → List ℕ
 summary_of order ran = summary_text order.job.policy ran.last ran.entries
 
 -- What is written and said of a run. Done: all files are whole, and the summary was said. WriteFault: the files before the named one are whole, that one is as before or holds a first part of its bytes, all
--- others are as before, the count of faults rose, and nothing was said. SayFault: all files are whole, a first part of the summary was said, and the count of the output's faults rose. NoMemory: a first part of the
+-- others are as before, the last call of the store that failed is that for it, and nothing was said. SayFault: all files are whole, a first part of the summary was said, and the count of the output's faults rose. NoMemory: a first part of the
 -- files is whole, none or all of them included, all others are as before, and nothing was said.
 abbrev pub Finishes : Order → Ran → Outside → Outside → Status → Type 0
 Finishes order ran before after Done = (after.told ≡ kept before.told (written order ran.entries)) × (after.said ≡ said_with before.said (summary_of order ran))
-Finishes order ran before after (WriteFault name) = StopsAt before.told after.told (written order ran.entries) name × Rose before.faults after.faults × (after.said ≡ before.said)
+Finishes order ran before after (WriteFault name) = StopsAt before.told after.told (written order ran.entries) name × FailedAt name before.faults after.faults × (after.said ≡ before.said)
 Finishes order ran before after SayFault = (after.told ≡ kept before.told (written order ran.entries)) × SaidPartly before.said after.said (summary_of order ran) × Rose before.say_faults after.say_faults
 Finishes order ran before after NoMemory = KeepsFirst before.told after.told (written order ran.entries) × (after.said ≡ before.said)
 Finishes order ran before after other = ⊥
@@ -149,7 +147,7 @@ Says call (NotARun line) = SaysNotARun call line
 Says call (Clash name) = Refused call (Clash name)
 Says call other = ⊥
 
--- an answer of a file or an output that failed, for which its count of faults rose, or of a history that isn't that of a run
+-- an answer of a file, for which the last call of the store that failed was made, of the output, whose count of faults rose, or of a history that isn't that of a run
 abbrev pub IsFault : Call → Status → Type 0
 IsFault call (NotARun line) = SaysNotARun call line
 IsFault call status = Failed call.before call.after status
@@ -158,8 +156,28 @@ IsFault call status = Failed call.before call.after status
 pub record Follows (call : Call) (status : Status) (files : FileMap) : Type 0 where
   pub answer : (status ≡ answer_of (verdict files call.words)) ⊎ ((status ≡ NoMemory) ⊎ IsFault call status)
 
--- a call ends the program with an answer and its exit status: the answer says of the call, with some journal, what it is to say
+-- the turns of an order can be taken as it says: a history that they are to follow is that of a complete run
+abbrev pub CanBeRun : Way → Order → Type 0
+CanBeRun (AsTold bytes) order = (ran : Ran) × IsHistoryOf order.job.policy.names (first_of order.job) bytes ran
+CanBeRun other order = Unit {0}
+
+-- where the verdict over these files is an order whose turns can be taken as it says, and no count rose, the answer is Done, unless memory is wanting
+abbrev pub Completes : Call → Status → FileMap → Type 0
+Completes call status files = (order : Order) → verdict files call.words ≡ Ok order → CanBeRun order.way order
+    → (Rose call.before.faults.count call.after.faults.count → ⊥) → (Rose call.before.say_faults call.after.say_faults → ⊥) → (status ≡ Done) ⊎ (status ≡ NoMemory)
+
+-- a call up to the moment at which its store had these faults
+abbrev pub until : Call → Faults → Call
+until call faults = record call { after = record call.after { faults = faults } }
+
+-- A call ends the program with an answer and its exit status. The answer was there when the store had some faults, after which files were read once more, for what is told of it. Up to then it says of the
+-- call, with some journal, what it is to say, and where the store tells its files follows the verdict and is Done where it has to be.
 pub record EndsWith (call : List Entry → Call) (status : Status) (exit : ℕ) : Type 0 where
   pub journal : List Entry
-  pub says : Says (call journal) status
+  pub faults : Faults
+  pub says : Says (until (call journal) faults) status
+  pub follows : IfSome (call journal).before.told (Follows (until (call journal) faults) status)
+  pub completes : IfSome (call journal).before.told (Completes (until (call journal) faults) status)
+  pub bad_words : command_of (call journal).words ≡ None → status ≡ BadWords
+  pub no_fewer : faults.count ≤ (call journal).after.faults.count
   pub exit_is : exit ≡ exit_status status

@@ -1,6 +1,7 @@
 -- What a call of the host is to do, as its words and the files say: the answer that refuses it, or what is run.
 use Rattle.std.specs.Prelude.{◌≡◌, ℕ, List, Option, None, Some, Result, Ok, Err, ◌⊎◌}
 use Rattle.lio_outside.specs.FileMap.{FileMap}
+use Rattle.lio_outside.specs.Count.{Faults}
 use Rattle.lio_outside.specs.Fetch.{given}
 use Rattle.lio_outside.specs.Steps.{Steps, Over, ◌>>=◌, asked, outcome, unless}
 use Rattle.lio_outside.specs.Asking.{Cause, IsNotRead, IsSaid, IsNever, Give, Refuse}
@@ -12,6 +13,7 @@ use Rattle.lio_front.specs.Loading.{loading as front_loading, texts}
 use Rattle.lio_front.specs.Clash.{clash}
 use Rattle.lio_front.specs.Status as front
 use Rattle.lio_front.specs.Command.{Command, Mode, Rounds, Workers, Replay, Source, Files, Made, command_of}
+use Rattle.lio_start.specs.declared.job.Job.{Job}
 use Rattle.lio_host_main.specs.declared.order.Loaded.{Loaded}
 use Rattle.lio_host_main.specs.Order.{Order, Way, InRounds, ByWorkers, AsTold, label_text, names_added, names_read}
 use Rattle.lio_host_main.specs.Workload.{made_files, policy_name, script_name}
@@ -86,6 +88,12 @@ pub record IsVerdict (told : Option FileMap) (words : List (List ℕ)) (order : 
   pub command : command_of words ≡ Some order.command
   pub given : AreGiven told order
 
+-- a job is that of the verdict on a call with these words, over what the store gave
+pub record IsJobOfVerdict (told : Option FileMap) (words : List (List ℕ)) (job : Job) : Type 0 where
+  pub order : Order
+  pub verdict : IsVerdict told words order
+  pub job_is : job ≡ order.job
+
 -- what has to hold for each answer of the steps before a run, of which some aren't: that a file is taken is said by the steps
 abbrev pub cause_of : Status → Cause
 cause_of (Clash name) = IsSaid
@@ -97,7 +105,7 @@ of_source (Made size) (IsNotRead name) = IsNever
 of_source source cause = cause
 
 -- A command is refused with an answer: what is run isn't given, or it is, and how the turns are taken isn't.
-abbrev pub IsRefusedBy : Command → Option FileMap → ℕ → ℕ → Status → Type 0
+abbrev pub IsRefusedBy : Command → Option FileMap → Faults → Faults → Status → Type 0
 IsRefusedBy command told before after status =
     Refuse (of_source command.source (cause_of status)) (told_of command.source told) (loading command) before after status
     ⊎ ((loaded : Loaded) × Give (told_of command.source told) (loading command) (Ok loaded) × Refuse (cause_of status) told (ordering command.mode) before after status)

@@ -29,7 +29,8 @@ fn seen(alloc: Global, journal: &Journal, observer: &Option<Label>) -> Result<Jo
 }
 
 /// Writes the files of an order out of a run, with what its observer sees of it, and says the
-/// summary. After want of memory a first part of the files is written, none or all of them included.
+/// summary. After want of memory a first part of the files is written, none or all of them
+/// included.
 pub fn finish_seen<S: Store, W: Say>(
     alloc: Global,
     store: &mut S,
@@ -40,7 +41,7 @@ pub fn finish_seen<S: Store, W: Say>(
 ) -> Result<(), Status>
     requires printable { All (IsPrintable order.now.job.policy.names) ran.now.journal }
     requires seen { seen.now ≡ seen_by order.now.observer ran.now.journal }
-    ensures count { S.faults store.old ≤ S.faults store.new }
+    ensures count { (S.faults store.old).count ≤ (S.faults store.new).count }
     ensures say_count { W.faults say.old ≤ W.faults say.new }
     ensures ok { OnOk result (Finishes (order_of order.now) (ran_of order.now.job.script ran.now)
         (outside S.holds S.faults W.said W.faults store.old say.old)
@@ -67,7 +68,7 @@ pub fn finish_run<S: Store, W: Say>(
     ran: &Ran,
 ) -> Result<(), Status>
     requires { All (IsPrintable order.now.job.policy.names) ran.now.journal }
-    ensures count { S.faults store.old ≤ S.faults store.new }
+    ensures count { (S.faults store.old).count ≤ (S.faults store.new).count }
     ensures say_count { W.faults say.old ≤ W.faults say.new }
     ensures ok { OnOk result (Finishes (order_of order.now) (ran_of order.now.job.script ran.now)
         (outside S.holds S.faults W.said W.faults store.old say.old)
@@ -77,7 +78,5 @@ pub fn finish_run<S: Store, W: Say>(
         (outside S.holds S.faults W.said W.faults store.new say.new)) }
 {
     let seen = seen(alloc, &ran.journal, &order.observer)?;
-    let finished = finish_seen(alloc, store, say, order, ran, &seen);
-    drop(seen);
-    finished
+    finish_seen(alloc, store, say, order, ran, &seen)
 }

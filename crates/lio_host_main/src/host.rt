@@ -1,10 +1,11 @@
 //! The top call: words, policy, script, inputs, run, files, summary.
 
-ghost use Rattle.std.specs.Prelude.{◌≡◌, ◌≤◌, [], None, IfSome};
+ghost use Rattle.std.specs.Prelude.{◌≡◌, ◌≤◌, [], None, Some, IfSome};
 ghost use Rattle.lio_front.specs.Command.{command_of};
 ghost use Rattle.lio_front.specs.Sorted.{bytes_of_words};
 ghost use Rattle.lio_outside.specs.Call.{outside};
-ghost use Rattle.lio_host_main.specs.Answers.{Says, Follows, journal_with};
+ghost use Rattle.lio_host_main.specs.Answers.{Completes, Follows, Says, journal_with};
+ghost use Rattle.lio_host_main.specs.Verdict.{IsJobOfVerdict};
 
 use crate::HostStatus;
 use crate::finish::finish_run;
@@ -35,6 +36,7 @@ pub struct Outcome {
 fn refused(alloc: Global, status: HostStatus) -> Outcome
     ensures status { result.status ≡ status }
     ensures journal { result.journal ≡ [] }
+    ensures job { result.job ≡ None }
 {
     Outcome {
         status,
@@ -47,6 +49,7 @@ fn refused(alloc: Global, status: HostStatus) -> Outcome
 fn stopped(alloc: Global, status: HostStatus, order: Order<'_>) -> Outcome
     ensures status { result.status ≡ status }
     ensures journal { result.journal ≡ [] }
+    ensures job { result.job ≡ Some order.entry.job }
 {
     let Order {
         job,
@@ -67,12 +70,10 @@ fn stopped(alloc: Global, status: HostStatus, order: Order<'_>) -> Outcome
 fn unfinished(alloc: Global, status: HostStatus, journal: Journal) -> Outcome
     ensures status { result.status ≡ status }
     ensures journal { result.journal ≡ journal_with status journal }
+    ensures job { result.job ≡ None }
 {
     match status {
-        HostStatus::NoMemory => {
-            drop(journal);
-            refused(alloc, HostStatus::NoMemory)
-        }
+        HostStatus::NoMemory => refused(alloc, HostStatus::NoMemory),
         status => Outcome {
             status,
             journal,
@@ -90,8 +91,10 @@ fn answer<R: Threads + Wait + Sync, S: Store, W: Say, G: Gate + Sync>(
     say: &mut W,
     gate: &G,
 ) -> Outcome
-    ensures count { S.faults store.old ≤ S.faults store.new }
+    ensures count { (S.faults store.old).count ≤ (S.faults store.new).count }
     ensures say_count { W.faults say.old ≤ W.faults say.new }
+    ensures job { IfSome result.job
+        (IsJobOfVerdict (S.holds store.old) (bytes_of_words words.now)) }
     ensures says { Says (record {
       words = bytes_of_words words.now;
       before = outside S.holds S.faults W.said W.faults store.old say.old;
@@ -136,7 +139,8 @@ fn answer<R: Threads + Wait + Sync, S: Store, W: Say, G: Gate + Sync>(
 }
 
 /// Does what the words ask for: runs the script under the policy, in rounds, by workers or as a
-/// history tells, writes the files, and says the summary. The gate is told of each turn of a worker.
+/// history tells, writes the files, and says the summary. The gate is told of each turn of a
+/// worker.
 pub fn host_main<R: Threads + Wait + Sync, S: Store, W: Say, G: Gate + Sync>(
     rt: &R,
     alloc: Global,
@@ -145,7 +149,7 @@ pub fn host_main<R: Threads + Wait + Sync, S: Store, W: Say, G: Gate + Sync>(
     say: &mut W,
     gate: &G,
 ) -> Outcome
-    ensures count { S.faults store.old ≤ S.faults store.new }
+    ensures count { (S.faults store.old).count ≤ (S.faults store.new).count }
     ensures say_count { W.faults say.old ≤ W.faults say.new }
     ensures says { Says (record {
       words = bytes_of_words words.now;
@@ -179,8 +183,16 @@ pub fn host_main<R: Threads + Wait + Sync, S: Store, W: Say, G: Gate + Sync>(
       };
       journal = result.journal;
     }) result.status) }
+    ensures completes { IfSome (S.holds store.old) (Completes (record {
+      words = bytes_of_words words.now;
+      before = outside S.holds S.faults W.said W.faults store.old say.old;
+      after = outside S.holds S.faults W.said W.faults store.new say.new;
+      journal = result.journal;
+    }) result.status) }
     ensures bad_words { command_of (bytes_of_words words.now) ≡ None
         → result.status ≡ HostStatus.BadWords }
+    ensures job { IfSome result.job
+        (IsJobOfVerdict (S.holds store.old) (bytes_of_words words.now)) }
 {
     answer(rt, alloc, words, store, say, gate)
 }

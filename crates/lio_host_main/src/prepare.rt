@@ -8,7 +8,8 @@ ghost use Rattle.lio_front.specs.Command.{IsCounted, IsSized};
 ghost use Rattle.lio_front.specs.Sorted.{mode_named, named, source_named};
 ghost use Rattle.lio_host_main.specs.Order.{IsCountedWay, files_read, label_text, names_added};
 ghost use Rattle.lio_host_main.specs.Order.{names_read, order_of, replayed, view_file, way_of};
-ghost use Rattle.lio_host_main.specs.Verdict.{AreGiven, IsRefusedBy, cause_of, loading, loading_from};
+ghost use Rattle.lio_host_main.specs.Verdict.{AreGiven, IsRefusedBy, cause_of, loading};
+ghost use Rattle.lio_host_main.specs.Verdict.{loading_from};
 ghost use Rattle.lio_host_main.specs.Verdict.{of_source, ordering, taking, told_of};
 
 use crate::order::{Loaded, Order, Way};
@@ -105,7 +106,7 @@ fn take_inputs<S: Store>(
     policy: &Policy,
 ) -> Result<List<Text>, Status>
     ensures files { S.holds store.new ≡ S.holds store.old }
-    ensures count { S.faults store.old ≤ S.faults store.new }
+    ensures count { (S.faults store.old).count ≤ (S.faults store.new).count }
     ensures ok { IfOk result (λ inputs. Give (S.holds store.old)
         (taking (named command.entry) policy.now) (Ok inputs)) }
     ensures each { IfOk result (λ inputs. length inputs ≡ length policy.now.inputs) }
@@ -131,7 +132,7 @@ fn load_from<S: Store>(
     command: Command<'_>,
 ) -> Result<Loaded, Status>
     ensures files { S.holds store.new ≡ S.holds store.old }
-    ensures count { S.faults store.old ≤ S.faults store.new }
+    ensures count { (S.faults store.old).count ≤ (S.faults store.new).count }
     ensures ok { IfOk result (λ loaded. Give (S.holds store.old)
         (loading_from policy.now script.now (named command.entry)) (Ok loaded)) }
     ensures err { IfErr result (λ status. Refuse (cause_of status) (S.holds store.old)
@@ -144,10 +145,7 @@ fn load_from<S: Store>(
             job: Job::of(front.policy, front.script, inputs),
             observer: front.observer,
         }),
-        Err(status) => {
-            drop(front);
-            Err(status)
-        }
+        Err(status) => Err(status),
     }
 }
 
@@ -160,7 +158,7 @@ fn load_source<S: Store>(
 ) -> Result<Loaded, Status>
     requires { IsSized (source_named command.source) }
     ensures files { S.holds store.new ≡ S.holds store.old }
-    ensures count { S.faults store.old ≤ S.faults store.new }
+    ensures count { (S.faults store.old).count ≤ (S.faults store.new).count }
     ensures ok { IfOk result (λ loaded. Give
         (told_of (source_named command.entry.source) (S.holds store.old))
         (loading (named command.entry)) (Ok loaded)) }
@@ -181,7 +179,7 @@ fn load_source<S: Store>(
 /// How the turns are taken; a history that is taken again is fetched. The store's files stay.
 fn load_way<S: Store>(alloc: Global, store: &mut S, mode: Mode<'_>) -> Result<Way, Status>
     ensures files { S.holds store.new ≡ S.holds store.old }
-    ensures count { S.faults store.old ≤ S.faults store.new }
+    ensures count { (S.faults store.old).count ≤ (S.faults store.new).count }
     ensures counted { IsCounted (mode_named mode.entry) → IfOk result IsCountedWay }
     ensures ok { IfOk result (λ way. Give (S.holds store.old)
         (ordering (mode_named mode.entry)) (Ok (way_of way))) }
@@ -204,7 +202,7 @@ pub fn prepare_order<'a, S: Store>(
     requires sized { IsSized (source_named command.source) }
     requires counted { IsCounted (mode_named command.mode) }
     ensures files { S.holds store.new ≡ S.holds store.old }
-    ensures count { S.faults store.old ≤ S.faults store.new }
+    ensures count { (S.faults store.old).count ≤ (S.faults store.new).count }
     ensures counted { IfOk result (λ order. IsCountedWay order.way) }
     ensures command { IfOk result (λ order. named order.command ≡ named command.entry) }
     ensures ok { IfOk result (λ order. AreGiven (S.holds store.old) (order_of order)) }

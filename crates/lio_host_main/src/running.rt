@@ -1,6 +1,6 @@
 //! How the turns of an order are taken: in rounds, by workers, or as a history tells.
 
-ghost use Rattle.std.specs.Prelude.{◌≡◌, IfErr, IfOk, IfSome};
+ghost use Rattle.std.specs.Prelude.{◌≡◌, IfErr, IfOk, MatchOption};
 ghost use Rattle.lio_audit.specs.Expected.{CouldGoOn};
 ghost use Rattle.lio_audit.specs.History.{IsHistoryOf, Says};
 ghost use Rattle.lio_rounds.specs.Headline.{IsRunOf};
@@ -10,7 +10,7 @@ ghost use Rattle.lio_calculus_runs.specs.WellFormed.{IsWellFormed};
 ghost use Rattle.lio_task.specs.Configuration.{configuration_of};
 ghost use Rattle.lio_task.specs.Logs.{AreFresh};
 ghost use Rattle.lio_start.specs.Job.{IsJob, first_of};
-ghost use Rattle.lio_host_main.specs.Answers.{IsNone, RanAs, StopsTheRun};
+ghost use Rattle.lio_host_main.specs.Answers.{HasNoLine, RanAs, StopsTheRun};
 ghost use Rattle.lio_host_main.specs.Order.{IsCountedWay, order_of};
 
 use crate::order::{Order, Way};
@@ -46,7 +46,6 @@ fn replay(alloc: Global, job: &Job, history: &[u8]) -> Result<Ran, AuditFault>
     ensures history { IfOk result (λ ran. IsHistoryOf job.now.policy.names (first_of job.now)
         history.now (ran_of job.now.script ran)) }
     ensures err { IfErr result (Says job.now.policy.names (first_of job.now) history.now) }
-    ensures none { IfErr result (IsNone job.now.policy.names (first_of job.now) history.now) }
 {
     let config = begin(alloc, job)?;
     let script = job.script();
@@ -55,16 +54,17 @@ fn replay(alloc: Global, job: &Job, history: &[u8]) -> Result<Ran, AuditFault>
     Ok(Ran { journal, config })
 }
 
-/// The line with which the history of a job's run should have gone on at a line, from 1, at which it
-/// stops, where that is known.
+/// The line with which the history of a job's run should have gone on at a line, from 1, at which
+/// it stops, where that is known.
 pub fn expected_line(
     alloc: Global,
     job: &Job,
     history: &[u8],
     line: u32,
 ) -> Result<Option<Vec<u8>>, NoMemory>
-    ensures { IfOk result (λ text. IfSome text (λ t. CouldGoOn job.now.policy.names
-        (first_of job.now) history.now line t.items)) }
+    ensures { IfOk result (λ text. MatchOption text
+        (HasNoLine job.now.policy.names (first_of job.now) history.now line)
+        (λ t. CouldGoOn job.now.policy.names (first_of job.now) history.now line t.items)) }
 {
     if line == 0 || history.len() > MOST_HISTORY_BYTES {
         return Ok(None);

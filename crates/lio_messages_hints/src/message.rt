@@ -96,7 +96,6 @@ impl Message {
     pub fn finish(self) -> Result<String, NoMemory> {
         let Message { text, is_refused } = self;
         if is_refused {
-            drop(text);
             return Err(NoMemory);
         }
         Ok(text)

@@ -227,7 +227,6 @@ pub(crate) fn look_again(
     let mut config = start(alloc, job)?;
     let taken = take_turns(alloc, job, script, &mut config, entries, turns, &mut found);
     look_at_last(job, &config, &mut found);
-    drop(config);
     match taken {
         Ok(()) => Ok(found),
         Err(_) => Err(NoMemory),

@@ -22,7 +22,7 @@ pub fn bytes_again<S: Store>(
     limit: u32,
 ) -> Option<Vec<u8>>
     ensures files { S.holds store.new ≡ S.holds store.old }
-    ensures count { S.faults store.old ≤ S.faults store.new }
+    ensures count { (S.faults store.old).count ≤ (S.faults store.new).count }
 {
     match fs::metadata(files, name) {
         Ok(about) if about.is_file() => store.fetch(alloc, name.as_bytes(), limit).ok(),
@@ -30,8 +30,8 @@ pub fn bytes_again<S: Store>(
     }
 }
 
-/// The text of the script's file, for messages; no bytes where it can't be read once more. The store's
-/// files stay.
+/// The text of the script's file, for messages; no bytes where it can't be read once more. The
+/// store's files stay.
 pub fn script_text<S: Store>(
     alloc: Global,
     files: &impl Files,
@@ -39,7 +39,7 @@ pub fn script_text<S: Store>(
     name: &str,
 ) -> Vec<u8>
     ensures files { S.holds store.new ≡ S.holds store.old }
-    ensures count { S.faults store.old ≤ S.faults store.new }
+    ensures count { (S.faults store.old).count ≤ (S.faults store.new).count }
 {
     bytes_again(alloc, files, store, name, MOST_SCRIPT_BYTES).unwrap_or(Vec::new(alloc))
 }
@@ -54,7 +54,7 @@ fn asked<S: Store>(
     limit: u32,
 ) -> Option<Vec<u8>>
     ensures files { S.holds store.new ≡ S.holds store.old }
-    ensures count { S.faults store.old ≤ S.faults store.new }
+    ensures count { (S.faults store.old).count ≤ (S.faults store.new).count }
 {
     if is_asked {
         bytes_again(alloc, files, store, name, limit)
@@ -96,9 +96,9 @@ fn slice_of(bytes: &Option<Vec<u8>>) -> Option<&[u8]> {
     }
 }
 
-/// What helps to mend what was refused, by the texts of the files that the words name, and by the line
-/// at which a history or a view stops. The texts are read once more, and the store's files stay; where
-/// they can't be, nothing beyond the answer is known.
+/// What helps to mend what was refused, by the texts of the files that the words name, and by the
+/// line at which a history or a view stops. The texts are read once more, and the store's files
+/// stay; where they can't be, nothing beyond the answer is known.
 pub(crate) fn refusal_detail<S: Store>(
     alloc: Global,
     files: &impl Files,
@@ -109,7 +109,7 @@ pub(crate) fn refusal_detail<S: Store>(
     stop: Option<Stop>,
 ) -> Detail
     ensures files { S.holds store.new ≡ S.holds store.old }
-    ensures count { S.faults store.old ≤ S.faults store.new }
+    ensures count { (S.faults store.old).count ≤ (S.faults store.new).count }
 {
     let why = trouble_of(alloc, program, store, status);
     let FileNames {

@@ -32,7 +32,8 @@ pub enum Detail {
     Stop(Stop),
 }
 
-/// The texts of the policy and of the script, as far as they are there and say something of a refusal.
+/// The texts of the policy and of the script, as far as they are there and say something of a
+/// refusal.
 #[derive(Clone, Copy)]
 pub struct Texts<'a> {
     pub policy: Option<&'a [u8]>,
@@ -89,11 +90,7 @@ fn texts_say(
     script: &[u8],
 ) -> Result<Detail, NoMemory> {
     match read_policy(alloc, policy) {
-        Ok(policy) => {
-            let detail = policy_says(alloc, status, &policy, script);
-            drop(policy);
-            detail
-        }
+        Ok(policy) => policy_says(alloc, status, &policy, script),
         Err(PolicyFault::Bad { .. }) => Ok(Detail::Nothing),
         Err(PolicyFault::NoMemory) => Err(NoMemory),
     }
@@ -102,17 +99,13 @@ fn texts_say(
 /// The channels that are written before the file with a name, in the policy that a text is.
 fn channels_of(alloc: Global, policy: Option<&[u8]>, name: &Text) -> Option<Channels> {
     match read_policy(alloc, policy?) {
-        Ok(policy) => {
-            let channels = channels_before(&policy, name);
-            drop(policy);
-            Some(channels)
-        }
+        Ok(policy) => Some(channels_before(&policy, name)),
         Err(_) => None,
     }
 }
 
-/// What the trouble with a file, the texts, and the line at which a history or a view stops say of a
-/// refusal.
+/// What the trouble with a file, the texts, and the line at which a history or a view stops say of
+/// a refusal.
 pub fn detail_of(
     alloc: Global,
     status: &Status,

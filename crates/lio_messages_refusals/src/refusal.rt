@@ -211,7 +211,7 @@ pub fn print_refusal<R: AllocGlobal + Files + Eprint, S: Store>(
     stop: Option<Stop>,
 )
     ensures files { S.holds store.new ≡ S.holds store.old }
-    ensures count { S.faults store.old ≤ S.faults store.new }
+    ensures count { (S.faults store.old).count ≤ (S.faults store.new).count }
 {
     if let Status::Done = status {
         drop(stop);

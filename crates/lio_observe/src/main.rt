@@ -46,7 +46,7 @@ fn report<R: AllocGlobal + Files + Eprint, S: Store>(
     status: &ObserveStatus,
 )
     ensures files { S.holds store.new ≡ S.holds store.old }
-    ensures count { S.faults store.old ≤ S.faults store.new }
+    ensures count { (S.faults store.old).count ≤ (S.faults store.new).count }
 {
     let stop = stop_of(rt.alloc(), rt, store, status, words);
     print_refusal(rt, Program::Observer, words, store, status, stop);

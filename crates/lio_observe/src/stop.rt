@@ -1,4 +1,5 @@
-//! The line at which a view stops, for what is told of it: what was to be checked is read once more.
+//! The line at which a view stops, for what is told of it: what was to be checked is read once
+//! more.
 
 ghost use Rattle.std.specs.Prelude.{◌≡◌, ◌≤◌};
 
@@ -38,11 +39,7 @@ fn has_used_up(files: &impl Files, policy: &Policy, observer: &Label) -> bool {
 /// Whether each input of a policy that an observer with a label sees can be read once more.
 fn can_read_inputs(alloc: Global, files: &impl Files, policy: &Policy, label: &[u8]) -> bool {
     match Label::read(alloc, label, &policy.names) {
-        Ok(observer) => {
-            let used_up = has_used_up(files, policy, &observer);
-            drop(observer);
-            !used_up
-        }
+        Ok(observer) => !has_used_up(files, policy, &observer),
         Err(_) => false,
     }
 }
@@ -51,11 +48,7 @@ fn can_read_inputs(alloc: Global, files: &impl Files, policy: &Policy, label: &[
 /// the observer's label.
 fn can_be_read_again(alloc: Global, files: &impl Files, policy: &[u8], label: &[u8]) -> bool {
     match read_policy(alloc, policy) {
-        Ok(policy) => {
-            let can = can_read_inputs(alloc, files, &policy, label);
-            drop(policy);
-            can
-        }
+        Ok(policy) => can_read_inputs(alloc, files, &policy, label),
         Err(_) => false,
     }
 }
@@ -68,7 +61,7 @@ fn claim_again<S: Store>(
     command: Command<'_>,
 ) -> Option<Claim>
     ensures files { S.holds store.new ≡ S.holds store.old }
-    ensures count { S.faults store.old ≤ S.faults store.new }
+    ensures count { (S.faults store.old).count ≤ (S.faults store.new).count }
 {
     let name = str::from_utf8(command.policy).unwrap_or("");
     match bytes_again(alloc, files, store, name, MOST_POLICY_BYTES) {
@@ -96,7 +89,7 @@ pub(crate) fn stop_of<S: Store>(
     words: &[String],
 ) -> Option<Stop>
     ensures files { S.holds store.new ≡ S.holds store.old }
-    ensures count { S.faults store.old ≤ S.faults store.new }
+    ensures count { (S.faults store.old).count ≤ (S.faults store.new).count }
 {
     let (ObserveStatus::NotAView(line), Some(command)) = (status, read_words(words)) else {
         return None;
@@ -104,7 +97,6 @@ pub(crate) fn stop_of<S: Store>(
     match claim_again(alloc, files, store, command) {
         Some(claim) => {
             let stop = stop_in(alloc, &claim, *line);
-            drop(claim);
             if *line > 0 { stop.ok() } else { None }
         }
         None => None,

@@ -3,8 +3,9 @@ use Rattle.std.proofs.Common.{◌≡◌, ◌∙◌, refl, sym, ap, subst, ℕ, �
 use Rattle.std.specs.Option.{option_map}
 use Rattle.std.proofs.lemmas.List.{length-take, take_all}
 use Rattle.lio_outside.specs.FileMap.{FileMap, bytes_of}
+use Rattle.lio_outside.specs.Count.{Faults}
 use Rattle.lio_outside.specs.Steps.{Steps, Over, ◌>>=◌, asked, or_refused}
-use Rattle.lio_outside.specs.Asking.{Give, Refuse}
+use Rattle.lio_outside.specs.Asking.{Give}
 use Rattle.lio_outside.proofs.StepsLemmas.{give-parts, give-refused, give-then, refuse-behind, refuse-first}
 use Rattle.lio_audit.specs.History.{most_history_bytes}
 use Rattle.lio_labels.specs.declared.label.Label.{Label}
@@ -39,17 +40,17 @@ give-held told observer policy view texts bytes first second =
     (give-then told (view_of view) (with_view texts) bytes (Ok (texts, bytes)) second refl)
 
 -- a text isn't
-pub refuse-texts : (told : Option FileMap) (observer : Label) (policy : Policy) (view : List ℕ) (before after : ℕ) (fault : Status) → before ≤ after → Says told (texts_seen observer policy.longest policy.inputs) before after fault
+pub refuse-texts : (told : Option FileMap) (observer : Label) (policy : Policy) (view : List ℕ) (before after : Faults) (fault : Status) → Says told (texts_seen observer policy.longest policy.inputs) before after fault
     → Says told (holding observer policy view) before after fault
-refuse-texts told observer policy view before after fault below says =
-    refuse-first (cause_of fault) told (texts_seen observer policy.longest policy.inputs) (behind_texts view) before after after fault below (omega arith) says
+refuse-texts told observer policy view before after fault says =
+    refuse-first (cause_of fault) told (texts_seen observer policy.longest policy.inputs) (behind_texts view) before after fault says
 
 -- the view isn't
-pub refuse-view : (told : Option FileMap) (observer : Label) (policy : Policy) (view : List ℕ) (texts : List (List ℕ)) (before middle after : ℕ) (fault : Status) → before ≤ middle → middle ≤ after
+pub refuse-view : (told : Option FileMap) (observer : Label) (policy : Policy) (view : List ℕ) (texts : List (List ℕ)) (before middle after : Faults) (fault : Status) → before.count ≤ middle.count
     → Give told (texts_seen observer policy.longest policy.inputs) (Ok texts) → Says told (view_of view) middle after fault → Says told (holding observer policy view) before after fault
-refuse-view told observer policy view texts before middle after fault first second gave says =
-    refuse-behind (cause_of fault) told (texts_seen observer policy.longest policy.inputs) (behind_texts view) texts before middle after fault first second gave
-    (refuse-first (cause_of fault) told (view_of view) (with_view texts) middle after after fault second (omega arith) says)
+refuse-view told observer policy view texts before middle after fault first gave says =
+    refuse-behind (cause_of fault) told (texts_seen observer policy.longest policy.inputs) (behind_texts view) texts before middle after fault first gave
+    (refuse-first (cause_of fault) told (view_of view) (with_view texts) middle after fault says)
 
 -- the steps of a command, and those behind its parts
 abbrev front_steps : Command → Steps Front Status
@@ -74,9 +75,9 @@ abbrev behind_front : Command → Front → Steps Claim Status
 behind_front command read = label_of read >>= behind_label command read
 
 -- the policy, the label or the script isn't read
-pub refuse-front : (told : Option FileMap) (command : Command) (before after : ℕ) (fault : Status) → before ≤ after → Says told (loading command.policy command.script (Some command.label)) before after fault
+pub refuse-front : (told : Option FileMap) (command : Command) (before after : Faults) (fault : Status) → Says told (loading command.policy command.script (Some command.label)) before after fault
     → Says told (claiming command) before after fault
-refuse-front told command before after fault below says = refuse-first (cause_of fault) told (front_steps command) (behind_front command) before after after fault below (omega arith) says
+refuse-front told command before after fault says = refuse-first (cause_of fault) told (front_steps command) (behind_front command) before after fault says
 
 -- there is no label
 pub give-unlabelled : (told : Option FileMap) (command : Command) (read : Front) → Give told (loading command.policy command.script (Some command.label)) (Ok read) → read.observer ≡ None → Give told (claiming command) (Err BadWords)
@@ -85,14 +86,14 @@ give-unlabelled told command read gave none =
     (give-refused told (label_of read) (behind_label command read) BadWords (ap (or_refused BadWords) none))
 
 -- a text or the view isn't there
-pub refuse-held : (told : Option FileMap) (command : Command) (read : Front) (observer : Label) (before middle after : ℕ) (fault : Status) → before ≤ middle → middle ≤ after
+pub refuse-held : (told : Option FileMap) (command : Command) (read : Front) (observer : Label) (before middle after : Faults) (fault : Status) → before.count ≤ middle.count
     → Give told (loading command.policy command.script (Some command.label)) (Ok read) → read.observer ≡ Some observer → Says told (holding observer read.policy command.view) middle after fault
     → Says told (claiming command) before after fault
-refuse-held told command read observer before middle after fault first second gave some says =
+refuse-held told command read observer before middle after fault first gave some says =
     let cause = cause_of fault in
-    refuse-behind cause told (front_steps command) (behind_front command) read before middle after fault first second gave
-    (refuse-behind cause told (label_of read) (behind_label command read) observer middle middle after fault (omega arith) second (ap (or_refused BadWords) some)
-    (refuse-first cause told (held_steps command read observer) (with_held read observer) middle after after fault second (omega arith) says))
+    refuse-behind cause told (front_steps command) (behind_front command) read before middle after fault first gave
+    (refuse-behind cause told (label_of read) (behind_label command read) observer middle middle after fault (omega arith) (ap (or_refused BadWords) some)
+    (refuse-first cause told (held_steps command read observer) (with_held read observer) middle after fault says))
 
 -- all is there
 pub give-claim : (told : Option FileMap) (command : Command) (read : Front) (observer : Label) (held : Held) → Give told (loading command.policy command.script (Some command.label)) (Ok read) → read.observer ≡ Some observer

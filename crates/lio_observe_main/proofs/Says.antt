@@ -1,13 +1,13 @@
 -- How the answers of the steps make the answer of the call.
-use Rattle.std.proofs.Common.{◌≡◌, ◌∙◌, sym, ap, subst, refl, arith, ℕ, ◌≤◌, List, Option, Some, None, Ok, Err, inl, inr}
+use Rattle.std.proofs.Common.{◌≡◌, ◌∙◌, sym, ap, subst, refl, ℕ, List, Option, Some, None, Ok, Err, inl, inr}
 use Rattle.std.specs.Prelude.{IfSome}
 use Rattle.lio_outside.specs.FileMap.{FileMap}
 use Rattle.lio_outside.specs.Fetch.{given}
 use Rattle.lio_outside.specs.Call.{Call}
-use Rattle.lio_outside.specs.Count.{Rose}
+use Rattle.lio_outside.specs.Count.{Faults, Rose}
 use Rattle.lio_outside.specs.Said.{SaidPartly}
 use Rattle.lio_outside.specs.Asking.{Give, Refuse}
-use Rattle.lio_outside.proofs.StepsLemmas.{give-outcome, refuse-in_part}
+use Rattle.lio_outside.proofs.StepsLemmas.{give-outcome}
 use Rattle.lio_outside.specs.declared.say.SayFault as say
 use Rattle.lio_outside.specs.declared.say.SayFault.TheVariants as say_fault
 use Rattle.lio_front.specs.declared.status.Status.{Status}
@@ -16,7 +16,7 @@ use Rattle.lio_front.specs.Status.{answer_of, cause_of, of_say}
 use Rattle.lio_observe_main.specs.Claim.{Agrees, Claim, IsRight, IsViewFrom}
 use Rattle.lio_observe_main.specs.Verdict.{IsVerdict, claiming, verdict, verdict_by}
 use Rattle.lio_observe_main.specs.Words.{Command, command_of}
-use Rattle.lio_observe_main.specs.Answers.{Accepts, Completes, Follows, IsFault, IsRefused, IsRefusedBy, IsUnsaid, Says, StopsTheCheck, view_text}
+use Rattle.lio_observe_main.specs.Answers.{Accepts, Completes, Follows, IsFault, IsRefused, IsUnsaid, Says, StopsTheCheck, view_text}
 use Rattle.lio_observe_main.proofs.CheckLemmas.{agrees-itself, none-of}
 use Rattle.lio_observe_main.proofs.ClaimLemmas.{claim-whole, the-claim}
 
@@ -32,14 +32,14 @@ accepts told words command claim count named given right = record {
 }
 
 -- none was
-pub refused-check : (told : Option FileMap) (words : List (List ℕ)) (before after : ℕ) (command : Command) (claim : Claim) (status : Status) → command_of words ≡ Some command → Give told (claiming command) (Ok claim) → StopsTheCheck claim status
+pub refused-check : (told : Option FileMap) (words : List (List ℕ)) (before after : Faults) (command : Command) (claim : Claim) (status : Status) → command_of words ≡ Some command → Give told (claiming command) (Ok claim) → StopsTheCheck claim status
     → IsRefused told words before after status
 refused-check told words before after command claim NoMemory named given stops = (command, named)
 refused-check told words before after command claim (NotAView line) named given stops = record { claim = claim; verdict = record { command = command; named = named; given = given }; wrong = stops }
 refused-check told words before after command claim other named given stops = absurd stops
 
 -- the steps are refused
-pub refused-steps : (told : Option FileMap) (words : List (List ℕ)) (before after : ℕ) (command : Command) (status : Status) → command_of words ≡ Some command → Refuse (cause_of status) told (claiming command) before after status
+pub refused-steps : (told : Option FileMap) (words : List (List ℕ)) (before after : Faults) (command : Command) (status : Status) → command_of words ≡ Some command → Refuse (cause_of status) told (claiming command) before after status
     → IsRefused told words before after status
 refused-steps told words before after command BadWords named refuse = inr (record { command = command; named = named; refuse = refuse })
 refused-steps told words before after command (Missing name) named refuse = record { command = command; named = named; refuse = refuse }
@@ -104,10 +104,10 @@ follows-over call (NotAView line) files (none, same) = inr (inr none)
 follows-over call other files says = absurd says
 
 -- a fault is none of a right view where no count rose
-no-fault : (call : Call) (files : FileMap) (status : Status) (claim : Claim) (count : ℕ) → verdict files call.words ≡ Ok claim → IsRight claim count → (Rose call.before.faults call.after.faults → ⊥) → (Rose call.before.say_faults call.after.say_faults → ⊥)
+no-fault : (call : Call) (files : FileMap) (status : Status) (claim : Claim) (count : ℕ) → verdict files call.words ≡ Ok claim → IsRight claim count → (Rose call.before.faults.count call.after.faults.count → ⊥) → (Rose call.before.say_faults call.after.say_faults → ⊥)
     → IsFault (over call files) status → ⊥
-no-fault call files (ReadFault name) claim count is right files_read lines_said fault = files_read fault
-no-fault call files (WriteFault name) claim count is right files_read lines_said fault = files_read fault
+no-fault call files (ReadFault name) claim count is right files_read lines_said fault = files_read fault.0
+no-fault call files (WriteFault name) claim count is right files_read lines_said fault = files_read fault.0
 no-fault call files SayFault claim count is right files_read lines_said fault = lines_said fault
 no-fault call files (NotAView line) claim count is right files_read lines_said fault =
     let there : verdict files call.words ≡ Ok fault.claim = verdict-claim files call.words fault.claim fault.verdict in
@@ -162,29 +162,10 @@ bad_words call NoMemory ((command, named), same) none = absurd (no-command call.
 bad_words call (NotAView line) (view, same) none = absurd (no-command call.words view.verdict.command none view.verdict.named)
 bad_words call other says none = absurd says
 
--- what is refused stays so where the store counts more faults
-steps-later : (told : Option FileMap) (words : List (List ℕ)) (before middle after : ℕ) (status : Status) → before ≤ middle → middle ≤ after → IsRefusedBy told words before middle status → IsRefusedBy told words before after status
-steps-later told words before middle after status first second refused = record {
-  command = refused.command;
-  named = refused.named;
-  refuse = refuse-in_part (cause_of status) told (claiming refused.command) before before middle after status (omega arith) first second refused.refuse;
-}
+-- the call, where the store then tells this
+abbrev pub later : Call → Option FileMap → Call
+later call told = record call { after = record call.after { told = told } }
 
--- the call, where the store then tells this and has counted so many faults
-abbrev pub later : Call → Option FileMap → ℕ → Call
-later call told faults = record call { after = record call.after { told = told; faults = faults } }
-
--- what an answer says of a call stays so where the store is read again
-pub says-later : (call : Call) (status : Status) (told : Option FileMap) (faults : ℕ) → call.before.faults ≤ call.after.faults → call.after.faults ≤ faults → Says call status → Says (later call told faults) status
-says-later call Done told faults first second says = says
-says-later call BadWords told faults first second (inl none, same) = (inl none, same)
-says-later call BadWords told faults first second (inr refused, same) = (inr (steps-later call.before.told call.words call.before.faults call.after.faults faults BadWords first second refused), same)
-says-later call (Missing name) told faults first second says = (steps-later call.before.told call.words call.before.faults call.after.faults faults (Missing name) first second says.0, says.1)
-says-later call (ReadFault name) told faults first second says = (steps-later call.before.told call.words call.before.faults call.after.faults faults (ReadFault name) first second says.0, says.1)
-says-later call (BadPolicy rule entry) told faults first second says = (steps-later call.before.told call.words call.before.faults call.after.faults faults (BadPolicy rule entry) first second says.0, says.1)
-says-later call (BadScript line rule) told faults first second says = (steps-later call.before.told call.words call.before.faults call.after.faults faults (BadScript line rule) first second says.0, says.1)
-says-later call (BadStart place cause) told faults first second says = (steps-later call.before.told call.words call.before.faults call.after.faults faults (BadStart place cause) first second says.0, says.1)
-says-later call SayFault told faults first second says = says
-says-later call NoMemory told faults first second says = says
-says-later call (NotAView line) told faults first second says = says
-says-later call other told faults first second says = absurd says
+-- what an answer says of a call stays so where files are read once more
+pub says-later : (call : Call) (status : Status) (told : Option FileMap) → told ≡ call.after.told → Says call status → Says (later call told) status
+says-later call status told same says = subst (λ (t : Option FileMap). Says (later call t) status) (sym same) says

@@ -1,8 +1,8 @@
 -- What each answer of the observer's check says.
-use Rattle.std.specs.Prelude.{◌≡◌, ℕ, List, ◌++◌, codes, decimal, Option, Some, None, Ok, IfSome, ◌⊎◌}
+use Rattle.std.specs.Prelude.{◌≡◌, ℕ, ◌≤◌, List, ◌++◌, codes, decimal, Option, Some, None, Ok, IfSome, ◌⊎◌}
 use Rattle.lio_outside.specs.FileMap.{FileMap, bytes_of}
 use Rattle.lio_outside.specs.Call.{Call}
-use Rattle.lio_outside.specs.Count.{Rose}
+use Rattle.lio_outside.specs.Count.{Faults, Rose}
 use Rattle.lio_outside.specs.Said.{said_with, SaidPartly}
 use Rattle.lio_outside.specs.Asking.{Refuse}
 use Rattle.lio_front.specs.declared.status.Status.{Status}
@@ -31,14 +31,14 @@ pub record IsNoView (told : Option FileMap) (words : List (List ℕ)) (line : �
   pub wrong : IsWrongAt claim line
 
 -- The steps of the command that the words give are refused.
-pub record IsRefusedBy (told : Option FileMap) (words : List (List ℕ)) (before after : ℕ) (status : Status) : Type 0 where
+pub record IsRefusedBy (told : Option FileMap) (words : List (List ℕ)) (before after : Faults) (status : Status) : Type 0 where
   pub command : Command
   pub named : command_of words ≡ Some command
   pub refuse : Refuse (cause_of status) told (claiming command) before after status
 
 -- Why a check is refused. BadWords: the words give no command, or the label is none over the policy's principals, and that is the verdict. NotAView: the view isn't one. NoMemory: the words give a command.
 -- Else: the steps of the command say so.
-abbrev pub IsRefused : Option FileMap → List (List ℕ) → ℕ → ℕ → Status → Type 0
+abbrev pub IsRefused : Option FileMap → List (List ℕ) → Faults → Faults → Status → Type 0
 IsRefused told words before after BadWords = (command_of words ≡ None) ⊎ IsRefusedBy told words before after BadWords
 IsRefused told words before after (Missing name) = IsRefusedBy told words before after (Missing name)
 IsRefused told words before after (ReadFault name) = IsRefusedBy told words before after (ReadFault name)
@@ -68,7 +68,7 @@ Says call NoMemory = SaysNothing call NoMemory
 Says call (NotAView line) = SaysNothing call (NotAView line)
 Says call other = ⊥
 
--- an answer of a file or an output that failed, for which its count of faults rose, or of bytes that aren't the view of a run
+-- an answer of a file, for which the last call of the store that failed was made, of the output, whose count of faults rose, or of bytes that aren't the view of a run
 abbrev pub IsFault : Call → Status → Type 0
 IsFault call (NotAView line) = IsNoView call.before.told call.words line
 IsFault call status = Failed call.before call.after status
@@ -80,7 +80,7 @@ Follows call status files = (status ≡ answer_of (verdict files call.words)) �
 -- where the words name over these files what is the view of a complete run, and no count rose, the answer is Done, unless memory is wanting
 abbrev pub Completes : Call → Status → FileMap → Type 0
 Completes call status files = (claim : Claim) (count : ℕ) → verdict files call.words ≡ Ok claim → IsRight claim count
-    → (Rose call.before.faults call.after.faults → ⊥) → (Rose call.before.say_faults call.after.say_faults → ⊥) → (status ≡ Done) ⊎ (status ≡ NoMemory)
+    → (Rose call.before.faults.count call.after.faults.count → ⊥) → (Rose call.before.say_faults call.after.say_faults → ⊥) → (status ≡ Done) ⊎ (status ≡ NoMemory)
 
 -- why the lines of a view weren't said
 abbrev pub IsUnsaid : Option (List ℕ) → Option (List ℕ) → ℕ → ℕ → ℕ → Status → Type 0
@@ -94,10 +94,17 @@ StopsTheCheck claim (NotAView line) = IsWrongAt claim line
 StopsTheCheck claim NoMemory = Unit {0}
 StopsTheCheck claim other = ⊥
 
--- A call ends the program with an answer and its exit status: the answer says of the call what it is to say, and where the store tells its files follows the verdict and is Done where it has to be.
+-- a call up to the moment at which its store had these faults
+abbrev pub until : Call → Faults → Call
+until call faults = record call { after = record call.after { faults = faults } }
+
+-- A call ends the program with an answer and its exit status. The answer was there when the store had some faults, after which files were read once more, for what is told of it. Up to then it says of the
+-- call what it is to say, and where the store tells its files follows the verdict and is Done where it has to be.
 pub record EndsWith (call : Call) (status : Status) (exit : ℕ) : Type 0 where
-  pub says : Says call status
-  pub follows : IfSome call.before.told (Follows call status)
-  pub completes : IfSome call.before.told (Completes call status)
+  pub faults : Faults
+  pub says : Says (until call faults) status
+  pub follows : IfSome call.before.told (Follows (until call faults) status)
+  pub completes : IfSome call.before.told (Completes (until call faults) status)
   pub bad_words : command_of call.words ≡ None → status ≡ BadWords
+  pub no_fewer : faults.count ≤ call.after.faults.count
   pub exit_is : exit ≡ exit_status status

@@ -1,5 +1,5 @@
 -- What an observer checks: bytes that are claimed to be what it sees of a run.
-use Rattle.std.specs.Prelude.{◌≡◌, ℕ, List, Bool}
+use Rattle.std.specs.Prelude.{ℕ, List}
 use Rattle.lio_labels.specs.declared.label.Label.{Label}
 use Rattle.lio_calculus.specs.Erased.{erase}
 use Rattle.lio_calculus.specs.Step.{Configuration}

@@ -39,7 +39,7 @@ fn load_held<S: Store>(
     view: &[u8],
 ) -> Result<(List<Text>, Vec<u8>), Status>
     ensures files { S.holds store.new ≡ S.holds store.old }
-    ensures count { S.faults store.old ≤ S.faults store.new }
+    ensures count { (S.faults store.old).count ≤ (S.faults store.new).count }
     ensures ok { IfOk result (λ held. Give (S.holds store.old)
         (holding observer.now policy.now view.now) (Ok (held.0, held.1.items))) }
     ensures each { IfOk result (λ held. length held.0 ≡ length policy.now.inputs) }
@@ -64,7 +64,7 @@ pub fn load_claim<S: Store>(
     command: Command<'_>,
 ) -> Result<Claim, Status>
     ensures files { S.holds store.new ≡ S.holds store.old }
-    ensures count { S.faults store.old ≤ S.faults store.new }
+    ensures count { (S.faults store.old).count ≤ (S.faults store.new).count }
     ensures ok { IfOk result (λ claim. Give (S.holds store.old)
         (claiming (named command.entry)) (Ok (claim_of claim))) }
     ensures err { IfErr result (Says (S.holds store.old)

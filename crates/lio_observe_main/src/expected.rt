@@ -1,13 +1,16 @@
 //! The line with which a view that stops could go on, for messages.
 
-ghost use Rattle.std.specs.Prelude.{All, IfOk, IfSome};
+ghost use Rattle.std.specs.Prelude.{◌≡◌, ◌-◌, All, IfOk, IfSome, List, ℕ};
+ghost use Rattle.lio_calculus.specs.Step.{Configuration};
 ghost use Rattle.lio_calculus_runs.specs.NameLaws.{IsContentPrintable};
 ghost use Rattle.lio_events.specs.Printable.{IsPrintable};
 ghost use Rattle.lio_calculus_runs.specs.Configuration.{NamesOnly};
 ghost use Rattle.lio_erasure.specs.LowParts.{low_of};
+ghost use Rattle.lio_observe_main.specs.Claim.{Agrees, claim_of, seen_first};
+ghost use Rattle.lio_observe_main.specs.Expected.{CouldFollow, CouldStand, IsLine, IsTurn, MovesOn};
 
 use crate::claim::Claim;
-use lio_audit::low_start;
+use lio_audit::low_start_of;
 use lio_clauses::{Names, NoMemory};
 use lio_erasure::{Low, LowFault};
 use lio_events::{Contents, Journal, print_entry, releases};
@@ -26,13 +29,16 @@ struct Line {
 
 /// What an observer sees of the first configuration of a claim.
 fn first_of(alloc: Global, claim: &Claim) -> Result<Low, NoMemory>
-    ensures { IfOk result (λ low.
+    ensures named { IfOk result (λ low.
         NamesOnly claim.now.job.policy.names (low_of low).configuration) }
+    ensures observer { IfOk result (λ low. (low_of low).observer ≡ claim.now.observer) }
+    ensures first { IfOk result (λ low. (texts : List (List ℕ)) → Agrees (claim_of claim.now) texts
+        → (low_of low).configuration ≡ seen_first (claim_of claim.now) texts) }
 {
     let policy = claim.job.policy();
     let script = claim.job.script().copy(alloc)?;
     let observer = claim.observer.copy(alloc)?;
-    let start = low_start(alloc, &claim.job, &claim.observer)?;
+    let start = low_start_of(alloc, &claim.job, &claim.observer)?;
     Ok(Low::new(start, observer, script, policy.longest))
 }
 
@@ -91,6 +97,9 @@ fn turn(
     requires contents { All (IsContentPrintable names.now) released.old }
     ensures entry { IfOk result (IsPrintable names.now) }
     ensures named { NamesOnly names.now (low_of low.new).configuration }
+    ensures takes { IfOk result (IsTurn (low_of low.old).observer (low_of low.old).configuration
+        (low_of low.new).configuration) }
+    ensures observer { (low_of low.new).observer ≡ (low_of low.old).observer }
 {
     let _ = names;
     low.turn(alloc, k, released)
@@ -108,6 +117,9 @@ fn take_turn(
     requires contents { All (IsContentPrintable names.now) released }
     ensures entry { IfOk result (λ entry. IfSome entry (IsPrintable names.now)) }
     ensures named { NamesOnly names.now (low_of low.new).configuration }
+    ensures takes { IfOk result (λ entry. IfSome entry (IsTurn (low_of low.old).observer
+        (low_of low.old).configuration (low_of low.new).configuration)) }
+    ensures observer { (low_of low.new).observer ≡ (low_of low.old).observer }
 {
     let taken = turn(alloc, low, &mut released, names, k);
     drop(released);
@@ -153,6 +165,8 @@ fn line_of(
 ) -> Result<Option<Vec<u8>>, NoMemory>
     requires named { NamesOnly names.now (low_of low.old).configuration }
     requires contents { All (IsContentPrintable names.now) released }
+    ensures { IfOk result (λ text. IfSome text (λ t. IsLine names.now (low_of low.old).observer
+        (low_of low.old).configuration t.items)) }
 {
     match take_turn(alloc, low, released, names, k)? {
         Some(entry) => {
@@ -174,6 +188,8 @@ fn next_line(
     names: &Names,
 ) -> Result<Option<Vec<u8>>, NoMemory>
     requires { NamesOnly names.now (low_of low.old).configuration }
+    ensures { IfOk result (λ text. IfSome text (λ t. IsLine names.now (low_of low.old).observer
+        (low_of low.old).configuration t.items)) }
 {
     if let Some(line) = read_line(alloc, bytes, observer, names)? {
         return line_of(alloc, low, line.released, names, line.actor);
@@ -200,7 +216,10 @@ fn take_line(
 ) -> Result<Option<usize>, NoMemory>
     requires named { NamesOnly names.now (low_of low.old).configuration }
     requires contents { All (IsContentPrintable names.now) line.released }
-    ensures { NamesOnly names.now (low_of low.new).configuration }
+    ensures named { NamesOnly names.now (low_of low.new).configuration }
+    ensures moves { IfOk result (λ len. IfSome len (λ _. MovesOn (low_of low.old).observer
+        (low_of low.old).configuration (low_of low.new).configuration)) }
+    ensures observer { (low_of low.new).observer ≡ (low_of low.old).observer }
 {
     let Line {
         actor,
@@ -226,6 +245,8 @@ fn line_behind(
     names: &Names,
 ) -> Result<Option<Vec<u8>>, NoMemory>
     requires { NamesOnly names.now (low_of low.old).configuration }
+    ensures { IfOk result (λ text. IfSome text (λ t. CouldFollow names.now (low_of low.old).observer
+        (low_of low.old).configuration line t.items)) }
 {
     let mut rest = bytes;
     for _before in 1..line {
@@ -242,8 +263,13 @@ fn line_behind(
 
 /// The line with which a view that stops at a line, from 1, could go on there: that of the turn of
 /// the task that the line shows, or where the line is missing, of the first task that can take one.
-/// Nothing where that task can't, or the view stops before.
-pub fn expected_line(alloc: Global, claim: &Claim, line: u32) -> Result<Option<Vec<u8>>, NoMemory> {
+/// Nothing where that task can't, or the view stops before. The contract says only that it is the
+/// line of some turn behind as many others.
+pub fn expected_line(alloc: Global, claim: &Claim, line: u32) -> Result<Option<Vec<u8>>, NoMemory>
+    ensures { IfOk result (λ text. IfSome text (λ t. (texts : List (List ℕ))
+        → Agrees (claim_of claim.now) texts
+        → CouldStand (claim_of claim.now) texts line t.items)) }
+{
     let mut low = first_of(alloc, claim)?;
     let policy = claim.job.policy();
     let view = claim.view.as_slice();

@@ -22,7 +22,7 @@ fn load_text<S: Store>(
     input: &FileEntry,
 ) -> Result<Text, Status>
     ensures files { S.holds store.new ≡ S.holds store.old }
-    ensures count { S.faults store.old ≤ S.faults store.new }
+    ensures count { (S.faults store.old).count ≤ (S.faults store.new).count }
     ensures ok { IfOk result (λ text. Give (S.holds store.old)
         (text_seen observer.now longest input.now) (Ok text)) }
     ensures err { IfErr result (Says (S.holds store.old)
@@ -44,7 +44,7 @@ pub(crate) fn load_texts<S: Store>(
     policy: &Policy,
 ) -> Result<List<Text>, Status>
     ensures files { S.holds store.new ≡ S.holds store.old }
-    ensures count { S.faults store.old ≤ S.faults store.new }
+    ensures count { (S.faults store.old).count ≤ (S.faults store.new).count }
     ensures ok { IfOk result (λ texts. Give (S.holds store.old)
         (texts_seen observer.now policy.now.longest policy.now.inputs) (Ok texts)) }
     ensures each { IfOk result (λ texts. length texts ≡ length policy.now.inputs) }

@@ -1,5 +1,5 @@
-//! The check of an observer: the words, the policy, the script, the inputs that it sees, its view, and
-//! what is said of it.
+//! The check of an observer: the words, the policy, the script, the inputs that it sees, its view,
+//! and what is said of it.
 #![tactic(auto)]
 
 mod checking;

@@ -24,7 +24,7 @@ fn check_words<S: Store>(
     store: &mut S,
 ) -> Result<u32, ObserveStatus>
     ensures files { S.holds store.new ≡ S.holds store.old }
-    ensures count { S.faults store.old ≤ S.faults store.new }
+    ensures count { (S.faults store.old).count ≤ (S.faults store.new).count }
     ensures ok { IfOk result (Accepts (S.holds store.old) (bytes_of_words words.now)) }
     ensures err { IfErr result (IsRefused (S.holds store.old) (bytes_of_words words.now)
         (S.faults store.old) (S.faults store.new)) }
@@ -69,7 +69,7 @@ fn answer<S: Store, W: Say>(
     say: &mut W,
 ) -> ObserveStatus
     ensures files { S.holds store.new ≡ S.holds store.old }
-    ensures count { S.faults store.old ≤ S.faults store.new }
+    ensures count { (S.faults store.old).count ≤ (S.faults store.new).count }
     ensures say_count { W.faults say.old ≤ W.faults say.new }
     ensures says { Says (record {
       words = bytes_of_words words.now;
@@ -97,7 +97,7 @@ pub fn observe_main<S: Store, W: Say>(
     say: &mut W,
 ) -> ObserveStatus
     ensures files { S.holds store.new ≡ S.holds store.old }
-    ensures count { S.faults store.old ≤ S.faults store.new }
+    ensures count { (S.faults store.old).count ≤ (S.faults store.new).count }
     ensures say_count { W.faults say.old ≤ W.faults say.new }
     ensures says { Says (record {
       words = bytes_of_words words.now;

@@ -1,7 +1,8 @@
 //! Operators on two texts, and on a text and a whole.
 #![tactic(auto, using(crate::proofs::TextLemmas::first_place_found))]
 
-ghost use Rattle.std.specs.Prelude.{◌≡◌, ◌≤◌, ◌++◌, ℕ, ℤ, List, length, min, take, drop, IfSome, IsTrue};
+ghost use Rattle.std.specs.Prelude.{◌≡◌, ◌≤◌, ◌++◌, ℕ, ℤ, List, length, min, take, drop, IfSome};
+ghost use Rattle.std.specs.Prelude.{IsTrue};
 ghost use Rattle.lio_operators.specs.Answers.{Answers};
 ghost use Rattle.lio_operators.specs.Operators.{bare};
 ghost use Rattle.lio_operators.specs.Outcomes.{Tells, cuts, is_large, joins};

@@ -2,7 +2,7 @@
 use Rattle.std.specs.Prelude.{◌≡◌, ℕ, List, Option, Result, Err, IfSome, ◌⊎◌}
 use Rattle.lio_outside.specs.FileMap.{FileMap}
 use Rattle.lio_outside.specs.Fetch.{given, IsMissing}
-use Rattle.lio_outside.specs.Count.{Rose}
+use Rattle.lio_outside.specs.Count.{Faults, FailedAt}
 use Rattle.lio_outside.specs.Steps.{Steps, Over, Ask}
 
 -- what a store that tells its files gave under a name: first bytes, at most one more than the limit, or nothing where no file has it; one that tells nothing
@@ -28,11 +28,11 @@ pub data Cause : Type 0 where
   IsSaid : Cause
   IsNever : Cause
 
--- Why steps are refused: by what the store gave, and, where it tells nothing of its files, with a count of faults that rose for a file that isn't there; or a file for
--- which they ask couldn't be read, and the count rose.
-abbrev pub Refuse : {A E : Type 0} → Cause → Option FileMap → Steps A E → ℕ → ℕ → E → Type 0
+-- Why steps are refused: by what the store gave, and, where it tells nothing of its files, the last call that failed is that for the file that isn't there; or the last
+-- call that failed is that for a file for which they ask.
+abbrev pub Refuse : {A E : Type 0} → Cause → Option FileMap → Steps A E → Faults → Faults → E → Type 0
 Refuse (IsNotThere name) told steps before after fault = Give told steps (Err fault) × IsMissing told name before after
-Refuse (IsNotRead name) told steps before after fault = AskFor told steps name × Rose before after
+Refuse (IsNotRead name) told steps before after fault = AskFor told steps name × FailedAt name before after
 Refuse IsWanting told steps before after fault = Unit {0}
 Refuse IsSaid told steps before after fault = Give told steps (Err fault)
 Refuse IsNever told steps before after fault = ⊥

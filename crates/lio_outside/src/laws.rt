@@ -2,7 +2,7 @@
 //! law.
 ghost use Rattle.lio_outside.specs.FileMap.{FindsKept, LeavesOthers, FindsNothing, EqualWhereAlike};
 ghost use Rattle.lio_outside.specs.Keep.{LeavesFirstPart};
-ghost use Rattle.lio_outside.specs.Count.{RoseInPart, RoseNotAtRest};
+ghost use Rattle.lio_outside.specs.Count.{FailedInPart, RoseInPart, RoseNotAtRest};
 ghost use Rattle.lio_outside.specs.Fetch.{MissingInPart};
 
 /// Names among files: what was put under a name is found there, other names keep their bytes,
@@ -14,10 +14,12 @@ pub fn law_of_files()
     ensures equal_where_alike { EqualWhereAlike }
 {}
 
-/// Counts of faults: one that never falls and rose in a part of the work rose in the whole, as does
-/// the report that a name is missing, and one that stayed below the greatest number did not rise.
+/// Counts of faults: one that never falls and rose in a part of the work rose in the whole, a call
+/// that failed at the end of a part is the last that failed in the whole, as is the report that a
+/// name is missing, and a count that stayed below the greatest number did not rise.
 pub fn law_of_counts()
     ensures in_part { RoseInPart }
+    ensures failed_in_part { FailedInPart }
     ensures missing_in_part { MissingInPart }
     ensures at_rest { RoseNotAtRest }
 {}

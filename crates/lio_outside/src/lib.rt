@@ -17,8 +17,3 @@ pub use say::{Say, SayFault};
 pub use store::{FetchFault, KeepFault, Store, Trouble};
 pub use sure_say::SureSay;
 pub use sure_store::SureStore;
-
-#[cfg(test)]
-mod say_tests;
-#[cfg(test)]
-mod tests;

@@ -17,8 +17,8 @@ pub enum SayFault {
     NoMemory,
 }
 
-/// An output, to which bytes are said. Its meanings are `said`, the bytes that it tells were said to
-/// it, or `None` where it tells nothing of them, and `faults`, a count that never falls.
+/// An output, to which bytes are said. Its meanings are `said`, the bytes that it tells were said
+/// to it, or `None` where it tells nothing of them, and `faults`, a count that never falls.
 pub trait Say {
     ghost said: { Self → Option (List ℕ) };
 

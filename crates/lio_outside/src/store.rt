@@ -1,7 +1,7 @@
 //! A store of named bytes.
-ghost use Rattle.std.specs.Prelude.{◌≡◌, ℕ, ◌+◌, ◌≤◌, Option, IfOk, OnOk, IsErrOf, vec_len};
+ghost use Rattle.std.specs.Prelude.{◌≡◌, ◌+◌, ◌≤◌, Option, IfOk, IfSome, OnOk, IsErrOf, vec_len};
 ghost use Rattle.lio_outside.specs.FileMap.{FileMap};
-ghost use Rattle.lio_outside.specs.Count.{Rose};
+ghost use Rattle.lio_outside.specs.Count.{Faults, FailedAt};
 ghost use Rattle.lio_outside.specs.Fetch.{IsGiven, IsMissing};
 ghost use Rattle.lio_outside.specs.Keep.{told_with, PartlyKept};
 
@@ -46,17 +46,19 @@ pub enum Trouble<'a> {
 }
 
 /// A store of named bytes. Its meanings are `holds`, the files that it tells of, or `None` where it
-/// tells nothing of them, and `faults`, a count that never falls.
+/// tells nothing of them, and `faults`: how many of its calls failed, a count that never falls, and
+/// the name for which the last of these was made. A call failed where it answers `Failed`, or
+/// `Missing` where the store tells nothing of its files.
 pub trait Store {
     ghost holds: { Self → Option FileMap };
 
-    ghost faults: { Self → ℕ };
+    ghost faults: { Self → Faults };
 
     /// The first `limit + 1` bytes under `name`, or all where there are fewer.
     fn fetch(&mut self, alloc: Global, name: &[u8], limit: u32) -> Result<Vec<u8>, FetchFault>
         // Whatever the answer.
         ensures files_stay { holds self.new ≡ holds self.old }
-        ensures count_never_falls { faults self.old ≤ faults self.new }
+        ensures count_never_falls { (faults self.old).count ≤ (faults self.new).count }
 
         // When each answer comes.
         ensures ok { IfOk result (λ v. IsGiven (holds self.old) name.now limit v.items) }
@@ -64,21 +66,27 @@ pub trait Store {
         ensures missing { IsErrOf result FetchFault.Missing
             → IsMissing (holds self.old) name.now (faults self.old) (faults self.new) }
         ensures failed_counted { IsErrOf result FetchFault.Failed
-            → Rose (faults self.old) (faults self.new) }
+            → FailedAt name.now (faults self.old) (faults self.new) }
+
+        // Where it didn't fail.
+        ensures ok_faults { OnOk result (faults self.new ≡ faults self.old) }
+        ensures missing_faults { IsErrOf result FetchFault.Missing
+            → IfSome (holds self.old) (λ _. faults self.new ≡ faults self.old) }
         ensures no_memory { IsErrOf result FetchFault.NoMemory
             → faults self.new ≡ faults self.old };
 
     /// Puts `bytes` under `name`, in place of what was there.
     fn keep(&mut self, alloc: Global, name: &[u8], bytes: &[u8]) -> Result<(), KeepFault>
         // Whatever the answer.
-        ensures count_never_falls { faults self.old ≤ faults self.new }
+        ensures count_never_falls { (faults self.old).count ≤ (faults self.new).count }
 
         // What the store holds after each answer, and when `Failed` comes.
         ensures ok { OnOk result (holds self.new ≡ told_with (holds self.old) name.now bytes.now) }
         ensures failed_partly { IsErrOf result KeepFault.Failed
             → PartlyKept (holds self.old) (holds self.new) name.now bytes.now }
         ensures failed_counted { IsErrOf result KeepFault.Failed
-            → Rose (faults self.old) (faults self.new) }
+            → FailedAt name.now (faults self.old) (faults self.new) }
+        ensures ok_faults { OnOk result (faults self.new ≡ faults self.old) }
         ensures no_memory { IsErrOf result KeepFault.NoMemory → holds self.new ≡ holds self.old }
         ensures no_memory_count { IsErrOf result KeepFault.NoMemory
             → faults self.new ≡ faults self.old };

@@ -4,14 +4,15 @@ ghost use Rattle.std.specs.Prelude.{IsErrOf, IsOkUnless, vec_len};
 ghost use Rattle.std.specs.Option.{option_copied};
 ghost use Rattle.lio_outside.specs.FileMap.{no_files, bytes_of, with_file};
 ghost use Rattle.lio_outside.specs.Fetch.{given};
+ghost use Rattle.lio_outside.specs.Count.{no_faults};
 
 use crate::files::NamedFiles;
 use crate::store::{FetchFault, KeepFault, Store};
 use std::alloc::Global;
 use std::marker::Model;
 
-/// A store in memory that tells its files and never fails, so its count of faults is always 0.
-/// It is seen as its files.
+/// A store in memory that tells its files and never fails, so it has no faults. It is seen as its
+/// files.
 #[derive(Debug, Drop)]
 pub struct SureStore {
     files: NamedFiles,
@@ -50,7 +51,7 @@ impl SureStore {
 impl Store for SureStore {
     ghost holds = { λ s. Some s };
 
-    ghost faults = { λ _. 0 };
+    ghost faults = { λ _. no_faults };
 
     fn fetch(&mut self, alloc: Global, name: &[u8], limit: u32) -> Result<Vec<u8>, FetchFault>
         ensures files_stay { self.new ≡ self.old }

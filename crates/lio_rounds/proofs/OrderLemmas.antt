@@ -58,11 +58,15 @@ count-by ticket (x ∷ xs) =
     either true = refl
     either false = refl
 
-pub ordered : (old new journal : List Entry) → IsPermutation old new → IsNonDecreasingBy (λ (e : Entry). e.ticket) new → AreNumberedFrom 0 journal → HaveSameEntries old journal → new ≡ journal
+-- a list in another order has the same entries
+pub same-entries : (old new : List Entry) → IsPermutation old new → HaveSameEntries old new
+same-entries old new moved = λ p. sym (sum_by-IsPermutation (λ (e : Entry). one-if (p e)) old new moved)
+
+pub ordered : (old new journal : List Entry) → HaveSameEntries old new → IsNonDecreasingBy (λ (e : Entry). e.ticket) new → AreNumberedFrom 0 journal → HaveSameEntries old journal → new ≡ journal
 ordered old new journal moved order numbered same = rising-same new journal rises (numbered-rising 0 journal numbered) (same-has new journal all) (same-has journal new (λ p. sym (all p)))
   where
     all : HaveSameEntries new journal
-    all p = sum_by-IsPermutation (λ (e : Entry). one-if (p e)) old new moved ∙ same p
+    all p = sym (moved p) ∙ same p
 
     rises : AreRising new
     rises = rising-once new order (λ ticket.

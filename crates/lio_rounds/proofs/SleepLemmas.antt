@@ -33,7 +33,7 @@ use Rattle.lio_task.specs.declared.status.Status.TheVariants as status
 use Rattle.lio_task.specs.Status.{reading, waiting, status_at, status_by, status_of}
 use Rattle.lio_cells.specs.declared.wish.Wish.{Wish}
 use Rattle.lio_task.specs.Takes.{awaited_by}
-use Rattle.lio_rounds.specs.Births.{ended_by, ended_in}
+use Rattle.lio_task.specs.Outcome.{ended_by, ended_in}
 use Rattle.lio_rounds.specs.Awake.{IsAsleep, IsNoted, Meets, Waits}
 use Rattle.lio_rounds.specs.Sleep.{MaySleep, SleepersMay}
 use Rattle.lio_rounds.specs.declared.awake.Awake.{Awake}

@@ -3,7 +3,7 @@ use Rattle.std.specs.Prelude.{◌≡◌, ◌⊎◌, ℕ, ◌<◌, List, [], leng
 use Rattle.std.specs.declared.alloc.Global.{Global}
 use Rattle.lio_rounds.specs.Words.{IsClear}
 use Rattle.lio_values.specs.declared.entry.Entry.{Entry}
-use Rattle.lio_rounds.specs.Births.{ended_in}
+use Rattle.lio_task.specs.Outcome.{ended_in}
 use Rattle.lio_rounds.specs.declared.places.Places.{Places}
 
 -- a place is asleep

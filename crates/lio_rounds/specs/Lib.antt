@@ -1,7 +1,6 @@
 pub mod MachineState
 pub mod MachineParts
 pub mod Invariant
-pub mod Births
 pub mod Words
 pub mod Awake
 pub mod Sleep

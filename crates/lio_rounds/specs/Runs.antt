@@ -1,5 +1,5 @@
 -- Complete runs, and runs by rounds.
-use Rattle.std.specs.Prelude.{◌≡◌, ℕ, List, IsTrue, Some, slice_get}
+use Rattle.std.specs.Prelude.{◌≡◌, ℕ, List, length, IsTrue, Some, slice_get}
 use Rattle.lio_labels.specs.declared.label.Label.{Label}
 use Rattle.lio_labels.specs.Flow.{flows}
 use Rattle.lio_values.specs.declared.entry.Entry.{Entry}
@@ -11,7 +11,8 @@ use Rattle.lio_calculus.specs.Step.{Configuration}
 use Rattle.lio_calculus.specs.Run as calculus
 use Rattle.lio_events.specs.Views.{view}
 use Rattle.lio_calculus.specs.Run.{run}
-use Rattle.lio_calculus.specs.Journals.{AreMergeable, IsMerged, actors}
+use Rattle.lio_calculus.specs.Journals.{AreMergeable, IsLogged, IsMerged, actors}
+use Rattle.lio_calculus.specs.Logs.{Logs, folded}
 use Rattle.lio_calculus_runs.specs.Rounds.{IsComplete, rounds}
 use Rattle.lio_calculus_runs.specs.LowLaws.{RoundsSeenAs}
 use Rattle.lio_calculus_runs.specs.WellFormed.{IsWellFormed}
@@ -27,6 +28,14 @@ ran_of script ran = record { entries = ran.journal; last = configuration_of scri
 pub record HasItsLogs (ran : Ran) : Type 0 where
   pub mergeable : AreMergeable (log_in ran.config)
   pub merged : IsMerged (log_in ran.config) ran.journal
+
+-- A run is the merge of logs, one for each node: each ticket below the number of its turns stands in one entry, which stands in its actor's log, in its target's, if it has one, and in no other; tickets
+-- rise in each log; each entry is local to the logs of its actor and its target. The journal is the merge of the logs, and each cell of the last configuration is what its log makes of the first one.
+pub record IsMergeOfLogs (c : Configuration) (ran : calculus.Ran) : Type 0 where
+  pub logs : Logs
+  pub logged : IsLogged c logs (length ran.entries)
+  pub merged : IsMerged logs ran.entries
+  pub last : ran.last ≡ folded c logs
 
 -- A complete run: the turns of those who took them, with tickets from 0, after which no task can take one; the first and the last configuration are well-formed.
 pub record IsCompleteRun (c : Configuration) (ran : calculus.Ran) : Type 0 where

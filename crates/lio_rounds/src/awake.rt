@@ -3,8 +3,8 @@
 ghost use Rattle.std.specs.Prelude.{◌≡◌, ◌≢◌, ◌⊎◌, ℕ, ◌^◌, ◌<◌, ◌≤◌, IsTrue, Some};
 ghost use Rattle.lio_rounds.specs.Awake.{IsAsleep, IsNoted, Lists, Meets, Waits};
 
-use crate::births::ended_in;
 use crate::places::Places;
+use lio_task::ended_in;
 use lio_values::Entry;
 use std::alloc::Global;
 
@@ -81,7 +81,8 @@ impl Awake {
     }
 }
 
-/// Notes that a place waits for a node, if there is one, and tells whether memory for that was left.
+/// Notes that a place waits for a node, if there is one, and tells whether memory for that was
+/// left.
 fn note(waiting: &mut Vec<Vec<u32>>, alloc: Global, place: u32, node: Option<u32>) -> bool
     ensures noted { IsTrue result → IsNoted waiting.new.items node place }
     ensures waiting { (n i : ℕ) → Waits waiting.old.items n i → Waits waiting.new.items n i }

@@ -3,7 +3,6 @@
 #![tactic(auto)]
 
 mod awake;
-mod births;
 mod by_rounds;
 mod by_schedule;
 pub mod laws;
@@ -12,7 +11,6 @@ mod machine;
 mod order;
 mod places;
 
-pub use births::{born_in, ended_in};
 pub use by_rounds::{Ran, run};
 pub use by_schedule::{Scheduled, run_by_schedule};
 pub use lio_task::StepFault as TurnFault;

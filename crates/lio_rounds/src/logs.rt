@@ -47,8 +47,8 @@ fn copies(alloc: Global, entries: &[&Entry]) -> Result<Vec<Entry>, NoMemory>
     Ok(copies)
 }
 
-/// The merged entries of the logs of a configuration's nodes: copies of all, each once, in the order
-/// of their tickets.
+/// The merged entries of the logs of a configuration's nodes: copies of all, each once, in the
+/// order of their tickets.
 fn merged(alloc: Global, config: &Config) -> Result<Vec<Entry>, NoMemory>
     requires { AreMergeable (log_in config.now) }
     ensures { IfOk result (λ entries. IsMerged (log_in config.now) entries.items) }
@@ -59,8 +59,8 @@ fn merged(alloc: Global, config: &Config) -> Result<Vec<Entry>, NoMemory>
 }
 
 /// The merge of the logs of a configuration's nodes: copies of all entries, each once, in the order
-/// of their tickets. Each entry stands in its actor's log, in its target's, if it has one, and in no
-/// other, and entries with the same ticket are one.
+/// of their tickets. Each entry stands in its actor's log, in its target's, if it has one, and in
+/// no other, and entries with the same ticket are one.
 pub fn merge(alloc: Global, config: &Config) -> Result<Journal, NoMemory>
     requires { AreMergeable (log_in config.now) }
     ensures { IfOk result (IsMerged (log_in config.now)) }

@@ -2,18 +2,17 @@
 ghost use Rattle.std.specs.Prelude.{◌≡◌};
 
 use crate::awake::Awake;
-use crate::births::born_in;
 use lio_clauses::NoMemory;
 use lio_events::Journal;
 use lio_syntax::Script;
-use lio_task::{Config, StepFault as TurnFault, blank_entry};
+use lio_task::{Config, StepFault as TurnFault, blank_entry, born_in};
 use lio_values::Entry;
 use std::alloc::Global;
 use std::marker::Model;
 
 /// A configuration with its script, and the journal of the turns taken so far. A task that a round
-/// found unable to take a turn sleeps: a round doesn't ask it again until a turn meets the node that
-/// it waits for, or ends the task.
+/// found unable to take a turn sleeps: a round doesn't ask it again until a turn meets the node
+/// that it waits for, or ends the task.
 #[derive(Drop)]
 pub struct Machine {
     config: Config,
@@ -62,7 +61,7 @@ impl Machine {
     ghost use Rattle.lio_rounds.specs.MachineState.{HasBegun, HasRun, HasTaken, HasWalked};
     ghost use Rattle.lio_rounds.specs.Schedule.{HasGoneOn};
     ghost use Rattle.lio_rounds.specs.MachineParts.{machine_of};
-    ghost use Rattle.lio_rounds.specs.MachineLaws.{HasRunSeen, IsSeenAsErased};
+    ghost use Rattle.lio_rounds.specs.MachineLaws.{HasRunSeen};
 
     /// A machine that has taken no turn, of a well-formed configuration in which no node has served
     /// one.
@@ -243,8 +242,8 @@ impl Machine {
         }
     }
 
-    /// The next place of the order from this one on that is awake. No task at those between can take
-    /// a turn.
+    /// The next place of the order from this one on that is awake. No task at those between can
+    /// take a turn.
     fn next_awake(&self, from: usize, count: usize) -> usize
         requires { count ≤ length (machine_of self.now).order }
         ensures from { from ≤ result }
@@ -304,15 +303,15 @@ impl Machine {
         self.run_rounds(alloc)
     }
 
-    /// Gives the journal of the turns taken, and the configuration after them, whose nodes have their
-    /// logs: the journal is their merge. Each observer sees of both what the erased calculus gives.
+    /// Gives the journal of the turns taken, and the configuration after them, whose nodes have
+    /// their logs: the journal is their merge. Each observer sees of both what the erased calculus
+    /// gives.
     pub fn finish(self) -> (Journal, Config)
         ensures journal { result.0 ≡ (machine_of self).entries }
         ensures configuration { configuration_of (machine_of self).script result.1
             ≡ (machine_of self).configuration }
         ensures well_formed { IsWellFormed (machine_of self).configuration }
         ensures seen { HasRunSeen (machine_of self) }
-        ensures since { IsSeenAsErased (machine_of self) }
         ensures mergeable { AreMergeable (log_in result.1) }
         ensures merged { IsMerged (log_in result.1) result.0 }
     {

@@ -1,12 +1,13 @@
 //! The places of an order that may be awake, a bit each.
-ghost use Rattle.std.specs.Prelude.{◌≡◌, ◌≢◌, ◌⊎◌, ℕ, ◌+◌, ◌/◌, ◌^◌, ◌<◌, ◌≤◌, length, IfSome, IfNone};
+ghost use Rattle.std.specs.Prelude.{◌≡◌, ◌≢◌, ◌⊎◌, ℕ, ◌+◌, ◌/◌, ◌^◌, ◌<◌, ◌≤◌, length, IfSome};
+ghost use Rattle.std.specs.Prelude.{IfNone};
 ghost use Rattle.std.specs.Prelude.{slice_index_or};
 ghost use Rattle.lio_rounds.specs.Words.{IsClear, TopsCover};
 
 use std::alloc::Global;
 
-/// Places by number, each awake or asleep. Those beyond the last word are awake, and so are at first
-/// those of a new word: a place for whose word no memory is left stays awake.
+/// Places by number, each awake or asleep. Those beyond the last word are awake, and so are at
+/// first those of a new word: a place for whose word no memory is left stays awake.
 ///
 /// A bit of a top stands for a word. Where it isn't set, nobody in the word is awake.
 #[derive(Drop)]

@@ -35,8 +35,8 @@ fn told(alloc: Global, mistake: &Mistake) -> Result<Vec<u8>, AllocError> {
     Ok(format!(in alloc; "{place}: {text}")?.into_bytes())
 }
 
-/// `script_mistake SCRIPT`: the line, the rule that it breaks, the place in the line, and how to mend
-/// it; or `ok`.
+/// `script_mistake SCRIPT`: the line, the rule that it breaks, the place in the line, and how to
+/// mend it; or `ok`.
 fn wrong_script(alloc: Global, names: &Names, script: &[u8]) -> Result<Answer, Refusal> {
     let fault = match read_script(alloc, script, names) {
         Ok(_script) => return Ok(Answer::Text(Vec::from_slice(alloc, b"ok")?)),

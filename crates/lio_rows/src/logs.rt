@@ -103,8 +103,8 @@ fn log_told(alloc: Global, job: &Job, number: u32) -> Result<Answer, Refusal> {
     Ok(Answer::Text(text))
 }
 
-/// `log N JSON SCRIPT INPUT ..`: the log of node N after the run, or `none N` where there is no such
-/// node.
+/// `log N JSON SCRIPT INPUT ..`: the log of node N after the run, or `none N` where there is no
+/// such node.
 fn log(alloc: Global, number: &[u8], json: &[u8], source: Source<'_>) -> Result<Answer, Refusal> {
     let number = read_number(number)?;
     let job = read_job(alloc, json, source)?;

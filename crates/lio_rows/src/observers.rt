@@ -5,7 +5,7 @@ ghost use Rattle.lio_events.specs.Printable.{IsPrintable};
 
 use crate::refusal::{Answered, Refusal};
 use crate::runs::{Source, read_viewer, released};
-use lio_audit::{RerunFault, ViewFault, check_view, low_start, rerun_view};
+use lio_audit::{RerunFault, ViewFault, check_view, low_start_of, rerun_view};
 use lio_clauses::NoMemory;
 use lio_events::{Contents, Journal, print_journal};
 use lio_labels::Label;
@@ -41,7 +41,7 @@ fn told(alloc: Global, checked: Result<u32, ViewFault>) -> Result<Answer, Refusa
 
 /// Checks a view against what an observer holds of a job.
 fn seen_of(alloc: Global, job: &Job, observer: &Label, view: &[u8]) -> Result<Answer, Refusal> {
-    let start = low_start(alloc, job, observer)?;
+    let start = low_start_of(alloc, job, observer)?;
     let policy = job.policy();
     told(
         alloc,
@@ -95,7 +95,7 @@ fn computed(alloc: Global, job: &Job, journal: &Journal, left: &Contents) -> Res
 /// Computes the view of a job by rounds, from what an observer holds.
 fn rerun_of(alloc: Global, job: &Job, observer: &Label, told: bool) -> Result<Answer, Refusal> {
     let contents = contents_of(alloc, job, observer, told)?;
-    let start = low_start(alloc, job, observer)?;
+    let start = low_start_of(alloc, job, observer)?;
     let policy = job.policy();
     match rerun_view(
         alloc,

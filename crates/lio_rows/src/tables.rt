@@ -50,8 +50,8 @@ fn word_of(wish: Wish) -> &'static str {
     }
 }
 
-/// Appends the ticket of a turn that was taken, the number of the task to which it gave birth, and who
-/// is woken, each with what it waited for.
+/// Appends the ticket of a turn that was taken, the number of the task to which it gave birth, and
+/// who is woken, each with what it waited for.
 fn push_moved(
     alloc: Global,
     text: &mut Vec<u8>,
@@ -83,7 +83,8 @@ fn push_end(alloc: Global, text: &mut Vec<u8>, end: &TurnEnd) -> Result<(), Allo
     }
 }
 
-/// Lets a task take its turn at a table, and appends what it came to, or that there is no such node.
+/// Lets a task take its turn at a table, and appends what it came to, or that there is no such
+/// node.
 fn push_turn(
     alloc: Global,
     text: &mut Vec<u8>,
@@ -173,13 +174,7 @@ fn push_history(
 /// Tells the turns of the tasks of a schedule at a table, and then the history.
 fn told(alloc: Global, job: &Job, schedule: &[u32]) -> Result<Answer, Refusal> {
     let (table, mut seat) = table_of(alloc, job)?;
-    let mut text = match turns(alloc, &table, &mut seat, job.script(), schedule) {
-        Ok(text) => text,
-        Err(refusal) => {
-            drop(table);
-            return Err(refusal);
-        }
-    };
+    let mut text = turns(alloc, &table, &mut seat, job.script(), schedule)?;
     push_history(alloc, &mut text, job, table, seat)?;
     Ok(Answer::Text(text))
 }

@@ -28,9 +28,7 @@ pub fn answer(alloc: Global, names: &Names, word: &str, fields: &[Vec<u8>]) -> A
 /// `entry LINE`: the line of the entry that is read of a line, with its ticket.
 fn read(alloc: Global, names: &Names, text: &[u8]) -> Result<Answer, Refusal> {
     let entry = lio_events_reading::read_entry(alloc, text, names)?;
-    let answer = line(alloc, names, &entry, true);
-    drop(entry);
-    answer
+    line(alloc, names, entry, true)
 }
 
 /// `entry ENTRY`: the line of a copy of the entry, with its ticket.
@@ -46,24 +44,22 @@ fn copied(alloc: Global, names: &Names, entry: &Entry) -> Result<Answer, Refusal
     requires { IsPrintable names.now entry.now }
 {
     let copy = entry.copy(alloc)?;
-    let answer = line(alloc, names, &copy, true);
-    drop(copy);
-    answer
+    line(alloc, names, copy, true)
 }
 
 /// The line of an entry, with its ticket or without.
-fn line(alloc: Global, names: &Names, entry: &Entry, ticket: bool) -> Result<Answer, Refusal>
-    requires { IsPrintable names.now entry.now }
+fn line(alloc: Global, names: &Names, entry: Entry, ticket: bool) -> Result<Answer, Refusal>
+    requires { IsPrintable names.now entry }
 {
-    Ok(Answer::Text(print_entry(alloc, entry, ticket, names)?))
+    let text = print_entry(alloc, &entry, ticket, names);
+    drop(entry);
+    Ok(Answer::Text(text?))
 }
 
 /// `erased L ENTRY`: the line of the entry as an observer at the label sees it, without its ticket.
 fn erased(words: &mut Words, alloc: Global, names: &Names) -> Result<Answer, Refusal> {
     let observer = read_label(words, alloc, names)?;
-    let answer = erased_next(words, alloc, names, &observer);
-    drop(observer);
-    answer
+    erased_next(words, alloc, names, &observer)
 }
 
 /// The line of the next entry as an observer sees it, without its ticket.
@@ -85,9 +81,7 @@ fn seen(alloc: Global, names: &Names, observer: &Label, entry: &Entry) -> Result
 {
     erased_is_printable();
     let seen = entry.erase(alloc, observer)?;
-    let answer = line(alloc, names, &seen, false);
-    drop(seen);
-    answer
+    line(alloc, names, seen, false)
 }
 
 /// `equal_entries ENTRY ENTRY`: whether the two are equal.

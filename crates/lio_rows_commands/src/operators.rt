@@ -102,13 +102,15 @@ fn given(alloc: Global, names: &Names, given: Result<Value, OpFault>) -> Result<
 fn returned(alloc: Global, names: &Names, value: Value) -> Result<Answer, Refusal>
     requires { IsValueNamed names.now value }
 {
-    if value.is_pure() {
-        let text = print_value(alloc, &value, names);
-        drop(value);
-        Ok(Answer::Text(text?))
+    let text = if value.is_pure() {
+        Some(print_value(alloc, &value, names))
     } else {
-        drop(value);
-        faulted(alloc, names, FaultKind::BadType)
+        None
+    };
+    drop(value);
+    match text {
+        Some(text) => Ok(Answer::Text(text?)),
+        None => faulted(alloc, names, FaultKind::BadType),
     }
 }
 

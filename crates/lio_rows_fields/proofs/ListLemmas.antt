@@ -1,5 +1,5 @@
 -- What is known of each value of a list is known of the list.
-use Rattle.std.proofs.Common.{◌≡◌, ℕ, ◌+◌, ◌-◌, ◌≤◌, max, zero, suc, All, IsTrue, List, [], ◌∷◌, refl, subst, arith}
+use Rattle.std.proofs.Common.{ℕ, ◌-◌, ◌≤◌, suc, All, IsTrue, List, refl, subst, arith}
 use Rattle.lio_values.specs.declared.value.Value.{Value}
 use Rattle.lio_values.specs.Forest.{Item, Forest, Nothing, Then, item_depth, deepest}
 use Rattle.lio_values.specs.ForestText.{IsItemNamed, AreItemsNamed}

@@ -52,6 +52,8 @@ impl<'t> Case<'t> {
 pub(crate) enum Block<'t> {
     /// A line that is printed as it is.
     Line(&'t str),
+    /// A line that would belong to a case, where there is none.
+    Stray(&'t str),
     Case(Case<'t>),
 }
 
@@ -93,7 +95,7 @@ impl<'c> Setting<'c> {
 /// The first part with a word of a block, if it has one.
 fn part_of<'c>(block: &'c Block<'_>, word: &str) -> Option<&'c Part<'c>> {
     match block {
-        Block::Line(_) => None,
+        Block::Line(_) | Block::Stray(_) => None,
         Block::Case(case) => case.part(word),
     }
 }
@@ -154,29 +156,35 @@ fn append_line(text: &mut String, line: &str) -> Result<(), AllocError> {
     text.push_str("\n")
 }
 
-/// Appends a line to the text of the last part, if there is one.
-fn append_text(blocks: &mut Vec<Block<'_>>, line: &str) -> Result<(), AllocError> {
+/// Appends a line to the text of the last part, and tells whether there is one.
+fn append_text(blocks: &mut Vec<Block<'_>>, line: &str) -> Result<bool, AllocError> {
     match blocks.last_mut() {
         Some(Block::Case(case)) => match case.parts.last_mut() {
-            Some(part) => append_line(&mut part.text, line),
-            None => Ok(()),
+            Some(part) => {
+                append_line(&mut part.text, line)?;
+                Ok(true)
+            }
+            None => Ok(false),
         },
-        _ => Ok(()),
+        _ => Ok(false),
     }
 }
 
-/// Begins a part of the last case, if there is one.
+/// Begins a part of the last case, and tells whether there is one.
 fn begin_part<'t>(
     alloc: Global,
     blocks: &mut Vec<Block<'t>>,
     word: &'t str,
     about: &'t str,
-) -> Result<(), NoMemory> {
-    if let Some(Block::Case(case)) = blocks.last_mut() {
-        let text = String::new(alloc);
-        case.parts.push(Part { word, about, text })?;
+) -> Result<bool, NoMemory> {
+    match blocks.last_mut() {
+        Some(Block::Case(case)) => {
+            let text = String::new(alloc);
+            case.parts.push(Part { word, about, text })?;
+            Ok(true)
+        }
+        _ => Ok(false),
     }
-    Ok(())
 }
 
 /// Adds a line that belongs to no text.
@@ -191,7 +199,10 @@ fn add_line<'t>(alloc: Global, blocks: &mut Vec<Block<'t>>, line: &'t str) -> Re
         blocks.push(Block::Case(Case { name: about, parts }))?;
         return Ok(());
     }
-    begin_part(alloc, blocks, word, about)
+    if !begin_part(alloc, blocks, word, about)? {
+        blocks.push(Block::Stray(line))?;
+    }
+    Ok(())
 }
 
 /// The cases of a text, and the lines between them that are printed as they are.
@@ -199,7 +210,11 @@ pub(crate) fn read_blocks(alloc: Global, rows: &str) -> Result<Vec<Block<'_>>, N
     let mut blocks = Vec::new(alloc);
     for line in rows.lines() {
         match line.strip_prefix("|") {
-            Some(text) => append_text(&mut blocks, text)?,
+            Some(text) => {
+                if !append_text(&mut blocks, text)? {
+                    blocks.push(Block::Stray(line))?;
+                }
+            }
             None => add_line(alloc, &mut blocks, line)?,
         }
     }

@@ -66,13 +66,10 @@ fn add_host<R: AllocGlobal + Threads + Wait + Sync>(
     let mut say = say_of(alloc, case)?;
     let mut store = store_of(alloc, case, setting)?;
     let outcome = host_main(rt, alloc, host.as_slice(), &mut store, &mut say, &OpenGate);
-    drop(say);
     let otherwise = otherwise(alloc, status, journal, &outcome);
     drop(outcome);
-    let history = Vec::from_slice(alloc, store.get(b"h").unwrap_or(b""));
-    drop(store);
     found.host = otherwise?;
-    found.journal = history?;
+    found.journal = Vec::from_slice(alloc, store.get(b"h").unwrap_or(b""))?;
     Ok(())
 }
 
@@ -110,12 +107,10 @@ where
     let CoopOutcome { status, journal } = coop_main(rt, alloc, words, store, &mut say);
     let texts = setting.texts();
     let mut found = found_of(alloc, case, &status, &journal, words, texts, &say);
-    drop(say);
     let added = match &mut found {
         Ok(found) => add_host(rt, case, setting, words, &status, &journal, found),
         Err(NoMemory) => Err(NoMemory),
     };
-    drop(journal);
     drop(status);
     added?;
     found

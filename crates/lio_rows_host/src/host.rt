@@ -136,7 +136,6 @@ fn again<R: AllocGlobal + Threads + Wait + Sync>(
     let outcome = host_main(rt, alloc, words.as_slice(), store, &mut say, &OpenGate);
     let otherwise = otherwise(alloc, &outcome, &say, said);
     drop(outcome);
-    drop(say);
     otherwise
 }
 
@@ -155,7 +154,6 @@ fn run_once<R: AllocGlobal + Threads + Wait + Sync>(
     let outcome = host_main(rt, alloc, words, store, &mut say, &gate);
     let found = found_of(alloc, case, setting, &outcome, words, &history, &say);
     drop(outcome);
-    drop(say);
     let mut found = found?;
     found.gate = told_of(alloc, &gate)?;
     Ok(found)

@@ -13,7 +13,6 @@ fn loaded(order: Order<'_>) -> Loaded {
         way,
         ..
     } = order;
-    drop(way);
     Loaded { job, observer }
 }
 

@@ -65,7 +65,6 @@ impl Differences {
             ..
         } = self;
         if is_refused {
-            drop(text);
             return Err(NoMemory);
         }
         Ok(text)

@@ -57,6 +57,10 @@ where
     match blocks.last() {
         None => return Ok(()),
         Some(Block::Line(line)) => output.write_all(line.as_bytes())?,
+        Some(Block::Stray(line)) => {
+            output.write_all(line.as_bytes())?;
+            output.write_all(b"\tno case has this line")?;
+        }
         Some(Block::Case(case)) => write_case(rt, case, setting_of(blocks), output)?,
     }
     output.write_all(b"\n")

@@ -60,12 +60,10 @@ pub(crate) fn run(
     let status = observe_main(alloc, words, store, &mut say);
     let claim = claim_of(alloc, store, words);
     let stop = stop_of(alloc, &status, &claim);
-    drop(claim);
     let found = match stop {
         Ok(stop) => found_of(alloc, case, &status, words, setting.texts(), stop, &say),
         Err(NoMemory) => Err(NoMemory),
     };
     drop(status);
-    drop(say);
     found
 }

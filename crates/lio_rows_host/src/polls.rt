@@ -41,9 +41,7 @@ fn poll_future(
             Ok(false)
         }
         Poll::Ready(Ok(machine)) => {
-            let turns = machine.entries().len();
-            drop(machine);
-            let gave = format!(in alloc; "ready after {turns} turns")?;
+            let gave = format!(in alloc; "ready after {} turns", machine.entries().len())?;
             push_poll(text, gave.as_str(), task)?;
             Ok(true)
         }
@@ -159,7 +157,6 @@ fn tells(
         }
         None => future_tells(alloc, task, &job),
     };
-    drop(job);
     Found::told(alloc, tells?)
 }
 

@@ -41,16 +41,10 @@ where
 {
     let alloc = rt.alloc();
     let mut store = store_of(alloc, case, setting)?;
-    let found = match run(rt, case, setting, &mut store) {
-        Ok(did) => {
-            let found = compare(alloc, case, &did, &store);
-            drop(did);
-            found
-        }
+    match run(rt, case, setting, &mut store) {
+        Ok(did) => compare(alloc, case, &did, &store),
         Err(NoMemory) => Err(NoMemory),
-    };
-    drop(store);
-    found
+    }
 }
 
 /// What is printed behind the name of a case that is run so often: that of the first time that a

@@ -33,7 +33,5 @@ pub(crate) fn says(
 ) -> Result<String, NoMemory> {
     let why = why(alloc, case, program);
     let detail = detail_of(alloc, status, why, texts, stop)?;
-    let says = refusal_text(alloc, program, status, words, &detail);
-    drop(detail);
-    says
+    refusal_text(alloc, program, status, words, &detail)
 }

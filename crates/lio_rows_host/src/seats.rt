@@ -176,9 +176,7 @@ fn merged(alloc: Global, job: &Job, table: Table, seat: LioSeat) -> Result<Journ
 {
     let _ = job.policy();
     let config = close(alloc, table, seat)?;
-    let journal = merge(alloc, &config);
-    drop(config);
-    journal
+    merge(alloc, &config)
 }
 
 /// Ends a table that a job began, and gives the history.
@@ -188,21 +186,13 @@ fn history_of(alloc: Global, job: &Job, table: Table, seat: LioSeat) -> Result<V
 {
     let journal = merged(alloc, job, table, seat)?;
     let policy = job.policy();
-    let history = print_journal(alloc, &journal, true, &policy.names);
-    drop(journal);
-    history
+    print_journal(alloc, &journal, true, &policy.names)
 }
 
 /// What is told of two seats at the table of a job, and then the history.
 fn told_of(alloc: Global, job: &Job) -> Result<Vec<u8>, NoMemory> {
     let (table, mut seat) = table_of(alloc, job)?;
-    let mut text = match turns_beside(alloc, &table, &mut seat, job.script()) {
-        Ok(text) => text,
-        Err(refused) => {
-            drop(table);
-            return Err(refused);
-        }
-    };
+    let mut text = turns_beside(alloc, &table, &mut seat, job.script())?;
     let history = history_of(alloc, job, table, seat)?;
     text.extend_from_slice(history.as_slice())?;
     Ok(text)
@@ -224,12 +214,7 @@ pub(crate) fn run(
     store: &mut MemStore,
 ) -> Result<Found, NoMemory> {
     match host_job(alloc, words, store) {
-        Ok(Loaded { job, observer }) => {
-            drop(observer);
-            let found = tells(alloc, &job);
-            drop(job);
-            found
-        }
+        Ok(Loaded { job, observer }) => { tells(alloc, &job) }
         Err(status) => Found::refused(alloc, status),
     }
 }

@@ -94,10 +94,7 @@ pub(crate) fn store_of(
     };
     match filled {
         Ok(()) => Ok(store),
-        Err(NoMemory) => {
-            drop(store);
-            Err(NoMemory)
-        }
+        Err(NoMemory) => Err(NoMemory),
     }
 }
 

@@ -43,11 +43,7 @@ fn try_turn(alloc: Global, table: &Table, seat: &mut LioSeat, script: &Script, k
     ensures rights { rights (view_of seat.new) ≡ rights (view_of seat.old) }
 {
     match table.turn(alloc, seat, script, k) {
-        Ok(end) => {
-            let moved = matches!(&end, TurnEnd::Moved(..));
-            drop(end);
-            moved
-        }
+        Ok(end) => matches!(&end, TurnEnd::Moved(..)),
         Err(NoMemory) => false,
     }
 }
@@ -177,15 +173,10 @@ fn journal_of<R: Threads + Wait + Sync>(
     let (table, first) = Table::of_config(alloc, config, script)?;
     let seat = match take_all_turns(rt, alloc, &table, first, script) {
         Ok(seat) => seat,
-        Err(refused) => {
-            drop(table);
-            return Err(NoMemory::from(refused));
-        }
+        Err(refused) => return Err(NoMemory::from(refused)),
     };
     let config = close(alloc, table, seat)?;
-    let journal = merge(alloc, &config);
-    drop(config);
-    journal
+    merge(alloc, &config)
 }
 
 /// What is told of the journal of a table: how many bytes each channel received.
@@ -204,9 +195,7 @@ fn tells<R: Threads + Wait + Sync>(rt: &R, alloc: Global, job: &Job) -> Result<F
     let journal = journal_of(rt, alloc, job)?;
     let entries = journal.entries().len() as u64;
     let channels = job.policy().channels.as_slice().len();
-    let tells = journal_tells(alloc, &journal, channels);
-    drop(journal);
-    let mut found = Found::told(alloc, tells?)?;
+    let mut found = Found::told(alloc, journal_tells(alloc, &journal, channels)?)?;
     found.entries = entries;
     Ok(found)
 }
@@ -219,12 +208,7 @@ pub(crate) fn run<R: AllocGlobal + Threads + Wait + Sync>(
 ) -> Result<Found, NoMemory> {
     let alloc = rt.alloc();
     match host_job(alloc, words, store) {
-        Ok(Loaded { job, observer }) => {
-            drop(observer);
-            let found = tells(rt, alloc, &job);
-            drop(job);
-            found
-        }
+        Ok(Loaded { job, observer }) => { tells(rt, alloc, &job) }
         Err(status) => Found::refused(alloc, status),
     }
 }

@@ -4,8 +4,6 @@
 mod passes;
 mod queue;
 mod rule;
-#[cfg(test)]
-mod tests;
 
 pub use passes::RunPass;
 pub use queue::RunQueue;

@@ -1,5 +1,5 @@
-//! An example of a service that runs two scripts beside each other under one policy, by rounds that it
-//! makes in turn, and prints what an observer sees of each as it comes.
+//! An example of a service that runs two scripts beside each other under one policy, by rounds that
+//! it makes in turn, and prints what an observer sees of each as it comes.
 #![tactic(auto)]
 
 use futures::StreamExt;
@@ -44,19 +44,11 @@ fn stream_of<S: Store>(
         way,
         ..
     } = prepare_order(alloc, store, command)?;
-    drop(way);
     let machine = first_machine(alloc, &job);
-    drop(job);
     match (machine, observer) {
         (Ok(machine), Some(observer)) => Ok(ViewStream::new(alloc, machine, observer)),
-        (Ok(machine), None) => {
-            drop(machine);
-            Err(HostStatus::BadWords)
-        }
-        (Err(NoMemory), observer) => {
-            drop(observer);
-            Err(HostStatus::NoMemory)
-        }
+        (Ok(_), None) => Err(HostStatus::BadWords),
+        (Err(NoMemory), _) => Err(HostStatus::NoMemory),
     }
 }
 

@@ -7,6 +7,9 @@ use lio_syntax::Script;
 use lio_values::{List, Text};
 use std::marker::Model;
 
+/// The texts of a policy's inputs, as far as they are there: one place for each.
+pub type MaybeTexts = List<Option<Text>>;
+
 /// A policy, a script that fits it, and a text for each of the policy's inputs.
 #[derive(Drop)]
 pub struct Job {

@@ -12,7 +12,7 @@ mod inputs;
 mod job;
 pub mod laws;
 
-pub use configuration::start;
+pub use configuration::{start, start_over};
 pub use fault::StartFault;
 pub use fitting::fits;
-pub use job::Job;
+pub use job::{Job, MaybeTexts};

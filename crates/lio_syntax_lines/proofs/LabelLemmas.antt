@@ -6,7 +6,7 @@ use Rattle.std.proofs.lemmas.Bool.{and_parts}
 use Rattle.std.specs.List.{list_all}
 use Rattle.lio_clauses.specs.Names.{AreNames, is_letter, is_name_byte, may_stand, bad_place, name_fault}
 use Rattle.lio_clauses.specs.FormulaPrint as formula
-use Rattle.lio_clauses.specs.FormulaPrint.{joined, name_of, clause_text, formula_text, two_text}
+use Rattle.lio_clauses.specs.FormulaPrint.{joined, name_of, clause_text, formula_text}
 use Rattle.lio_labels.specs.declared.label.Label.{Label}
 use Rattle.lio_labels.specs.LabelPrint.{AreNamed, label_text}
 use Rattle.lio_syntax_lines.specs.Literals.{is_name, is_reserved}

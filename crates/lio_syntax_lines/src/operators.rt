@@ -131,8 +131,8 @@ impl Two {
         TWOS.iter().copied().find(|op| op.word() == word)
     }
 
-    /// Whether its word is reserved. That of `push` and of `at` is told by its place in the line, so
-    /// that it may be a name too.
+    /// Whether its word is reserved. That of `push` and of `at` is told by its place in the line,
+    /// so that it may be a name too.
     pub fn is_reserved(self) -> bool
         ensures { result ≡ has_reserved_word self }
     {

@@ -10,7 +10,7 @@ use std::io::{ErrorKind, Read, Write};
 
 /// What a file is.
 #[derive(Clone, Copy, Debug, PartialEq, Eq)]
-pub(crate) enum FileKind {
+pub enum FileKind {
     /// A plain file, which keeps its bytes.
     Plain,
     /// A device that hands bytes on, as a terminal.
@@ -21,7 +21,7 @@ pub(crate) enum FileKind {
 
 /// What is known of a file that is there.
 #[derive(Drop)]
-pub(crate) struct About {
+pub struct About {
     pub number: FileNumber,
     pub kind: FileKind,
     pub permissions: Permissions,
@@ -29,7 +29,7 @@ pub(crate) struct About {
 
 /// An open file, and what it is.
 #[derive(Drop)]
-pub(crate) struct Opened<F> {
+pub struct Opened<F> {
     pub file: F,
     pub about: About,
 }
@@ -37,7 +37,7 @@ pub(crate) struct Opened<F> {
 /// The files of a system, by their paths, as a store needs them. Its meaning is `number_at`, the
 /// number of the file under a path, or `None` where there is none, where it is a device that hands
 /// bytes on, or where nothing is told.
-pub(crate) trait Disk {
+pub trait Disk {
     type File: Read + Write + Drop;
 
     ghost number_at: { Self → NumberAt };

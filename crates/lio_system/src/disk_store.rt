@@ -42,7 +42,7 @@ impl From<io::Error> for Refusal {
 /// Fetches and keeps files of a system, and keeps in mind which, so that no file is written under
 /// two names, or read under one and written under another.
 #[derive(Drop)]
-pub(crate) struct DiskStore<D> {
+pub struct DiskStore<D> {
     disk: D,
     known: KnownFiles,
     refusal: Option<Refusal>,
@@ -50,7 +50,7 @@ pub(crate) struct DiskStore<D> {
 
 impl<D> DiskStore<D> {
     /// Over the files of a system, of which none was fetched or kept.
-    pub(crate) fn new(alloc: Global, disk: D) -> Self {
+    pub fn new(alloc: Global, disk: D) -> Self {
         DiskStore {
             disk,
             known: KnownFiles::new(alloc),
@@ -59,9 +59,15 @@ impl<D> DiskStore<D> {
     }
 
     /// The files of the system.
-    #[cfg(test)]
-    pub(crate) fn disk(&mut self) -> &mut D {
-        &mut self.disk
+    pub fn disk(&self) -> &D
+        ensures { result.now ≡ self.now.disk }
+    {
+        &self.disk
+    }
+
+    /// Forgets why the last call was refused.
+    pub(crate) fn forget(&mut self) {
+        self.refusal = None;
     }
 
     /// Why the last call was refused, if it was.
@@ -77,12 +83,7 @@ impl<D> DiskStore<D> {
 
 impl<D: Disk> DiskStore<D> {
     /// The first `limit + 1` bytes of a file, or all where there are fewer.
-    pub(crate) fn fetch(
-        &mut self,
-        alloc: Global,
-        name: &[u8],
-        limit: u32,
-    ) -> Result<Vec<u8>, FetchFault>
+    pub fn fetch(&mut self, alloc: Global, name: &[u8], limit: u32) -> Result<Vec<u8>, FetchFault>
         ensures within { IfOk result (λ v. vec_len v ≤ limit + 1) }
         ensures known { OnOk result (IfSome (D.number_at self.old.disk name.now) (λ number.
             is_known self.new.known.files.items number name.now ≡ true)) }
@@ -99,7 +100,7 @@ impl<D: Disk> DiskStore<D> {
     }
 
     /// Puts the bytes under a name.
-    pub(crate) fn keep(&mut self, alloc: Global, name: &[u8], bytes: &[u8]) -> Result<(), KeepFault>
+    pub fn keep(&mut self, alloc: Global, name: &[u8], bytes: &[u8]) -> Result<(), KeepFault>
         ensures same_file { IfSome (D.number_at self.old.disk name.now) (λ number.
             is_known_elsewhere self.old.known.files.items number name.now ≡ true
             → (result ≡ Err KeepFault.Failed) × (self.new.disk ≡ self.old.disk)) }

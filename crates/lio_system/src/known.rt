@@ -8,7 +8,7 @@ use std::alloc::{AllocError, Global};
 
 /// What tells a file of a system from every other one, whatever its names.
 #[derive(Clone, Copy, Debug, PartialEq, Eq)]
-pub(crate) struct FileNumber {
+pub struct FileNumber {
     pub device: u64,
     pub inode: u64,
 }

@@ -10,16 +10,8 @@ mod real_disk;
 mod real_say;
 mod real_store;
 
+pub use disk::{About, Disk, FileKind, Opened};
+pub use disk_store::DiskStore;
+pub use known::FileNumber;
 pub use real_say::RealSay;
 pub use real_store::RealStore;
-
-#[cfg(test)]
-mod disk_tests;
-#[cfg(test)]
-mod fake_disk;
-#[cfg(test)]
-mod folder_tests;
-#[cfg(test)]
-mod say_tests;
-#[cfg(test)]
-mod tests;

@@ -30,7 +30,8 @@ use Rattle.lio_table.specs.Moves.{MovesAlone, MovesBoth, ReturnsBoth, ReturnsNod
 use Rattle.lio_table.specs.Seats.{AreOut, HaveNumbers}
 use Rattle.lio_table.specs.Tables.{first_of}
 use Rattle.lio_table.specs.Taken.{EndsTurn, HasOne, HasTwo, RefusesTurn, tickets_of, woken_or}
-use Rattle.lio_table.specs.Turns.{Found, Meets, TurnRefused, TurnSays, born_at, grown, returned, returned_with, with_draw, with_one, with_two}
+use Rattle.lio_task.specs.Outcome.{born_at}
+use Rattle.lio_table.specs.Turns.{Found, Meets, TurnRefused, TurnSays, grown, returned, returned_with, with_draw, with_one, with_two}
 use Rattle.lio_table.specs.Waits.{LeavesBoth, waiting_with}
 use Rattle.lio_table.proofs.EndLemmas.{alone-moved, itself-unready, meeting-moved, meets-of, one-busy, one-found, one-returned, slot-back, slots-back, target-within, two-found, two-left, two-met_found, unready-still}
 use Rattle.lio_table.proofs.OverLemmas.{over-ended}

@@ -38,7 +38,8 @@ use Rattle.lio_table.specs.declared.table.Table.{Table}
 use Rattle.lio_table.specs.Holders.{CanPut, CanPutBoth, TakesOut}
 use Rattle.lio_table.specs.Moves.{MovesAlone, MovesBoth}
 use Rattle.lio_table.specs.Taken.{HasOne, HasTwo, IsInTurn, woken_or}
-use Rattle.lio_table.specs.Turns.{Found, Meets, MovedAlone, MovedMeeting, born_at, grown, returned, returned_with, with_draw, with_one, with_two}
+use Rattle.lio_task.specs.Outcome.{born_at}
+use Rattle.lio_table.specs.Turns.{Found, Meets, MovedAlone, MovedMeeting, grown, returned, returned_with, with_draw, with_one, with_two}
 use Rattle.lio_table.proofs.SeatLemmas.{falls, no-node, passes}
 use Rattle.lio_table.proofs.TurnLemmas.{part-of-actor, part-of-target, stands-in}
 

@@ -22,3 +22,5 @@ pub mod CutsKept
 pub mod Opening
 pub mod Closing
 pub mod MomentLemmas
+pub mod RunTurns
+pub mod WellFormedLemmas

@@ -6,6 +6,7 @@ use lib.ListN.{get_elem?}
 use prog.Atomic.{either}
 use Rattle.atomic_table.specs.Table.{Act, Allows, Final, Joins, Seen, Splits, Valid, carried_after, step, stepped}
 use Rattle.lio_values.specs.declared.entry.Entry.{Entry}
+use Rattle.lio_calculus.specs.Run.{Ran, run}
 use Rattle.lio_calculus.specs.Step.{Configuration}
 use Rattle.lio_calculus.specs.Sound.{IsSound}
 use Rattle.lio_calculus.specs.Logs.{Logs}
@@ -14,7 +15,7 @@ use Rattle.lio_task.specs.Logs.{HaveNoLogs}
 use Rattle.lio_table.specs.declared.view.Beginning.{Beginning}
 use Rattle.lio_table.specs.declared.view.View.{View}
 use Rattle.lio_table.specs.Views.{HoldsNode, StandIn, configuration_from, rights}
-use Rattle.lio_table.specs.Rule.{Keeps, KeepsWith, TableState}
+use Rattle.lio_table.specs.Rule.{AreTurns, Keeps, KeepsWith, TableState}
 use Rattle.lio_table.specs.Logs.{AreLogsOf, HaveRunSoFar}
 use Rattle.lio_table.specs.Steps.{CanGive, CanRecord, Claims, Draws, DrawsTicket, Gives, Looks, SeatState, with_ticket}
 use Rattle.lio_table.specs.Cuts.{cut_left, cut_right, joined, spent}
@@ -89,6 +90,10 @@ TicketAddsItsEntry = (first : Beginning) (journal : List Entry) (slots id : ℕ)
 abbrev pub LogsAreLogged : Type 0
 LogsAreLogged = (first : Beginning) (s : TableState) (kept : Keeps first s)
     → ((logs : Logs) × AreLogsOf s logs) × ((logs : Logs) → AreLogsOf s logs → HaveRunSoFar first s kept.journal logs)
+
+-- each run from a sound configuration is a journal that the rule allows a table which begins with it
+abbrev pub RunsAreTurns : Type 0
+RunsAreTurns = (c : Configuration) (ks : List ℕ) (ran : Ran) → IsSound c → run 0 c ks ≡ Some ran → AreTurns c ran.entries
 
 -- at each moment the nodes that a seat holds are cells of a sound configuration
 abbrev pub SeatsNodesStand : Type 0

@@ -1,7 +1,6 @@
 -- What a turn of a task at a table answers, each answer with its cause, and what it makes of the seat's view.
 use Rattle.std.specs.Prelude.{◌≡◌, ◌⊎◌, ℕ, ◌+◌, ◌-◌, ◌^◌, ◌<◌, true, false, List, [], ◌∷◌, ◌++◌, length, All, take, Option, Some, None, if◌then◌else◌}
 use Rattle.lio_values.specs.declared.act.Act.{Act}
-use Rattle.lio_values.specs.declared.act.Act.TheVariants as act
 use Rattle.lio_values.specs.declared.entry.Entry.{Entry}
 use Rattle.lio_cells.specs.declared.waiter.Waiter.{Waiter}
 use Rattle.lio_cells.specs.State.{ready as is_ready}
@@ -14,6 +13,7 @@ use Rattle.lio_task.specs.StateOf.{state_in}
 use Rattle.lio_task_turns.specs.StateOf.{program_of}
 use Rattle.lio_task.specs.declared.config.Holder.{Holder}
 use Rattle.lio_task.specs.Turns.{Stands, ends, looks}
+use Rattle.lio_task.specs.Outcome.{born_at}
 use Rattle.lio_table.specs.declared.view.Beginning.{Beginning}
 use Rattle.lio_table.specs.declared.view.Given.{Given}
 use Rattle.lio_table.specs.declared.view.View.{View}
@@ -84,12 +84,6 @@ pub record MovedAlone (k : ℕ) (old : View) (ticket : ℕ) (born : Option ℕ) 
   pub born_is : born ≡ None
   pub woken_is : woken ≡ (if ends entry.act then holder.node.waiters else [])
   pub view : new ≡ with_draw entry (with_one (grown k holder entry (if ends entry.act then [] else holder.node.waiters)) old)
-
--- the number of the task to which a turn gave birth, by its entry
-abbrev pub born_at : Act → Option ℕ → Option ℕ
-born_at (act.Fork birth) target = target
-born_at (act.Spawn birth) target = target
-born_at asked target = None
 
 -- Task k took a turn that meets node n: both nodes were claimed, and given back with the turn's entry last in their logs. Who waited at n is woken unless
 -- the turn only looks at it.

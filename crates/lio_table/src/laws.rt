@@ -4,7 +4,8 @@ ghost use Rattle.lio_table.specs.Laws.{GiveKeepsTheRule, SplitKeepsTheRule};
 ghost use Rattle.lio_table.specs.Laws.{JoinKeepsTheRule, FreshTableMeetsTheRule};
 ghost use Rattle.lio_table.specs.Laws.{ClosedTableHasRun, LookKeepsTheRule};
 ghost use Rattle.lio_table.specs.Laws.{LogsAreLogged, SeatsNodesStand};
-ghost use Rattle.lio_table.specs.Laws.{StepsLeaveTheJournal, TicketAddsItsEntry};
+ghost use Rattle.lio_table.specs.Laws.{RunsAreTurns, StepsLeaveTheJournal, TicketAddsItsEntry};
+ghost use Rattle.lio_table.specs.Closing.{ClosedTableIsWellFormed, TableIsWellFormed};
 
 /// A claim keeps the rule.
 pub fn claim_keeps_the_rule()
@@ -65,4 +66,19 @@ pub fn fresh_table_meets_the_rule()
 /// A table that is closed by the seat with all tickets has run from where it began.
 pub fn closed_table_has_run()
     ensures { ClosedTableHasRun }
+{}
+
+/// Each run from a sound configuration is a journal that the rule allows.
+pub fn runs_are_turns()
+    ensures { RunsAreTurns }
+{}
+
+/// A table that began with a well-formed configuration stands for a well-formed one at each moment.
+pub fn table_is_well_formed()
+    ensures { TableIsWellFormed }
+{}
+
+/// A table that began with a well-formed configuration is closed with a well-formed one.
+pub fn closed_table_is_well_formed()
+    ensures { ClosedTableIsWellFormed }
 {}

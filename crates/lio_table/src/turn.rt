@@ -3,7 +3,7 @@ ghost use Rattle.std.specs.Prelude.{◌≡◌, ◌<◌, [], IfErr, IfOk};
 ghost use Rattle.lio_task.specs.Takes.{PlansFull, PlansOwn, PlansVisit};
 ghost use Rattle.lio_table.specs.declared.view.View.{View};
 ghost use Rattle.lio_table.specs.Tables.{IsSeatOf, first_of, view_of};
-ghost use Rattle.lio_table.specs.Turns.{TurnRefused, TurnSays, born_at, drawn_after};
+ghost use Rattle.lio_table.specs.Turns.{TurnRefused, TurnSays, drawn_after};
 ghost use Rattle.lio_table.specs.Taken.{EndsTurn, HasOne, HasTwo, IsInTurn, RefusesTurn};
 ghost use Rattle.lio_table.specs.Taken.{tickets_of, woken_or};
 
@@ -12,7 +12,7 @@ use crate::table::Table;
 use lio_cells::Waiters;
 use lio_clauses::NoMemory;
 use lio_syntax::Script;
-use lio_task::{Holder, Way, blank_entry};
+use lio_task::{Holder, Way, blank_entry, born_in};
 use lio_task_plan::{Full, Plan};
 use lio_task_turns::{Onward, Turn};
 use lio_values::{Act, Entry, Held, Reply};
@@ -31,17 +31,6 @@ pub enum TurnEnd {
     Still(u32),
     /// The task with this number has ended, or there is none.
     Over(u32),
-}
-
-/// The number of the task to which a turn gave birth, by its entry.
-fn born_in(entry: &Entry) -> Option<u32>
-    ensures { result ≡ born_at entry.now.act entry.now.target }
-{
-    match entry.act {
-        Act::Fork(_) => entry.target,
-        Act::Spawn(_) => entry.target,
-        _ => None,
-    }
 }
 
 /// How many tickets a turn drew, by its answer.

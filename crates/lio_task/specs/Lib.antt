@@ -1,5 +1,6 @@
 pub mod StateOf
 pub mod Births
+pub mod Outcome
 pub mod Goes
 pub mod Next
 pub mod Status

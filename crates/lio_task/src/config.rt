@@ -215,9 +215,9 @@ impl Config {
         }
     }
 
-    /// Takes one small step: the turn of task `k`, whose entry has this ticket, which is greater than
-    /// all in the logs. The entry comes last in the log of each node that it shows. The configuration
-    /// stays sound. After a refusal it is as before.
+    /// Takes one small step: the turn of task `k`, whose entry has this ticket, which is greater
+    /// than all in the logs. The entry comes last in the log of each node that it shows. The
+    /// configuration stays sound. After a refusal it is as before.
     pub fn step(
         &mut self,
         alloc: Global,

@@ -2,9 +2,9 @@
 //! node that its act meets.
 //!
 //! The first half does all that may fail: a child's task, the reply, the entry with a copy of the
-//! task's label, what the nodes that serve it need, and last how the actor goes on. A refusal leaves
-//! what the holders stand for as it was. The second half takes no memory: the nodes serve the turn,
-//! which has its ticket by then.
+//! task's label, what the nodes that serve it need, and last how the actor goes on. A refusal
+//! leaves what the holders stand for as it was. The second half takes no memory: the nodes serve
+//! the turn, which has its ticket by then.
 ghost use Rattle.std.specs.Prelude.{◌≡◌, IfOk, None};
 ghost use Rattle.lio_task.specs.Turns.{ends, looks};
 ghost use Rattle.lio_labels.specs.Extremes.{public};
@@ -261,8 +261,8 @@ impl Holder {
         Task::born_by(alloc, act, task.label(), script)
     }
 
-    /// Fills the entry of a turn that meets the node of another holder, but for its ticket, and keeps
-    /// ready what the turn needs in that node, which stands for the same cell.
+    /// Fills the entry of a turn that meets the node of another holder, but for its ticket, and
+    /// keeps ready what the turn needs in that node, which stands for the same cell.
     fn meet(
         &self,
         alloc: Global,
@@ -301,9 +301,9 @@ impl Holder {
 
     /// Does all that may fail of a turn of its task, which has number `k`, where the turn meets the
     /// node of another holder, which has number `n` and is ready; fills the entry, but for its
-    /// ticket, and gives the child that the act gives birth to, if it does. The task has gone on, and
-    /// both nodes are ready for the entry. After a refusal of memory both stand for the same cells,
-    /// and their nodes have the same logs and waiters.
+    /// ticket, and gives the child that the act gives birth to, if it does. The task has gone on,
+    /// and both nodes are ready for the entry. After a refusal of memory both stand for the same
+    /// cells, and their nodes have the same logs and waiters.
     pub fn prepare_meeting(
         &mut self,
         alloc: Global,
@@ -378,9 +378,9 @@ impl Holder {
         }
     }
 
-    /// Records the turn of its task for which its node is ready, with its ticket: the node serves it.
-    /// Who waits at the node is taken out where the turn is the task's end, which changes the node.
-    /// It takes no memory.
+    /// Records the turn of its task for which its node is ready, with its ticket: the node serves
+    /// it. Who waits at the node is taken out where the turn is the task's end, which changes the
+    /// node. It takes no memory.
     #[inline(always)]
     pub fn record(&mut self, ticket: u64) -> Option<Waiters>
         requires { CanRecord self.old.node ticket }
@@ -393,8 +393,8 @@ impl Holder {
     }
 
     /// Records the turn for which its node is ready, and which meets it, with its ticket: the node
-    /// serves it, and where the holder has no task it has the child, if there is one. Who waits at the
-    /// node is taken out unless the act only looks at it. It takes no memory.
+    /// serves it, and where the holder has no task it has the child, if there is one. Who waits at
+    /// the node is taken out unless the act only looks at it. It takes no memory.
     pub fn record_met(&mut self, ticket: u64, child: Option<Task>) -> Option<Waiters>
         requires { CanRecordMet self.old.node ticket }
         ensures { (entry : Entry) → IsReadyFor self.old.node entry

@@ -118,8 +118,8 @@ impl Environment {
         }
     }
 
-    /// Binds a name to a small value, as `bind` does. A number or a truth value over one of its kind
-    /// is one store.
+    /// Binds a name to a small value, as `bind` does. A number or a truth value over one of its
+    /// kind is one store.
     #[inline(always)]
     pub fn set(&mut self, alloc: Global, name: &Name, value: Small) -> Result<(), NoMemory>
         ensures ok { OnOk result (self.new ≡ bind self.old name.now (Bare (plain_of value))) }

@@ -1,7 +1,8 @@
 //! Places in a script, and where one goes on from them.
 #![tactic(auto, unfolding(lio_syntax::specs::Places::else_at))]
 
-ghost use Rattle.std.specs.Prelude.{◌≡◌, ◌<◌, ◌+◌, ◌++◌, ◌^◌, [], List, length, MatchOption, OnSome};
+ghost use Rattle.std.specs.Prelude.{◌≡◌, ◌<◌, ◌+◌, ◌++◌, ◌^◌, [], List, length, MatchOption};
+ghost use Rattle.std.specs.Prelude.{OnSome};
 ghost use Rattle.std.specs.Prelude.{IfSome, MatchBool, slice_get, true};
 ghost use Rattle.std.specs.Option.{option_copied};
 ghost use Rattle.lio_syntax.specs.Closing.{end_of};

@@ -4,7 +4,7 @@ use Rattle.lio_labels.specs.declared.label.Label.{Label}
 use Rattle.lio_values.specs.declared.value.Plain.{Plain}
 use Rattle.lio_values.specs.declared.value.Value.{Value}
 use Rattle.lio_values.specs.Forest as forest
-use Rattle.lio_values.specs.Forest.{Tree, Item, Forest, Nothing, Then, tree_depth}
+use Rattle.lio_values.specs.Forest.{Tree, Item, Forest, Nothing, Then}
 use Rattle.lio_values.specs.Views.{tree_of, item_of}
 
 -- the size of what keeps a label: 1, and 8 for each clause

@@ -25,7 +25,7 @@ pub enum FaultKind {
     Overflow,
     /// A division by zero.
     DivZero,
-    /// A text is longer than texts may be.
+    /// A text is longer than texts may be, or a list has more items than lists may have.
     TooLong,
     /// The task has no turn left.
     NoTurns,
@@ -35,7 +35,8 @@ pub enum FaultKind {
     ChildTurns(u64, u64),
     /// Too many calls are open.
     Depth,
-    /// The two labels' join or meet has more than 64 clauses in a part.
+    /// The two labels' join or meet has more than 64 clauses in a part, or, in an exposure, what
+    /// the privilege leaves of the second or its join with the first.
     LabelWide(Label, Label),
     /// Thrown by the script, with this value.
     User(Plain),

@@ -42,8 +42,8 @@ impl Plain {
         }
     }
 
-    /// Its size: 1, of a text 1 and its bytes, of a label or a privilege 1 and 8 for each clause, of
-    /// a handle that of its label, and of a list 1 and the sizes of its items.
+    /// Its size: 1, of a text 1 and its bytes, of a label or a privilege 1 and 8 for each clause,
+    /// of a handle that of its label, and of a list 1 and the sizes of its items.
     #[cycle(size)]
     pub fn size(&self) -> u64
         ensures { result ≡ min (tree_size (tree_of self.now)) (2 ^ 64 - 1) }

@@ -1,7 +1,8 @@
 //! Names.
 #![tactic(auto, unfolding(crate::specs::Names::key_of))]
 
-ghost use Rattle.std.specs.Prelude.{◌≡◌, ◌≤◌, ◌<◌, ◌↔◌, bytes_eq, get_or, length, IfOk, IsOk, IsTrue};
+ghost use Rattle.std.specs.Prelude.{◌≡◌, ◌≤◌, ◌<◌, ◌↔◌, bytes_eq, get_or, length, IfOk, IsOk};
+ghost use Rattle.std.specs.Prelude.{IsTrue};
 ghost use Rattle.lio_values.specs.Names.{digit, key_of};
 
 use crate::text::Text;

@@ -1,3 +1,4 @@
 pub mod RunLemmas
+pub mod MergeLemmas
 pub mod SeatLemmas
 mod Crossing

@@ -1,7 +1,8 @@
 //! A run of a job by workers.
 ghost use Rattle.std.specs.Prelude.{◌≤◌, IfOk};
+ghost use Rattle.lio_start.specs.Job.{first_of};
 ghost use Rattle.lio_rounds.specs.Headline.{IsRunOf};
-ghost use Rattle.lio_rounds.specs.Runs.{HasItsLogs, ran_of};
+ghost use Rattle.lio_rounds.specs.Runs.{HasItsLogs, IsMergeOfLogs, ran_of};
 
 use crate::gate::Gate;
 use crate::run::run_workers;
@@ -13,7 +14,8 @@ use std::sync::Wait;
 use std::thread::Threads;
 
 /// Runs a job by so many workers from its first configuration, until no task can take a turn. The
-/// workers tell the gate of each turn that they took.
+/// workers tell the gate of each turn that they took. The journal is the merge of the logs of all
+/// nodes.
 pub fn run_by_workers<R: Threads + Wait + Sync, G: Gate + Sync>(
     rt: &R,
     alloc: Global,
@@ -24,6 +26,8 @@ pub fn run_by_workers<R: Threads + Wait + Sync, G: Gate + Sync>(
     requires count { (1 ≤ count) × (count ≤ 64) }
     ensures run { IfOk result (λ it. IsRunOf job.now (ran_of job.now.script it)) }
     ensures logs { IfOk result HasItsLogs }
+    ensures merge { IfOk result (λ it. IsMergeOfLogs (first_of job.now)
+        (ran_of job.now.script it)) }
 {
     let script = job.script();
     let config = start(alloc, job)?;

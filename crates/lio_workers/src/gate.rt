@@ -3,8 +3,9 @@
 /// What a worker tells of each turn that it took. Implement it to follow, or to hold up, the
 /// workers.
 pub trait Gate {
-    /// A worker has taken the turn of task `k` with this ticket. Each turn of a worker is told once,
-    /// before the task is tried again; the turns that are left when the workers end aren't told.
+    /// A worker has taken the turn of task `k` with this ticket. Each turn of a worker is told
+    /// once, before the task is tried again; the turns that are left when the workers end aren't
+    /// told.
     fn pass(&self, k: u32, ticket: u64);
 }
 

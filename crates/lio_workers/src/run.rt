@@ -4,7 +4,7 @@ ghost use Rattle.lio_calculus.specs.Journals.{HaveSameEntries};
 ghost use Rattle.lio_calculus_runs.specs.WellFormed.{IsWellFormed};
 ghost use Rattle.lio_task.specs.Configuration.{configuration_of};
 ghost use Rattle.lio_task.specs.Logs.{AreFresh};
-ghost use Rattle.lio_rounds.specs.Runs.{HasItsLogs, IsCompleteRun, ran_of};
+ghost use Rattle.lio_rounds.specs.Runs.{HasItsLogs, IsCompleteRun, IsMergeOfLogs, ran_of};
 ghost use Rattle.lio_runq.specs.Passes.{IsPassOf, left_of};
 ghost use Rattle.lio_table.specs.Tables.{first_of, view_of};
 ghost use Rattle.lio_table.specs.Views.{configuration_from};
@@ -62,10 +62,7 @@ fn close(
     put_in_order(&mut entries)?;
     let config = match table.close(alloc, seat) {
         Ok(config) => config,
-        Err(refused) => {
-            drop(refused);
-            return Err(NoMemory);
-        }
+        Err(_) => return Err(NoMemory),
     };
     let mut machine = Machine::resumed(alloc, entries, config, script)?;
     match machine.run(alloc) {
@@ -73,10 +70,7 @@ fn close(
             let (journal, config) = machine.finish();
             Ok(Ran { journal, config })
         }
-        Err(NoMemory) => {
-            drop(machine);
-            Err(NoMemory)
-        }
+        Err(NoMemory) => Err(NoMemory),
     }
 }
 
@@ -182,7 +176,8 @@ fn run_below<R: Threads + Wait + Sync, G: Gate + Sync, B: Bound + Send + Sync>(
 }
 
 /// Runs a configuration to the end by so many workers, each in a thread of its own where one can be
-/// had. Whatever the order in which they came to take the turns, it is a complete run.
+/// had. Whatever the order in which they came to take the turns, it is a complete run, and its
+/// journal is the merge of the logs of all nodes.
 pub fn run_workers<R: Threads + Wait + Sync, G: Gate + Sync>(
     rt: &R,
     alloc: Global,
@@ -197,6 +192,8 @@ pub fn run_workers<R: Threads + Wait + Sync, G: Gate + Sync>(
     ensures run { IfOk result (λ ran. IsCompleteRun (configuration_of script.now start)
         (ran_of script.now ran)) }
     ensures logs { IfOk result HasItsLogs }
+    ensures merge { IfOk result (λ ran. IsMergeOfLogs (configuration_of script.now start)
+        (ran_of script.now ran)) }
 {
     run_below::<R, G, Brand>(rt, alloc, start, script, count, gate)
 }

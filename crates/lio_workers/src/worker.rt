@@ -1,9 +1,10 @@
 //! What each worker does.
 ghost use Rattle.std.specs.Prelude.{◌≡◌, ◌+◌, ◌<◌, ◌≤◌, [], false, IfOk, IsTrue, if◌then◌else◌};
-ghost use Rattle.lio_runq.specs.Passes.{IsPassOf, left_of};
+ghost use Rattle.lio_runq.specs.Passes.{IsPassOf, left_of, popped_of};
 ghost use Rattle.lio_table.specs.Tables.{first_of, view_of};
 ghost use Rattle.lio_table.specs.Turns.{TurnSays};
 ghost use Rattle.lio_workers.specs.Ends.{has_to_end};
+ghost use Rattle.lio_workers.specs.Looks.{IsLastOf};
 ghost use Rattle.lio_workers.specs.Seated.{IsWorkerAt};
 
 use crate::gate::Gate;
@@ -26,8 +27,8 @@ const MOST_IN_VAIN: u32 = 1_000;
 /// numbers in the queue meanwhile, as it never takes two at once.
 const TURNS_AT_A_LOOK: u32 = 16;
 
-/// A worker: its seat at the table, its pass of the queue, the entries of the turns that it took, how
-/// often in a row it has looked for a number in vain, and whether memory was refused.
+/// A worker: its seat at the table, its pass of the queue, the entries of the turns that it took,
+/// how often in a row it has looked for a number in vain, and whether memory was refused.
 #[derive(Drop)]
 pub(crate) struct Worker<B: Bound> {
     pub seat: LioSeat,
@@ -106,6 +107,7 @@ pub(crate) fn push<R: Wait, B: Bound>(rt: &R, numbers: &RunQueue<B>, pass: &mut 
     requires below { k < B.bound }
     ensures pass { IsPassOf numbers.now.numbers pass.new.seat }
     ensures left { left_of pass.old.seat ≤ left_of pass.new.seat + 1 }
+    ensures popped { popped_of pass.new.seat ≡ popped_of pass.old.seat }
 {
     if pass.pushes_left() > 0 {
         let _ = numbers.push(rt, pass, k);
@@ -120,7 +122,8 @@ fn push_woken<R: Wait, B: Bound>(
     woken: &Waiters,
 )
     requires worker { IsWorkerAt shared.now worker.old }
-    ensures { IsWorkerAt shared.now worker.new }
+    ensures worker { IsWorkerAt shared.now worker.new }
+    ensures popped { popped_of worker.new.pass.seat ≡ popped_of worker.old.pass.seat }
 {
     let len = shared.table.len();
     for waiter in woken.as_slice() {
@@ -130,7 +133,8 @@ fn push_woken<R: Wait, B: Bound>(
     }
 }
 
-/// Lets a task take its turn, and keeps the turn's entry. There is room for it before.
+/// Lets the task whose number was popped last take its turn, and keeps the turn's entry. There is
+/// room for it before.
 fn turn<B: Bound>(
     alloc: Global,
     shared: &Shared<B>,
@@ -142,7 +146,9 @@ fn turn<B: Bound>(
     requires left { 0 < (view_of worker.old.seat).left }
     requires script { script.now ≡ (first_of shared.now.table).script }
     requires node { k < shared.now.table.len }
+    requires popped { IsLastOf k (popped_of worker.old.pass.seat) }
     ensures worker { IsWorkerAt shared.now worker.new }
+    ensures pass { worker.new.pass ≡ worker.old.pass }
     ensures ok { IfOk result (λ end. TurnSays k (view_of worker.old.seat) end
         (view_of worker.new.seat)) }
 {
@@ -163,8 +169,8 @@ fn turn<B: Bound>(
     }
 }
 
-/// Tries to take the turn of a task. It tells the gate of a turn that was taken, then puts the child
-/// and those who are woken last in the queue.
+/// Tries to take the turn of a task. It tells the gate of a turn that was taken, then puts the
+/// child and those who are woken last in the queue.
 fn try_turn<R: Wait, G: Gate, B: Bound>(
     rt: &R,
     alloc: Global,
@@ -178,7 +184,9 @@ fn try_turn<R: Wait, G: Gate, B: Bound>(
     requires left { 0 < (view_of worker.old.seat).left }
     requires script { script.now ≡ (first_of shared.now.table).script }
     requires node { k < shared.now.table.len }
-    ensures { IsWorkerAt shared.now worker.new }
+    requires popped { IsLastOf k (popped_of worker.old.pass.seat) }
+    ensures worker { IsWorkerAt shared.now worker.new }
+    ensures popped { popped_of worker.new.pass.seat ≡ popped_of worker.old.pass.seat }
 {
     match turn(alloc, shared, script, worker, k) {
         Ok(TurnEnd::Moved(ticket, born, woken)) => {
@@ -199,8 +207,8 @@ fn try_turn<R: Wait, G: Gate, B: Bound>(
     }
 }
 
-/// Takes some turns of a task whose number it took out of the queue, and puts the number back where
-/// the task may go on.
+/// Takes some turns of the task whose number it took out of the queue last, and puts the number
+/// back where the task may go on.
 fn take_turns<R: Wait, G: Gate, B: Bound>(
     rt: &R,
     alloc: Global,
@@ -213,6 +221,7 @@ fn take_turns<R: Wait, G: Gate, B: Bound>(
     requires worker { IsWorkerAt shared.now worker.old }
     requires script { script.now ≡ (first_of shared.now.table).script }
     requires node { k < shared.now.table.len }
+    requires popped { IsLastOf k (popped_of worker.old.pass.seat) }
     ensures { IsWorkerAt shared.now worker.new }
 {
     for _ in 0..TURNS_AT_A_LOOK {

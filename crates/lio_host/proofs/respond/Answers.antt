@@ -1,9 +1,9 @@
-use Rattle.std.proofs.Common.{List}
+use Rattle.std.proofs.Common.{List, refl}
 use Rattle.lio_values.specs.declared.entry.Entry.{Entry}
 use Rattle.lio_outside.specs.Call.{outside}
 use Rattle.lio_front.specs.Sorted.{bytes_of_words}
-use Rattle.lio_host_main.specs.Answers.{Call}
-use Rattle.lio_host_main.proofs.Says.{says-at_last}
+use Rattle.lio_host_main.specs.Answers.{Call, Says}
+use Rattle.lio_host_main.proofs.Says.{completes_verdict, follows_verdict, later, says-later}
 use Rattle.lio_host.proofs.respond.Goals as goal
 
 pub returns : goal.returns
@@ -14,8 +14,17 @@ returns g c =
       before = outside g.S.Store.holds g.S.Store.faults g.W.Say.said g.W.Say.faults c.args.store.now c.args.say.now;
       after = outside g.S.Store.holds g.S.Store.faults g.W.Say.said g.W.Say.faults c.host_main-status.new.store c.host_main-status.new.say;
       journal = journal;
-    } in record {
+    } in
+    let status = c.host_main-status.result.status in
+    let whole : Call = later call (g.S.Store.holds c.report.new.store) in
+    let says : Says whole status = says-later call status (g.S.Store.holds c.report.new.store) c.report.ensures.files c.host_main-status.ensures.says in
+    record {
       journal = journal;
-      says = says-at_last call c.host_main-status.result.status (g.S.Store.holds c.report.new.store) (g.S.Store.faults c.report.new.store) c.report.ensures.files c.host_main-status.ensures.count c.report.ensures.count c.host_main-status.ensures.says;
+      faults = call.after.faults;
+      says = says;
+      follows = follows_verdict whole status whole.before.told refl says;
+      completes = completes_verdict whole status whole.before.told refl says;
+      bad_words = c.host_main-status.ensures.bad_words;
+      no_fewer = c.report.ensures.count;
       exit_is = c.exit_code-exit.ensures;
     }

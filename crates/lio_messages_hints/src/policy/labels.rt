@@ -15,7 +15,6 @@ fn names_of(alloc: Global, draft: &Draft) -> Result<Names, NoMemory> {
     let mut names = Names::new(alloc)?;
     for name in draft.principals.as_slice() {
         if let Err(NameFault::NoMemory) = names.add(alloc, name.bytes()) {
-            drop(names);
             return Err(NoMemory);
         }
     }
@@ -89,15 +88,13 @@ fn task_labels(alloc: Global, names: &Names, task: &TaskDraft) -> Found {
 /// What is wrong with the labels of an entry.
 pub(crate) fn labels_mistake(alloc: Global, draft: &Draft, entry: u32) -> Found {
     let names = names_of(alloc, draft)?;
-    let found = match entry_of(draft, entry) {
+    match entry_of(draft, entry) {
         Entry::Document | Entry::Principal(_, _) => Ok(None),
         Entry::Channel(_, file) | Entry::Input(_, file) => {
             label_at(alloc, &names, "\"label\"", &file.label)
         }
         Entry::Task(_, task) => task_labels(alloc, &names, task),
-    };
-    drop(names);
-    found
+    }
 }
 
 /// What is wrong with a task whose label doesn't flow to its clearance.

@@ -40,9 +40,7 @@ fn rule_mistake(alloc: Global, script: &[u8], words: &[Word<'_>], number: u32, r
         6 => named_twice(alloc, words),
         _ => {
             let hint = hint_at(alloc, script, number, rule)?;
-            let mistake = hinted(alloc, script, words, &hint);
-            drop(hint);
-            mistake
+            hinted(alloc, script, words, &hint)
         }
     }
 }

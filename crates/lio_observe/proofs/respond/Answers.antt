@@ -12,15 +12,15 @@ returns-clause-ends g c =
       before = outside g.S.Store.holds g.S.Store.faults g.W.Say.said g.W.Say.faults c.args.store.now c.args.say.now;
       after = outside g.S.Store.holds g.S.Store.faults g.W.Say.said g.W.Say.faults c.observe_main-status.new.store c.observe_main-status.new.say;
     } in
-    let told = g.S.Store.holds c.report.new.store in
-    let faults = g.S.Store.faults c.report.new.store in
     let status = c.observe_main-status.result in
-    let whole : Call = later call told faults in
-    let says : Says whole status = says-later call status told faults c.observe_main-status.ensures.count c.report.ensures.count c.observe_main-status.ensures.says in
+    let whole : Call = later call (g.S.Store.holds c.report.new.store) in
+    let says : Says whole status = says-later call status (g.S.Store.holds c.report.new.store) c.report.ensures.files c.observe_main-status.ensures.says in
     record {
+      faults = call.after.faults;
       says = says;
       follows = follows_verdict whole status whole.before.told refl says;
       completes = completes_verdict whole status whole.before.told refl says;
       bad_words = bad_words whole status says;
+      no_fewer = c.report.ensures.count;
       exit_is = c.exit_code-exit.ensures;
     }

@@ -1,7 +1,6 @@
-use Rattle.std.proofs.Common.{◌≡◌, ◌∙◌, ap, refl, sym, subst, Some, inl}
+use Rattle.std.proofs.Common.{◌∙◌, ap, refl, sym, Some, inl}
 use Rattle.lio_calculus.specs.Run.{Ran}
 use Rattle.lio_rounds.specs.Runs.{ran_of}
-use Rattle.lio_front.specs.Command.{Rounds}
 use Rattle.lio_front.specs.Sorted.{bytes_of_words, named}
 use Rattle.lio_host_main.specs.Order.{Order, order_of}
 use Rattle.lio_outside.specs.Call.{Outside, outside}
@@ -35,7 +34,7 @@ returns-in-Ok-finished-clause-says g c =
     says-done call order ran.last
     (runs-order call order ran _ c.in-Some.ensures.command c.in-Ok.ensures.command c.in-Ok.ensures.ok (run-of order.job ran c.in-Ok-run_seen.ensures.job c.in-Ok-run_seen.ensures.rounds)
     (ran-as before.told order ran c.in-Ok.ensures.ok rounds c.in-Ok-run_seen.ensures.rounds) c.journal_fits.ensures)
-    (finishes-from order ran before after (g.S.Store.holds c.prepare_order.new.store) (g.S.Store.faults c.prepare_order.new.store) Done c.in-Ok.ensures.files c.in-Ok.ensures.count c.in-Ok-finished.ensures.count c.in-Ok-finished.ensures.ok)
+    (finishes-from order ran before after (g.S.Store.holds c.prepare_order.new.store) (g.S.Store.faults c.prepare_order.new.store) Done c.in-Ok.ensures.files c.in-Ok.ensures.count c.in-Ok-finished.ensures.ok)
 
 pub returns-in-Err-finished-clause-says : goal.returns-in-Err-finished-clause-says
 returns-in-Err-finished-clause-says g c =
@@ -51,7 +50,7 @@ returns-in-Err-finished-clause-says g c =
     (runs-order call order ran _ c.in-Some.ensures.command c.in-Ok.ensures.command c.in-Ok.ensures.ok (run-of order.job ran c.in-Ok-run_seen.ensures.job c.in-Ok-run_seen.ensures.rounds)
     (ran-as before.told order ran c.in-Ok.ensures.ok rounds c.in-Ok-run_seen.ensures.rounds) c.journal_fits.ensures)
     c.unfinished.ensures.journal
-    (finishes-from order ran before after (g.S.Store.holds c.prepare_order.new.store) (g.S.Store.faults c.prepare_order.new.store) status c.in-Ok.ensures.files c.in-Ok.ensures.count c.in-Err-finished.ensures.count c.in-Err-finished.ensures.err))
+    (finishes-from order ran before after (g.S.Store.holds c.prepare_order.new.store) (g.S.Store.faults c.prepare_order.new.store) status c.in-Ok.ensures.files c.in-Ok.ensures.count c.in-Err-finished.ensures.err))
 
 pub returns-in-Err-clause-says : goal.returns-in-Err-clause-says
 returns-in-Err-clause-says g c =

@@ -1,4 +1,4 @@
-use Rattle.std.proofs.Common.{◌≡◌, ◌∙◌, ap, List}
+use Rattle.std.proofs.Common.{◌≡◌, ◌∙◌, ap}
 use Rattle.std.specs.Option.{option_map}
 use Rattle.lio_labels.specs.declared.label.Label.{Label}
 use Rattle.lio_events.specs.Views.{view}

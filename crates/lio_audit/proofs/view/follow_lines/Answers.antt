@@ -35,8 +35,8 @@ loop-at-preserved c =
 
 pub returns-then-is_complete-clause-ok : goal.returns-then-is_complete-clause-ok
 returns-then-is_complete-clause-ok c =
-    seen-whole c.args.names.now c.args.observer.now (low_of c.args.low.now).configuration c.args.bytes.now (low_of c.loop-at.low) c.loop-at.at c.loop-at.lines c.requires.seen c.loop-at.invariant (omega (arith, c.loop-at-test.false)) c.requires.few
-    (c.is_complete.ensures.yes c.if-is_complete.true)
+    seen-whole c.args.names.now c.args.observer.now (low_of c.args.low.now).configuration c.args.bytes.now (low_of c.loop-at.low) c.loop-at.at c.loop-at.lines c.len.ensures.names c.requires.seen c.loop-at.invariant
+    (omega (arith, c.loop-at-test.false)) c.requires.few (c.is_complete.ensures.yes c.if-is_complete.true)
 
 pub returns-else-is_complete-clause-err : goal.returns-else-is_complete-clause-err
 returns-else-is_complete-clause-err c =

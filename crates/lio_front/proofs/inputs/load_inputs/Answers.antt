@@ -27,7 +27,7 @@ returns-in_err-bytes-clause-err g c =
     subst (λ (t : Option FileMap). Says t (asked (Missing input.file) input.file c.args.policy.now.longest) middle ended fault) c.loop-input.invariant.files
     (subst (λ (q : Policy). Says (g.S.Store.holds c.loop-input.store) (asked (Missing input.file) input.file q.longest) middle ended fault) c.policy.view_is
     (subst (λ (name : List ℕ). Says (g.S.Store.holds c.loop-input.store) (asked (Missing name) name c.policy.inside.longest) middle ended fault) c.bytes.ensures c.in_err-bytes.ensures.err)) in
-    rw (p.1, p.2) (says-input told c.args.policy.now.longest inputs i input c.loop-input.texts (g.S.Store.faults c.args.store.now) middle ended fault below at c.loop-input.invariant.each c.loop-input.invariant.count c.in_err-bytes.ensures.count says)
+    rw (p.1, p.2) (says-input told c.args.policy.now.longest inputs i input c.loop-input.texts (g.S.Store.faults c.args.store.now) middle ended fault below at c.loop-input.invariant.each c.loop-input.invariant.count says)
 
 pub loop-input-preserved : goal.loop-input-preserved
 loop-input-preserved g c =

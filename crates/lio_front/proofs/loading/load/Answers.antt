@@ -17,5 +17,5 @@ pub returns-in-Err-clause-err : goal.returns-in-Err-clause-err
 returns-in-Err-clause-err g c =
     let label : Option (List ℕ) = option_map (λ text. text.now) c.args.label in
     refuse-under (g.S.Store.holds c.args.store.now) c.args.policy.now c.args.script.now label c.in_ok-policy.policy (g.S.Store.faults c.args.store.now) (g.S.Store.faults c.load_policy.new.store) (g.S.Store.faults c.load_under.new.store) c.in-Err.fault
-    c.in_ok-policy.ensures.count c.in-Err.ensures.count c.in_ok-policy.ensures.ok
+    c.in_ok-policy.ensures.count c.in_ok-policy.ensures.ok
     (subst (λ (told : Option FileMap). Says told (steps_under c.in_ok-policy.policy c.args.script.now label) (g.S.Store.faults c.load_policy.new.store) (g.S.Store.faults c.load_under.new.store) c.in-Err.fault) c.in_ok-policy.ensures.files c.in-Err.ensures.err)

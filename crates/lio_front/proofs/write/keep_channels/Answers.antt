@@ -21,7 +21,7 @@ returns-in_err-keep_channel-clause-err g c =
     let at : channel ≡ get_or channels i channel = subst (λ (xs : List FileEntry). channel ≡ get_or xs i channel) items_are c.channel-item.is in
     rw (p.1, p.2) (out-says (g.S.Store.holds c.args.store.now) (g.S.Store.holds c.loop-number.store) (g.S.Store.holds c.keep_channel.new.store) c.args.journal.now channels i channel
     (g.S.Store.faults c.args.store.now) (g.S.Store.faults c.loop-number.store) (g.S.Store.faults c.keep_channel.new.store) c.in_err-keep_channel.field-0.0 below at c.loop-number.invariant.files
-    c.loop-number.invariant.count c.in_err-keep_channel.ensures.count c.in_err-keep_channel.ensures.err)
+    c.loop-number.invariant.count c.in_err-keep_channel.ensures.err)
 
 pub loop-number-preserved : goal.loop-number-preserved
 loop-number-preserved g c =

@@ -19,7 +19,7 @@ returns-in_err-keep_journal-clause-err g c =
     let says : OutSays (g.S.Store.holds c.keep_channels.new.store) (g.S.Store.holds c.keep_journal.new.store) history middle after fault =
     subst (λ (q : Policy). OutSays (g.S.Store.holds c.keep_channels.new.store) (g.S.Store.holds c.keep_journal.new.store) (journal_output q.names true c.args.journal.now (option_map (λ name. name.now) c.args.history)) middle after fault) c.policy.view_is c.in_err-keep_journal.ensures.err in
     rw (p.1, p.2) (out-history (g.S.Store.holds c.args.store.now) (g.S.Store.holds c.keep_channels.new.store) (g.S.Store.holds c.keep_journal.new.store) channels history view (g.S.Store.faults c.args.store.now) middle after fault
-    c.in_ok-keep_channels.ensures.count c.in_err-keep_journal.ensures.count c.in_ok-keep_channels.ensures.ok says)
+    c.in_ok-keep_channels.ensures.count c.in_ok-keep_channels.ensures.ok says)
 
 pub returns-clause-ok : goal.returns-clause-ok
 returns-clause-ok g c =
@@ -54,4 +54,4 @@ returns-clause-err g c =
     let says : IfErr c.keep_journal-2.result (OutSays second now view two after) =
     subst (λ (q : Policy). IfErr c.keep_journal-2.result (OutSays second now (journal_output q.names false c.args.seen.now (option_map (λ name. name.now) c.args.view)) two after)) c.policy.view_is c.keep_journal-2.ensures.err in
     if_err c.keep_journal-2.result (OutSays second now view two after) _
-    (λ fault. out-view told first second now channels history view before one two after fault c.in_ok-keep_channels.ensures.count c.in_ok-keep_journal.ensures.count c.keep_journal-2.ensures.count c.in_ok-keep_channels.ensures.ok kept_history) says
+    (λ fault. out-view told first second now channels history view before one two after fault c.in_ok-keep_channels.ensures.count c.in_ok-keep_journal.ensures.count c.in_ok-keep_channels.ensures.ok kept_history) says

@@ -3,6 +3,7 @@ use Rattle.std.specs.Option.{option_map}
 use Rattle.std.proofs.lemmas.Result.{err_from_is_err_and}
 use Rattle.lio_events.specs.Printable.{IsPrintable}
 use Rattle.lio_policy.specs.Policy.{PolicyParts}
+use Rattle.lio_outside.specs.Call.{Outside, outside}
 use Rattle.lio_outside.specs.Outputs.{kept}
 use Rattle.lio_outside.specs.Said.{SaidPartly, said_with}
 use Rattle.lio_rounds.specs.Runs.{ran_of}
@@ -31,7 +32,9 @@ returns-in_err-say-clause-err g c =
     written-is order ran.entries c.policy-policy.result.now file c.args.seen.now c.policy-policy.ensures.policy c.view_of-file.ensures c.requires.seen in
     let text : c.as_slice.result.now ≡ summary_of order ran =
     summary-is order ran c.policy-policy.result.now c.in_ok-text.text.items c.as_slice.result.now c.policy-policy.ensures.policy (c.in_ok-text.ensures c.args.order.now.job.script) c.as_slice.ensures.value in
-    rw (p.1, p.2) (finishes-unsaid order ran _ _ c.in_err-say.field-0.0 (c.in_ok-write_out.ensures.ok ∙ ap (kept told) same)
+    let before : Outside = outside g.S.Store.holds g.S.Store.faults g.W.Say.said g.W.Say.faults c.args.store.now c.args.say.now in
+    let after : Outside = outside g.S.Store.holds g.S.Store.faults g.W.Say.said g.W.Say.faults c.write_out.new.store c.say.new.self in
+    rw (p.1, p.2) (finishes-unsaid order ran before after c.in_err-say.field-0.0 (c.in_ok-write_out.ensures.ok ∙ ap (kept told) same)
     (λ is. subst (λ (bytes : List ℕ). SaidPartly (g.W.Say.said c.args.say.now) (g.W.Say.said c.say.new.self) bytes) text (c.in_err-say.ensures.failed_partly (ap Err is)))
     (λ is. c.in_err-say.ensures.failed_counted (ap Err is))
     (λ is. c.in_err-say.ensures.no_memory (ap Err is)))

@@ -22,7 +22,7 @@ returns-in-Ok-finished-clause-says g c =
     let ran : Ran = ran_of c.in-Ok.order.job.script c.in-Ok-run_order.ran in
     says-done call order ran.last
     (runs-order call order ran _ c.in-Some.ensures.command c.in-Ok.ensures.command c.in-Ok.ensures.ok c.in-Ok-run_order.ensures.run c.in-Ok-run_order.ensures.ran_as c.journal_fits.ensures)
-    (finishes-from order ran before after (g.S.Store.holds c.prepare_order.new.store) (g.S.Store.faults c.prepare_order.new.store) Done c.in-Ok.ensures.files c.in-Ok.ensures.count c.in-Ok-finished.ensures.count c.in-Ok-finished.ensures.ok)
+    (finishes-from order ran before after (g.S.Store.holds c.prepare_order.new.store) (g.S.Store.faults c.prepare_order.new.store) Done c.in-Ok.ensures.files c.in-Ok.ensures.count c.in-Ok-finished.ensures.ok)
 
 pub returns-in-Err-finished-clause-says : goal.returns-in-Err-finished-clause-says
 returns-in-Err-finished-clause-says g c =
@@ -35,7 +35,7 @@ returns-in-Err-finished-clause-says g c =
     says-same call status c.unfinished.result.status c.unfinished.ensures.status
     (says-unfinished call order ran status
     (runs-order call order ran _ c.in-Some.ensures.command c.in-Ok.ensures.command c.in-Ok.ensures.ok c.in-Ok-run_order.ensures.run c.in-Ok-run_order.ensures.ran_as c.journal_fits.ensures) c.unfinished.ensures.journal
-    (finishes-from order ran before after (g.S.Store.holds c.prepare_order.new.store) (g.S.Store.faults c.prepare_order.new.store) status c.in-Ok.ensures.files c.in-Ok.ensures.count c.in-Err-finished.ensures.count c.in-Err-finished.ensures.err))
+    (finishes-from order ran before after (g.S.Store.holds c.prepare_order.new.store) (g.S.Store.faults c.prepare_order.new.store) status c.in-Ok.ensures.files c.in-Ok.ensures.count c.in-Err-finished.ensures.err))
 
 pub returns-in-Err-clause-says : goal.returns-in-Err-clause-says
 returns-in-Err-clause-says g c =
@@ -60,3 +60,23 @@ returns-in-Err-run_order-clause-says g c =
     (says-stopped call (named c.in-Some.command) order c.in-Err-run_order.status c.in-Some.ensures.command
     (record { command = c.in-Some.ensures.command ∙ ap Some (sym c.in-Ok.ensures.command); given = c.in-Ok.ensures.ok })
     (record { files = c.in-Ok.ensures.files; said = refl; journal = c.stopped.ensures.journal }) c.in-Err-run_order.ensures.err)
+
+pub returns-in-Ok-finished-clause-job : goal.returns-in-Ok-finished-clause-job
+returns-in-Ok-finished-clause-job g c = record {
+  order = order_of c.in-Ok.order;
+  verdict = record { command = c.in-Some.ensures.command ∙ ap Some (sym c.in-Ok.ensures.command); given = c.in-Ok.ensures.ok };
+  job_is = refl;
+}
+
+pub returns-in-Err-finished-clause-job : goal.returns-in-Err-finished-clause-job
+returns-in-Err-finished-clause-job g c = rw c.unfinished.ensures.job tt
+
+pub returns-in-Err-clause-job : goal.returns-in-Err-clause-job
+returns-in-Err-clause-job g c = rw c.refused-in-Err.ensures.job tt
+
+pub returns-in-Err-run_order-clause-job : goal.returns-in-Err-run_order-clause-job
+returns-in-Err-run_order-clause-job g c = rw c.stopped.ensures.job (record {
+  order = order_of c.in-Ok.order;
+  verdict = record { command = c.in-Some.ensures.command ∙ ap Some (sym c.in-Ok.ensures.command); given = c.in-Ok.ensures.ok };
+  job_is = refl;
+})

@@ -21,7 +21,7 @@ returns-in_err-front-clause-err g c =
     let fault = c.in_err-front.field-0.0 in
     let says : Says told (loading c.args.policy.now c.args.script.now (label_text (named c.args.command))) before after fault =
     subst (λ (label : Option (List ℕ)). Says told (loading c.args.policy.now c.args.script.now label) before after fault) c.label_of.ensures c.in_err-front.ensures.err in
-    rw (p.1, p.2) (refuse-load told c.args.policy.now c.args.script.now (named c.args.command) before after fault c.in_err-front.ensures.count says)
+    rw (p.1, p.2) (refuse-load told c.args.policy.now c.args.script.now (named c.args.command) before after fault says)
 
 pub of-requires-clause-fits : goal.of-requires-clause-fits
 of-requires-clause-fits g c = c.in_ok-front.ensures.fits
@@ -54,4 +54,4 @@ returns-in-Err-clause-err g c =
     subst (λ (label : Option (List ℕ)). Give told (loading c.args.policy.now c.args.script.now label) (Ok front)) c.label_of.ensures c.in_ok-front.ensures.ok in
     let refused : Refuse (cause_of c.in-Err.status) told (taking (named c.args.command) front.policy) middle after c.in-Err.status =
     subst (λ (t : Option FileMap). Refuse (cause_of c.in-Err.status) t (taking (named c.args.command) front.policy) middle after c.in-Err.status) c.in_ok-front.ensures.files c.in-Err.ensures.err in
-    refuse-inputs told c.args.policy.now c.args.script.now (named c.args.command) front before middle after c.in-Err.status c.in_ok-front.ensures.count c.in-Err.ensures.count loaded refused
+    refuse-inputs told c.args.policy.now c.args.script.now (named c.args.command) front before middle after c.in-Err.status c.in_ok-front.ensures.count loaded refused

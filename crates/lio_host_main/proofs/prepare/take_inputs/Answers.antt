@@ -19,5 +19,5 @@ returns-clause-err g c =
     ap (λ (names : List (List ℕ)). clash c.args.policy.now names (names_read (named c.args.command))) (sym c.in_ok-added.ensures) ∙ ap (clash c.args.policy.now c.in_ok-added.added) (sym c.in_ok-read.ensures)
     ∙ sym c.in_ok-name.ensures ∙ no-name c.in_ok-name.field-0 c.in_default.not-Some in
     IfErr-weaker c.load_inputs.result _ _
-    (λ status says. refuse-input (g.S.Store.holds c.args.store.now) (named c.args.command) c.args.policy.now (g.S.Store.faults c.args.store.now) (g.S.Store.faults c.load_inputs.new.store) status none c.load_inputs.ensures.count says)
+    (λ status says. refuse-input (g.S.Store.holds c.args.store.now) (named c.args.command) c.args.policy.now (g.S.Store.faults c.args.store.now) (g.S.Store.faults c.load_inputs.new.store) status none says)
     c.load_inputs.ensures.err

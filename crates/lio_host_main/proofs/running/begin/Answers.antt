@@ -2,7 +2,6 @@ use Rattle.std.proofs.Common.{sym, subst}
 use Rattle.std.proofs.lemmas.Result.{IfOk-weaker}
 use Rattle.lio_calculus.specs.Step.{Configuration}
 use Rattle.lio_calculus_runs.specs.Configuration.{NamesOnly}
-use Rattle.lio_task.specs.Configuration.{configuration_of}
 use Rattle.lio_start.specs.Job.{first_of}
 use Rattle.lio_start.proofs.NameLemmas.{start_names_only}
 use Rattle.lio_host_main.proofs.running.begin.Goals as goal

@@ -18,7 +18,7 @@ no-label (Some l) never = absurd (never l refl)
 pub returns-in_err-policy-clause-err : goal.returns-in_err-policy-clause-err
 returns-in_err-policy-clause-err g c =
     let p = err_from_is_err_and c.from_residual.result c.from_residual.ensures.1 in
-    rw (p.1, p.2) (refuse-front (g.S.Store.holds c.args.store.now) (named c.args.command) (g.S.Store.faults c.args.store.now) (g.S.Store.faults c.load.new.store) c.in_err-policy.field-0.0 c.in_err-policy.ensures.count c.in_err-policy.ensures.err)
+    rw (p.1, p.2) (refuse-front (g.S.Store.holds c.args.store.now) (named c.args.command) (g.S.Store.faults c.args.store.now) (g.S.Store.faults c.load.new.store) c.in_err-policy.field-0.0 c.in_err-policy.ensures.err)
 
 pub returns-in_default-clause-err : goal.returns-in_default-clause-err
 returns-in_default-clause-err g c =
@@ -45,4 +45,4 @@ returns-in-Err-clause-err g c =
     let after = g.S.Store.faults c.load_held.new.store in
     let says : Says told (holding c.in-Some.observer read.policy command.view) middle after c.in-Err.fault =
     subst (λ (t : Option FileMap). Says t (holding c.in-Some.observer read.policy command.view) middle after c.in-Err.fault) c.in_ok-policy.ensures.files c.in-Err.ensures.err in
-    refuse-held told command read c.in-Some.observer before middle after c.in-Err.fault c.in_ok-policy.ensures.count c.in-Err.ensures.count c.in_ok-policy.ensures.ok c.in-Some.is says
+    refuse-held told command read c.in-Some.observer before middle after c.in-Err.fault c.in_ok-policy.ensures.count c.in_ok-policy.ensures.ok c.in-Some.is says

@@ -13,7 +13,7 @@ pub returns-in_err-texts-clause-err : goal.returns-in_err-texts-clause-err
 returns-in_err-texts-clause-err g c =
     let p = err_from_is_err_and c.from_residual.result c.from_residual.ensures.1 in
     rw (p.1, p.2) (refuse-texts (g.S.Store.holds c.args.store.now) c.args.observer.now c.args.policy.now c.args.view.now (g.S.Store.faults c.args.store.now) (g.S.Store.faults c.load_texts.new.store) c.in_err-texts.field-0.0
-    c.in_err-texts.ensures.count c.in_err-texts.ensures.err)
+    c.in_err-texts.ensures.err)
 
 pub returns-in-Ok-clause-ok : goal.returns-in-Ok-clause-ok
 returns-in-Ok-clause-ok g c =
@@ -28,5 +28,5 @@ returns-in-Err-clause-err g c =
     let view : List ℕ = c.args.view.now in
     let middle = g.S.Store.faults c.load_texts.new.store in
     let after = g.S.Store.faults c.fetch.new.store in
-    refuse-view told c.args.observer.now c.args.policy.now view c.in_ok-texts.texts (g.S.Store.faults c.args.store.now) middle after c.in-Err.fault c.in_ok-texts.ensures.count c.in-Err.ensures.count c.in_ok-texts.ensures.ok
+    refuse-view told c.args.observer.now c.args.policy.now view c.in_ok-texts.texts (g.S.Store.faults c.args.store.now) middle after c.in-Err.fault c.in_ok-texts.ensures.count c.in_ok-texts.ensures.ok
     (subst (λ (t : Option FileMap). Says t (asked (Missing view) view most_history_bytes) middle after c.in-Err.fault) c.in_ok-texts.ensures.files c.in-Err.ensures.err)

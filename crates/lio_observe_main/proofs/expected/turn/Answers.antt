@@ -7,6 +7,6 @@ turn-requires c = λ place d within. (c.requires.contents place d within).1
 
 pub returns : goal.returns
 returns c =
-    let taken : IsTakenNamed c.args.names.now (low_of c.turn.new.self) c.turn.result =
+    let taken : IsTakenNamed c.args.names.now (low_of c.args.low.now) (low_of c.turn.new.self) c.turn.result =
     taken-is_named c.args.names.now c.args.k (low_of c.args.low.now) (low_of c.turn.new.self) c.args.released.now c.turn.new.releases c.turn.result c.requires.named c.requires.contents c.turn.ensures.ok c.turn.ensures.err in
-    record { entry = taken.entry; named = taken.named }
+    record { entry = taken.entry; named = taken.named; takes = taken.takes; observer = taken.observer }

@@ -26,7 +26,7 @@ returns-in_err-load_text-clause-err g c =
     let says : Says told (text_seen observer c.args.policy.now.longest input) middle ended fault =
     subst (λ (t : Option FileMap). Says t (text_seen observer c.args.policy.now.longest input) middle ended fault) c.loop-input.invariant.files
     (subst (λ (q : Policy). Says (g.S.Store.holds c.loop-input.store) (text_seen observer q.longest input) middle ended fault) c.policy.view_is c.in_err-load_text.ensures.err) in
-    rw (p.1, p.2) (says-input told observer c.args.policy.now.longest inputs i input c.loop-input.texts (g.S.Store.faults c.args.store.now) middle ended fault below at c.loop-input.invariant.each c.loop-input.invariant.count c.in_err-load_text.ensures.count says)
+    rw (p.1, p.2) (says-input told observer c.args.policy.now.longest inputs i input c.loop-input.texts (g.S.Store.faults c.args.store.now) middle ended fault below at c.loop-input.invariant.each c.loop-input.invariant.count says)
 
 pub loop-input-preserved : goal.loop-input-preserved
 loop-input-preserved g c =

@@ -6,6 +6,6 @@ use Rattle.lio_observe_main.proofs.inputs.load_texts.Given as goal
 abbrev pub invariant-loop-input : goal.invariant-loop-input
 invariant-loop-input g l = record {
   files : g.S.Store.holds l.store ≡ g.S.Store.holds l.initial.store;
-  count : g.S.Store.faults l.initial.store ≤ g.S.Store.faults l.store;
+  count : (g.S.Store.faults l.initial.store).count ≤ (g.S.Store.faults l.store).count;
   each : EachGave (g.S.Store.holds l.initial.store) l.observer l.policy.longest (take l.input-index l.policy.inputs) l.texts;
 }

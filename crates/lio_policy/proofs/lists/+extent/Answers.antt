@@ -1,5 +1,4 @@
 use Rattle.lio_policy.specs.Lists as spec
-use Rattle.lio_policy.specs.Lists.{IsExtent, in_all}
 use Rattle.lio_policy.proofs.NestedLemmas.{extent_more}
 use Rattle.lio_policy.proofs.lists.+extent.Goals as goal
 

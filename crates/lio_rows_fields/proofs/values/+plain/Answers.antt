@@ -1,4 +1,4 @@
-use Rattle.std.proofs.Common.{◌≡◌, ◌∙◌, ap, sym, subst, All, List, [], ◌∷◌, ◌++◌, ◌-◌, arith}
+use Rattle.std.proofs.Common.{◌≡◌, ◌∙◌, ap, List, [], ◌∷◌, ◌++◌, ◌-◌}
 use Rattle.lio_values.specs.declared.value.Value.{Value}
 use Rattle.lio_values.specs.declared.value.Value.TheVariants.{Bare}
 use Rattle.lio_values.specs.Views.{values_of, values_of-forest_of}

@@ -16,14 +16,14 @@ resumed-requires-clause-run c =
       first = configuration_from first;
       well_formed = c.requires.well_formed;
       tasks = actors entries;
-      is_run = closed-run first (view_of c.args.seat) c.in-Ok.config c.in-Ok.ensures.ok entries (closed-journal (first_of c.args.table) (view_of c.args.seat) c.in-Ok.config c.in-Ok.ensures.ok c.args.entries.items c.put_in_order.new.entries.items c.requires.entries c.in_ok-put_in_order.ensures) c.args.script c.requires.script;
+      is_run = closed-run first (view_of c.args.seat) c.in-Ok.config c.in-Ok.ensures.ok entries (closed-journal (first_of c.args.table) (view_of c.args.seat) c.in-Ok.config c.in-Ok.ensures.ok c.args.entries.items c.put_in_order.new.entries.items c.requires.entries c.in_ok-put_in_order.ensures.journal) c.args.script c.requires.script;
     }
 
 pub resumed-requires-clause-numbered : goal.resumed-requires-clause-numbered
-resumed-requires-clause-numbered c = closed-numbered (first_of c.args.table) (view_of c.args.seat) c.in-Ok.config c.in-Ok.ensures.ok c.put_in_order.new.entries.items (closed-journal (first_of c.args.table) (view_of c.args.seat) c.in-Ok.config c.in-Ok.ensures.ok c.args.entries.items c.put_in_order.new.entries.items c.requires.entries c.in_ok-put_in_order.ensures)
+resumed-requires-clause-numbered c = closed-numbered (first_of c.args.table) (view_of c.args.seat) c.in-Ok.config c.in-Ok.ensures.ok c.put_in_order.new.entries.items (closed-journal (first_of c.args.table) (view_of c.args.seat) c.in-Ok.config c.in-Ok.ensures.ok c.args.entries.items c.put_in_order.new.entries.items c.requires.entries c.in_ok-put_in_order.ensures.journal)
 
 pub resumed-requires-clause-logs : goal.resumed-requires-clause-logs
-resumed-requires-clause-logs c = closed-parts (first_of c.args.table) (view_of c.args.seat) c.in-Ok.config c.in-Ok.ensures.ok c.put_in_order.new.entries.items (closed-journal (first_of c.args.table) (view_of c.args.seat) c.in-Ok.config c.in-Ok.ensures.ok c.args.entries.items c.put_in_order.new.entries.items c.requires.entries c.in_ok-put_in_order.ensures)
+resumed-requires-clause-logs c = closed-parts (first_of c.args.table) (view_of c.args.seat) c.in-Ok.config c.in-Ok.ensures.ok c.put_in_order.new.entries.items (closed-journal (first_of c.args.table) (view_of c.args.seat) c.in-Ok.config c.in-Ok.ensures.ok c.args.entries.items c.put_in_order.new.entries.items c.requires.entries c.in_ok-put_in_order.ensures.journal)
 
 pub returns-in-Ok-run-clause-run : goal.returns-in-Ok-run-clause-run
 returns-in-Ok-run-clause-run c =
@@ -33,7 +33,7 @@ returns-in-Ok-run-clause-run c =
     let new : MachineState = machine_of c.run.new.self in
     let so_far : run 0 start (actors old.entries) ≡ Some (record { entries = old.entries; last = old.configuration }) =
     subst (λ (m : MachineState). run 0 start (actors m.entries) ≡ Some (record { entries = m.entries; last = m.configuration })) (sym c.in_ok-machine.ensures)
-    (closed-run first (view_of c.args.seat) c.in-Ok.config c.in-Ok.ensures.ok c.put_in_order.new.entries.items (closed-journal (first_of c.args.table) (view_of c.args.seat) c.in-Ok.config c.in-Ok.ensures.ok c.args.entries.items c.put_in_order.new.entries.items c.requires.entries c.in_ok-put_in_order.ensures) c.args.script c.requires.script) in
+    (closed-run first (view_of c.args.seat) c.in-Ok.config c.in-Ok.ensures.ok c.put_in_order.new.entries.items (closed-journal (first_of c.args.table) (view_of c.args.seat) c.in-Ok.config c.in-Ok.ensures.ok c.args.entries.items c.put_in_order.new.entries.items c.requires.entries c.in_ok-put_in_order.ensures.journal) c.args.script c.requires.script) in
     run-ends start c.args.script new (record { journal = c.finish-journal.result.0; config = c.finish-journal.result.1 }) c.requires.well_formed
     (run-goes_on start old new _ so_far c.in-Ok-run.ensures.ok) c.in-Ok-run.ensures.complete c.finish-journal.ensures.well_formed
     (sym (c.in-Ok-run.ensures.ok.script ∙ ap (λ (m : MachineState). m.script) c.in_ok-machine.ensures)) c.finish-journal.ensures.journal c.finish-journal.ensures.configuration

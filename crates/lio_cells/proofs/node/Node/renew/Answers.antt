@@ -1,4 +1,4 @@
-use Rattle.std.proofs.Common.{◌≡◌, ◌∙◌, ap}
+use Rattle.std.proofs.Common.{◌∙◌, ap}
 use Rattle.lio_cells.specs.Log.{LogState, first_of}
 use Rattle.lio_cells.specs.Node.{NodeState}
 use Rattle.lio_cells.specs.State.{state_after}

@@ -5,7 +5,7 @@ use Rattle.lio_calculus_runs.specs.Round.{born_in}
 use Rattle.lio_calculus.specs.Journals.{of_cell}
 use Rattle.lio_task.specs.Configuration.{configuration_of}
 use Rattle.lio_task.specs.Logs.{log_in}
-use Rattle.lio_rounds.specs.Births.{listed as listed_by}
+use Rattle.lio_task.specs.Outcome.{listed as listed_by}
 use Rattle.lio_rounds.specs.Invariant.{IsMachine}
 use Rattle.lio_rounds.specs.MachineParts.{MachineParts, machine_of}
 use Rattle.lio_rounds.specs.MachineState.{HasTaken, MachineState}
@@ -33,7 +33,7 @@ invariant_of-self-in-Ok c =
           let pushed : now ≡ c.try_reserve.new.self.items ++ entry ∷ [] = rw w.self-inside-is at c.push_reserved-in-Ok.ensures.items in
           let lists : listed ≡ order ++ born_in entry =
           w.push_reserved.ensures.items ∙ ap (λ (ks : List ℕ). ks ++ w.in-Some.child ∷ []) c.try_reserve-else-is_err.ensures.items
-          ∙ ap (λ (ks : List ℕ). order ++ ks) (ap listed_by (sym w.in-Some.is) ∙ c.born_in.ensures) in
+          ∙ ap (λ (ks : List ℕ). order ++ ks) (ap listed_by (sym w.in-Some.is) ∙ c.born_in.ensures.born) in
           let took : IsMachine next listed now =
           machine-took here next c.args.k entry order listed before now c.self.invariant.0 steps lists (pushed ∙ ap (λ (es : List Entry). es ++ entry ∷ []) c.try_reserve.ensures.items) in
           let woken : Wakes c.self.inside.awake c.wake_met.new.self entry = rw w.self-inside-is at c.wake_met.ensures.asleep in
@@ -49,7 +49,7 @@ invariant_of-self-in-Ok c =
           let listed : List ℕ = c.try_reserve-else-is_err.new.self.items in
           let pushed : now ≡ c.try_reserve.new.self.items ++ entry ∷ [] = rw w.self-inside-is at c.push_reserved-in-Ok.ensures.items in
           let lists : listed ≡ order ++ born_in entry =
-          c.try_reserve-else-is_err.ensures.items ∙ sym (append-nil order) ∙ ap (λ (ks : List ℕ). order ++ ks) (ap listed_by (sym w.in_default.is) ∙ c.born_in.ensures) in
+          c.try_reserve-else-is_err.ensures.items ∙ sym (append-nil order) ∙ ap (λ (ks : List ℕ). order ++ ks) (ap listed_by (sym w.in_default.is) ∙ c.born_in.ensures.born) in
           let took : IsMachine next listed now =
           machine-took here next c.args.k entry order listed before now c.self.invariant.0 steps lists (pushed ∙ ap (λ (es : List Entry). es ++ entry ∷ []) c.try_reserve.ensures.items) in
           let woken : Wakes c.self.inside.awake c.wake_met.new.self entry = rw w.self-inside-is at c.wake_met.ensures.asleep in
@@ -97,7 +97,7 @@ returns-after-born_in-clause-ok c =
           let pushed : now ≡ c.try_reserve.new.self.items ++ entry ∷ [] = rw w.self-inside-is at c.push_reserved-in-Ok.ensures.items in
           let lists : listed ≡ order ++ born_in entry =
           w.push_reserved.ensures.items ∙ ap (λ (ks : List ℕ). ks ++ w.in-Some.child ∷ []) c.try_reserve-else-is_err.ensures.items
-          ∙ ap (λ (ks : List ℕ). order ++ ks) (ap listed_by (sym w.in-Some.is) ∙ c.born_in.ensures) in
+          ∙ ap (λ (ks : List ℕ). order ++ ks) (ap listed_by (sym w.in-Some.is) ∙ c.born_in.ensures.born) in
           let is : MachineState = record { script = script; configuration = next; entries = now; order = listed } in
           let taken : HasTaken was is c.args.k entry = record {
             is_step = steps;
@@ -111,7 +111,7 @@ returns-after-born_in-clause-ok c =
           let listed : List ℕ = c.try_reserve-else-is_err.new.self.items in
           let pushed : now ≡ c.try_reserve.new.self.items ++ entry ∷ [] = rw w.self-inside-is at c.push_reserved-in-Ok.ensures.items in
           let lists : listed ≡ order ++ born_in entry =
-          c.try_reserve-else-is_err.ensures.items ∙ sym (append-nil order) ∙ ap (λ (ks : List ℕ). order ++ ks) (ap listed_by (sym w.in_default.is) ∙ c.born_in.ensures) in
+          c.try_reserve-else-is_err.ensures.items ∙ sym (append-nil order) ∙ ap (λ (ks : List ℕ). order ++ ks) (ap listed_by (sym w.in_default.is) ∙ c.born_in.ensures.born) in
           let is : MachineState = record { script = script; configuration = next; entries = now; order = listed } in
           let taken : HasTaken was is c.args.k entry = record {
             is_step = steps;

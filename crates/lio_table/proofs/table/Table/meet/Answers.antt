@@ -43,7 +43,7 @@ returns-in-Ok-moved-clause-ok c = λ before has.
     meet-moved before c.args.k c.args.n c.args.holder c.args.met c.args.seat.now.me has c.move_meeting-moved.new.seat.me c.in-Ok-moved.ticket c.args.act c.move_meeting-moved.new.entry c.in-Ok-moved.woken c.in-Ok-moved.met_woken c.born_in-born.result c.woken_of.result
     c.in-Ok-moved.ensures.ok
     (meets-both before c.args.k c.args.n c.args.holder c.args.met c.args.seat.now.me has c.args.self.now c.args.script.now c.args.act c.args.onward c.requires.turn.first c.requires.turn.script_is c.requires.plans)
-    (ap (λ (h : Holder). is_ready h.node.state c.args.act) (sym c.get.ensures) ∙ sym c.if-not-ready.ensures) c.born_in-born.ensures c.woken_of.ensures
+    (ap (λ (h : Holder). is_ready h.node.state c.args.act) (sym c.get.ensures) ∙ sym c.if-not-ready.ensures) c.born_in-born.ensures.child c.woken_of.ensures
 
 pub returns-in-Err-moved-clause-err : goal.returns-in-Err-moved-clause-err
 returns-in-Err-moved-clause-err c = λ before has. two-refused before c.args.k c.args.n c.args.holder c.args.met c.args.seat.now.me has c.move_meeting-moved.new.seat.me c.in-Err-moved.ensures.err

@@ -1,8 +1,8 @@
 //! What goes in comes out, once.
 ghost use Rattle.std.specs.Prelude.{◌≡◌};
 
-use crate::{Bound, RunQueue};
 use lio_clauses::NoMemory;
+use lio_runq::{Bound, RunQueue};
 use std::alloc::Global;
 use std::marker::Brand;
 use std::sync::Wait;

@@ -1,9 +1,9 @@
 //! Files under two names, and files that fail, over a disk that isn't there.
 
-use crate::disk_store::DiskStore;
+use crate::check::check_same;
 use crate::fake_disk::FakeDisk;
-use crate::tests::check_same;
 use lio_outside::{FetchFault, KeepFault};
+use lio_system::DiskStore;
 use std::alloc::{AllocError, Global};
 use std::process::Abort;
 
@@ -39,7 +39,8 @@ fn check_untouched(rt: &impl Abort, store: &mut DiskStore<FakeDisk>, alloc: Glob
     check_same(rt, &store.disk().touches(), &touches);
 }
 
-/// An input, a script with a second name, a link to each, a terminal, and neighbours that are there.
+/// An input, a script with a second name, a link to each, a terminal, and neighbours that are
+/// there.
 fn disk_with_names(alloc: Global) -> Result<FakeDisk, AllocError> {
     let mut disk = FakeDisk::new(alloc);
     for (path, number) in [

@@ -1,8 +1,9 @@
 //! Files of the system under two names, and what the system says of those that can't be written.
 
-use crate::RealStore;
-use crate::tests::{check_fetch, check_keep, check_same, new_folder};
+use crate::check::{check_fetch, check_keep, check_same};
+use crate::files::new_folder;
 use lio_outside::{FetchFault, KeepFault, Store, Trouble};
+use lio_system::RealStore;
 use std::alloc::{AllocError, Global};
 use std::fs::Files;
 use std::io::ErrorKind;
@@ -56,6 +57,7 @@ fn no_file_of_a_folder_is_written_under_two_names(rt: HostRuntime) -> io::Result
     let mut store = RealStore::new(rt.alloc(), &rt);
     check_two_names(&rt, rt.alloc(), &mut store, &paths);
     check_same(&rt, &store.fault_count(), &5);
+    check_same(&rt, &store.failed_name(), &Some(paths.input.as_bytes()));
     fs::remove_dir_all(&rt, folder.as_str())
 }
 

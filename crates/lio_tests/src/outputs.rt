@@ -1,20 +1,8 @@
 //! The outputs in memory on their happy paths.
 
-use crate::tests::check_same;
-use crate::{MemSay, Say, SayFault, SureSay};
-use std::alloc::{AllocError, Global};
-use std::process::Abort;
-
-/// Says to any output and compares the answer.
-fn check_say<S: Say>(
-    rt: &impl Abort,
-    output: &mut S,
-    alloc: Global,
-    bytes: &[u8],
-    want: Result<(), SayFault>,
-) {
-    check_same(rt, &output.say(alloc, bytes), &want);
-}
+use crate::check::{check_same, check_say};
+use lio_outside::{MemSay, SayFault, SureSay};
+use std::alloc::AllocError;
 
 #[test]
 fn mem_say_fails_by_list(rt: HostRuntime) -> Result<(), AllocError> {

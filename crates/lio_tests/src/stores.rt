@@ -1,12 +1,12 @@
 //! The stores in memory on their happy paths.
 ghost use Rattle.std.specs.Prelude.{◌≡◌, ◌≤◌, ℕ, List, Some, IfOk, IfSome, IsErrOf, OnOk};
 ghost use Rattle.lio_outside.specs.FileMap.{with_file};
-ghost use Rattle.lio_outside.specs.Count.{Rose};
+ghost use Rattle.lio_outside.specs.Count.{FailedAt};
 ghost use Rattle.lio_outside.specs.Fetch.{given};
 
-use crate::{FetchFault, KeepFault, MemStore, Store, SureStore};
+use crate::check::{check_fetch, check_keep, check_same};
+use lio_outside::{FetchFault, KeepFault, MemStore, Store, SureStore};
 use std::alloc::{AllocError, Global};
-use std::fmt::Debug;
 use std::process::Abort;
 
 /// Why a file was not copied.
@@ -28,44 +28,14 @@ fn copy_file<S: Store>(
         (bytes : List ℕ) × (given files from.now limit ≡ Some bytes)
         × (S.holds store.new ≡ Some (with_file files to.now bytes)))) }
     ensures read_fault { IsErrOf result (CopyFault.Fetch FetchFault.Failed)
-        → Rose (S.faults store.old) (S.faults store.new) }
+        → FailedAt from.now (S.faults store.old) (S.faults store.new) }
     ensures write_fault { IsErrOf result (CopyFault.Keep KeepFault.Failed)
-        → Rose (S.faults store.old) (S.faults store.new) }
+        → FailedAt to.now (S.faults store.old) (S.faults store.new) }
 {
     let bytes = store.fetch(alloc, from, limit).map_err(CopyFault::Fetch)?;
     store
         .keep(alloc, to, bytes.as_slice())
         .map_err(CopyFault::Keep)
-}
-
-/// Compares two values.
-pub(crate) fn check_same<T: PartialEq + Debug>(rt: &impl Abort, got: &T, want: &T) {
-    assert_eq!(rt; *got, *want);
-}
-
-/// Fetches from any store and compares the answer.
-fn check_fetch<S: Store>(
-    rt: &impl Abort,
-    store: &mut S,
-    alloc: Global,
-    (name, limit): (&[u8], u32),
-    want: Result<&[u8], FetchFault>,
-) {
-    match store.fetch(alloc, name, limit) {
-        Ok(bytes) => check_same(rt, &Ok(bytes.as_slice()), &want),
-        Err(fault) => check_same(rt, &Err(fault), &want),
-    }
-}
-
-/// Keeps in any store and compares the answer.
-fn check_keep<S: Store>(
-    rt: &impl Abort,
-    store: &mut S,
-    alloc: Global,
-    (name, bytes): (&[u8], &[u8]),
-    want: Result<(), KeepFault>,
-) {
-    check_same(rt, &store.keep(alloc, name, bytes), &want);
 }
 
 #[test]
@@ -97,6 +67,7 @@ fn check_calls_by_list<S: Store>(rt: &impl Abort, alloc: Global, store: &mut S) 
 fn check_end_by_list(rt: &impl Abort, store: &MemStore) {
     check_same(rt, &store.get(b"a"), &Some(b"hello".as_slice()));
     check_same(rt, &(store.call_count(), store.fault_count()), &(6, 2));
+    check_same(rt, &store.failed_name(), &Some(b"b".as_slice()));
 }
 
 #[test]

@@ -1,4 +1,4 @@
-use Rattle.lio_runq.proofs.tests.numbers_come_out_as_they_went_in.Given as goal
+use Rattle.lio_tests.proofs.queue.numbers_come_out_as_they_went_in.Given as goal
 
 -- the bound is the one that is given
 abbrev pub ghosts-push_and_pop : goal.ghosts-push_and_pop

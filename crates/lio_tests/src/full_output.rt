@@ -1,25 +1,12 @@
 //! Standard output over a runtime that prints by pieces and fails in mid-stream.
 
-use crate::RealSay;
-use crate::tests::check_same;
-use lio_outside::{Say, SayFault};
-use std::alloc::Global;
+use crate::check::{check_same, check_say};
+use lio_outside::SayFault;
+use lio_system::RealSay;
 use std::cell::Cell;
 use std::fmt::Display;
 use std::io;
 use std::io::ErrorKind;
-use std::process::Abort;
-
-/// Says to any output and compares the answer.
-fn check_say<S: Say>(
-    rt: &impl Abort,
-    output: &mut S,
-    alloc: Global,
-    bytes: &[u8],
-    want: Result<(), SayFault>,
-) {
-    check_same(rt, &output.say(alloc, bytes), &want);
-}
 
 /// A runtime that prints at most two bytes in a call, and fails once it has printed those that are
 /// left.

@@ -1,8 +1,14 @@
--- The children and the ends of turns, as the code sees them.
+-- What a turn came to, by its entry: the task that was born, the task that ended.
 use Rattle.std.specs.Prelude.{ℕ, List, [], ◌∷◌, Option, Some, None}
 use Rattle.lio_values.specs.declared.act.Act.{Act}
 use Rattle.lio_values.specs.declared.act.Act.TheVariants as act
 use Rattle.lio_values.specs.declared.entry.Entry.{Entry}
+
+-- the task to which an act gave birth at its target
+abbrev pub born_at : Act → Option ℕ → Option ℕ
+born_at (act.Fork birth) target = target
+born_at (act.Spawn birth) target = target
+born_at asked target = None
 
 -- one number or none, as a list
 abbrev pub listed : Option ℕ → List ℕ

@@ -1,42 +1,12 @@
 //! The store over the files of the system, over a folder.
 
-use crate::RealStore;
+use crate::check::{check_fetch, check_keep, check_same};
 use lio_outside::{FetchFault, KeepFault, Store};
+use lio_system::RealStore;
 use std::alloc::{AllocError, Global};
-use std::fmt::Debug;
 use std::process::{Abort, Process};
 use std::rt::Files;
 use std::{env, fs, io, process};
-
-/// Compares two values.
-pub(crate) fn check_same<T: PartialEq + Debug>(rt: &impl Abort, got: &T, want: &T) {
-    assert_eq!(rt; *got, *want);
-}
-
-/// Fetches from any store and compares the answer.
-pub(crate) fn check_fetch<S: Store>(
-    rt: &impl Abort,
-    store: &mut S,
-    alloc: Global,
-    (name, limit): (&[u8], u32),
-    want: Result<&[u8], FetchFault>,
-) {
-    match store.fetch(alloc, name, limit) {
-        Ok(bytes) => check_same(rt, &Ok(bytes.as_slice()), &want),
-        Err(fault) => check_same(rt, &Err(fault), &want),
-    }
-}
-
-/// Keeps in any store and compares the answer.
-pub(crate) fn check_keep<S: Store>(
-    rt: &impl Abort,
-    store: &mut S,
-    alloc: Global,
-    (name, bytes): (&[u8], &[u8]),
-    want: Result<(), KeepFault>,
-) {
-    check_same(rt, &store.keep(alloc, name, bytes), &want);
-}
 
 /// Compares the count of faults of a store over files.
 fn check_faults<R>(rt: &impl Abort, store: &RealStore<R>, want: u64) {

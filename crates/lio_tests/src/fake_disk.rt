@@ -1,9 +1,9 @@
 //! Files that aren't there, with names, links and hard links.
 ghost use Rattle.std.specs.Prelude.{◌≤◌, None, IfOk};
 
-use crate::disk::{About, Disk, FileKind, Opened};
-use crate::known::FileNumber;
+use lio_system::{About, Disk, FileKind, FileNumber, Opened};
 use std::alloc::{AllocError, Global};
+use std::cell::Cell;
 use std::fs::Permissions;
 use std::io;
 use std::io::{ErrorKind, Read, Write};
@@ -91,7 +91,7 @@ struct Link {
 pub(crate) struct FakeDisk {
     names: Vec<Name>,
     links: Vec<Link>,
-    next: u64,
+    next: Cell<u64>,
     touches: u32,
     renamed: u32,
     removed: u32,
@@ -114,7 +114,7 @@ impl FakeDisk {
         FakeDisk {
             names: Vec::new(alloc),
             links: Vec::new(alloc),
-            next: 100,
+            next: Cell::new(100),
             touches: 0,
             renamed: 0,
             removed: 0,
@@ -150,8 +150,8 @@ impl FakeDisk {
     }
 
     /// Lets the next new file have a number.
-    pub(crate) fn make_next(&mut self, number: u64) {
-        self.next = number;
+    pub(crate) fn make_next(&self, number: u64) {
+        self.next.set(number);
     }
 
     /// Counts a call that touches a file.
@@ -186,8 +186,8 @@ impl FakeDisk {
         if path.starts_with("gone") {
             return refused(ErrorKind::NotFound);
         }
-        let number = self.next;
-        self.next = number.saturating_add(1);
+        let number = self.next.get();
+        self.next.set(number.saturating_add(1));
         self.name(plain(path), number)?;
         Ok(opened(plain(path), number))
     }
