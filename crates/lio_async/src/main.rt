@@ -17,7 +17,6 @@ use lio_host_main::HostStatus;
 use lio_messages_refusals::{Program, print_refusal};
 use lio_outside::{Say, Store};
 use lio_system::{RealSay, RealStore};
-use std::fs::Files;
 use std::process::ExitCode;
 use std::random::RandomSource;
 use std::sync::Wait;
@@ -50,7 +49,7 @@ fn respond<R, S: Store, W: Say>(
     say: &mut W,
 ) -> (CoopStatus, ExitCode)
 where
-    R: AllocGlobal + Files + Eprint + RandomSource + Threads + Wait + Sync,
+    R: AllocGlobal + Eprint + RandomSource + Threads + Wait + Sync,
     ensures { EndsWith (λ (journal : List Entry). record {
       words = host_words (bytes_of_words words.now);
       before = outside S.holds S.faults W.said W.faults store.old say.old;
@@ -58,11 +57,15 @@ where
       journal = journal;
     }) result.0 (exit_status result.1) }
 {
-    let CoopOutcome { status, journal } = coop_main(rt, rt.alloc(), words, store, say);
+    let CoopOutcome {
+        status,
+        journal,
+        texts,
+    } = coop_main(rt, rt.alloc(), words, store, say);
     // Giving back a long journal piece by piece would take a good part of the run.
     mem::forget(journal);
     let exit = exit_code(&status);
-    print_refusal(rt, Program::Futures, words, store, &status, None);
+    print_refusal(rt, Program::Futures, words, store, &status, &texts, None);
     (status, exit)
 }
 

@@ -16,6 +16,7 @@ use crate::words::read_words;
 use lio_clauses::NoMemory;
 use lio_events::Journal;
 use lio_events_reading::journal_fits;
+use lio_front::Texts;
 use lio_host_main::{Order, finish_seen, prepare_order};
 use lio_labels::Label;
 use lio_outside::{Say, Store};
@@ -31,27 +32,34 @@ use std::thread::Threads;
 pub struct CoopOutcome {
     pub status: CoopStatus,
     pub journal: Journal,
+    /// The bytes of the policy and of the script, as far as they were read.
+    pub texts: Texts,
 }
 
 /// The outcome of a call that gives no journal.
-fn refused(alloc: Global, status: CoopStatus) -> CoopOutcome
+fn refused(alloc: Global, status: CoopStatus, texts: Texts) -> CoopOutcome
     ensures status { result.status ≡ status }
     ensures journal { result.journal ≡ [] }
 {
     CoopOutcome {
         status,
         journal: Journal::new(alloc),
+        texts,
     }
 }
 
 /// The outcome of a run whose files weren't all written, or whose summary wasn't said.
-fn unfinished(alloc: Global, status: CoopStatus, journal: Journal) -> CoopOutcome
+fn unfinished(alloc: Global, status: CoopStatus, journal: Journal, texts: Texts) -> CoopOutcome
     ensures status { result.status ≡ status }
     ensures journal { result.journal ≡ journal_with status journal }
 {
     match status {
-        CoopStatus::NoMemory => refused(alloc, CoopStatus::NoMemory),
-        status => CoopOutcome { status, journal },
+        CoopStatus::NoMemory => refused(alloc, CoopStatus::NoMemory, texts),
+        status => CoopOutcome {
+            status,
+            journal,
+            texts,
+        },
     }
 }
 
@@ -94,18 +102,19 @@ fn answer<R: Wait + RandomSource + AllocGlobal, S: Store, W: Say>(
       journal = result.journal;
     }) result.status }
 {
+    let mut texts = Texts::none();
     let Some(command) = read_words(words) else {
-        return refused(alloc, CoopStatus::BadWords);
+        return refused(alloc, CoopStatus::BadWords, texts);
     };
-    let order = match prepare_order(alloc, store, command) {
+    let order = match prepare_order(alloc, store, command, &mut texts) {
         Ok(order) => order,
-        Err(status) => return refused(alloc, status),
+        Err(status) => return refused(alloc, status, texts),
     };
     let (ran, seen) = match run_seen(rt, alloc, &order.job, &order.observer) {
         Ok(both) => both,
         Err(NoMemory) => {
             give_up(order);
-            return refused(alloc, CoopStatus::NoMemory);
+            return refused(alloc, CoopStatus::NoMemory, texts);
         }
     };
     journal_fits(&ran.journal);
@@ -118,8 +127,9 @@ fn answer<R: Wait + RandomSource + AllocGlobal, S: Store, W: Say>(
         Ok(()) => CoopOutcome {
             status: CoopStatus::Done,
             journal,
+            texts,
         },
-        Err(status) => unfinished(alloc, status, journal),
+        Err(status) => unfinished(alloc, status, journal, texts),
     }
 }
 

@@ -12,7 +12,7 @@ use Rattle.lio_values.specs.declared.act.Reply.TheVariants.{Done, Got, Told, Ref
 use Rattle.lio_cells.specs.declared.state.State.{State}
 use Rattle.lio_cells.specs.declared.state.State.TheVariants.{Job}
 use Rattle.lio_cells.specs.State.{Result, is_job, label_of, result_of, state_after}
-use Rattle.lio_task_control.specs.Items.{rest_of}
+use Rattle.lio_syntax.specs.Items.{rest_of}
 use Rattle.lio_calculus.specs.Task.{TaskState}
 use Rattle.lio_calculus.specs.Going.{Onward, Bind, Seal, Call, Return, Leave, Unlabel, Release, Expose, HoldReference, HoldVariable, Fork, Spawn, Throw, gone, gone_on}
 use Rattle.lio_calculus.specs.Guarded.{label_after}

@@ -17,7 +17,7 @@ use Rattle.lio_cells.specs.declared.state.State.{State}
 use Rattle.lio_cells.specs.declared.state.State.TheVariants.{Absent, Ref, Var, Chan, Job}
 use Rattle.lio_cells.specs.State.{state_after}
 use Rattle.lio_calculus.specs.Task.{TaskState}
-use Rattle.lio_task_control.specs.Items.{Item, rest_of}
+use Rattle.lio_syntax.specs.Items.{Item, rest_of}
 use Rattle.lio_calculus.specs.Going.{Onward, Raise, Unlabel, Release, Expose, released, gone, gone_on}
 use Rattle.lio_calculus.specs.Hiding.{hide_task, hide_onward}
 use Rattle.lio_calculus.specs.Step.{Cell, Move, actor_after}

@@ -8,7 +8,7 @@ use Rattle.lio_syntax.specs.Statements.{Procedure}
 use Rattle.lio_syntax.specs.Statements as statement
 use Rattle.lio_syntax.proofs.BeginningLemmas.{position_from-within}
 use Rattle.lio_guards.proofs.GuardLemmas.{current_flows_to_written, label_flows_to_clearance, current_flows_to_lowered, exposed_flows_to_clearance}
-use Rattle.lio_task_control.specs.Items.{Item, Do, rest_of}
+use Rattle.lio_syntax.specs.Items.{Item, Do, rest_of}
 use Rattle.lio_calculus.specs.Task.{TaskState}
 use Rattle.lio_calculus.specs.Plan.{Program, Plan, procedure_at}
 use Rattle.lio_calculus.specs.Afforded.{AffordsPlan, PlanAfforded}

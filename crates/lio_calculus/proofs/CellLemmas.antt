@@ -15,12 +15,12 @@ use Rattle.lio_syntax.specs.Statements.{Procedure}
 use Rattle.lio_cells.specs.declared.state.State.{State}
 use Rattle.lio_cells.specs.declared.state.State.TheVariants.{Absent, Ref, Var, Job}
 use Rattle.lio_cells.specs.State.{is_of, label_of, written, filled, received, ended, placed, state_after}
-use Rattle.lio_task_control.specs.Environment.{bind_all}
+use Rattle.lio_syntax.specs.Environment.{bind_all}
 use Rattle.lio_calculus.specs.Task.{TaskState}
-use Rattle.lio_task_control.specs.Items.{enter}
+use Rattle.lio_syntax.specs.Items.{enter}
 use Rattle.lio_calculus.specs.Plan.{Program, Target, Node, New}
-use Rattle.lio_task_control.specs.Hiding.{hide_environment, hide_item}
-use Rattle.lio_task_control.proofs.HidingLemmas.{enter-hidden}
+use Rattle.lio_syntax.specs.Hiding.{hide_environment, hide_item}
+use Rattle.lio_syntax.proofs.HidingLemmas.{enter-hidden}
 use Rattle.lio_calculus.specs.Hiding.{hide_task, hide_asked}
 use Rattle.lio_calculus.specs.Step.{Cell, is_met, body_of, parameters_of, child_of, born, task_after, met_after}
 use Rattle.lio_calculus.specs.Erased.{label_of_cell, sees, hide_state, hide_cell}

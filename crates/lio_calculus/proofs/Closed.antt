@@ -19,7 +19,7 @@ use Rattle.lio_values.specs.Purity.{IsProblemPure}
 use Rattle.lio_values.specs.Views.{tree_of, problem_of, value_of, values_of, item_of-value_of}
 use Rattle.lio_syntax_lines.specs.Operands.{can_be_said}
 use Rattle.lio_operators.specs.Laws.{IsSimple, IsUnthrown}
-use Rattle.lio_task_control.specs.Throwing.{payload_of}
+use Rattle.lio_syntax.specs.Throwing.{payload_of}
 use Rattle.lio_calculus.specs.Step.{Configuration}
 use Rattle.lio_calculus.specs.Sound.{ItemNames, ItemsName, PlainNames, KindNames, ValueNames, TreeIsOpen, ItemIsOpen, ItemsAreOpen, IsOpen}
 use Rattle.lio_calculus.proofs.SoundLemmas.{said-names, said-open}

@@ -19,13 +19,13 @@ use Rattle.lio_values.specs.Views.{problem_of}
 use Rattle.lio_values.proofs.ErasedMeasures.{pure-shown}
 use Rattle.lio_values.proofs.ErasureLemmas.{value_erased_twice}
 use Rattle.lio_syntax.specs.Statements.{Statements}
-use Rattle.lio_task_control.specs.Environment.{Environment, bind}
+use Rattle.lio_syntax.specs.Environment.{Environment, bind}
 use Rattle.lio_calculus.specs.Task.{TaskState}
-use Rattle.lio_task_control.specs.Items.{Item, Do, Access, Mark, Back, Fail, enter, rest_of}
+use Rattle.lio_syntax.specs.Items.{Item, Do, Access, Mark, Back, Fail, enter, rest_of}
 use Rattle.lio_calculus.specs.Going.{at, binding, throwing, given, replied}
-use Rattle.lio_task_control.specs.Throwing.{Place, caught, code_of, payload_of, thrown, returned}
-use Rattle.lio_task_control.specs.Hiding.{hide_environment, hide_item, hide_place}
-use Rattle.lio_task_control.proofs.HidingLemmas.{enter-hidden}
+use Rattle.lio_syntax.specs.Throwing.{Place, caught, code_of, payload_of, thrown, returned}
+use Rattle.lio_syntax.specs.Hiding.{hide_environment, hide_item, hide_place}
+use Rattle.lio_syntax.proofs.HidingLemmas.{enter-hidden}
 use Rattle.lio_calculus.specs.Hiding.{hide_task}
 use Rattle.lio_calculus.proofs.HidingLemmas.{bind-hidden}
 use Rattle.lio_calculus.proofs.TwiceLemmas.{hide_environment-twice, hide_items-twice, hide_task-twice}

@@ -12,9 +12,9 @@ use Rattle.lio_values.specs.declared.act.Act.{Act}
 use Rattle.lio_values.specs.declared.act.Reply.{Reply}
 use Rattle.lio_values.specs.declared.act.Reply.TheVariants.{Done, Got, Told, Refused}
 use Rattle.lio_syntax.specs.Statements.{While}
-use Rattle.lio_task_control.specs.Environment.{Environment}
-use Rattle.lio_task_control.specs.Items.{Item, Do, Access, Mark, Back, Fail, open_calls}
-use Rattle.lio_task_control.specs.Throwing.{thrown}
+use Rattle.lio_syntax.specs.Environment.{Environment}
+use Rattle.lio_syntax.specs.Items.{Item, Do, Access, Mark, Back, Fail, open_calls}
+use Rattle.lio_syntax.specs.Throwing.{thrown}
 use Rattle.lio_calculus.specs.Task.{TaskState}
 use Rattle.lio_calculus.specs.Going.{Onward, Bind, Seal, Enter, Repeat, Try, Call, Return, Leave, RaiseTo, Unlabel, Release, Expose, HoldReference, HoldVariable, Fork, Spawn, BindReply, Throw, End, released, given, newest, gone}
 use Rattle.lio_calculus.specs.Guarded.{label_after}

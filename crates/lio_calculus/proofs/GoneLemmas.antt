@@ -12,10 +12,10 @@ use Rattle.lio_values.specs.declared.act.Reply.{Reply}
 use Rattle.lio_values.specs.Erasure.{erase_content, erase_value, erase_reply}
 use Rattle.lio_syntax.specs.Statements.{While}
 use Rattle.lio_calculus.specs.Task.{TaskState}
-use Rattle.lio_task_control.specs.Items.{Item, Do, Mark, Back, enter}
+use Rattle.lio_syntax.specs.Items.{Item, Do, Mark, Back, enter}
 use Rattle.lio_calculus.specs.Going.{Onward, Advance, Bind, Seal, Enter, Repeat, Try, Call, Return, Leave, Unlabel, Release, Expose, HoldReference, HoldVariable, Fork, BindReply, Throw, End, binding, given, released, taking, newest, gone}
-use Rattle.lio_task_control.specs.Hiding.{hide_environment}
-use Rattle.lio_task_control.proofs.HidingLemmas.{enter-hidden}
+use Rattle.lio_syntax.specs.Hiding.{hide_environment}
+use Rattle.lio_syntax.proofs.HidingLemmas.{enter-hidden}
 use Rattle.lio_calculus.specs.Hiding.{hide_task, hide_onward}
 use Rattle.lio_calculus.proofs.GoingLemmas.{returned-hidden, at-hidden, binding-hidden, bound-alike, throwing-hidden, given-hidden, replied-hidden}
 use Rattle.lio_calculus.proofs.TwiceLemmas.{hide_task-twice}

@@ -16,11 +16,11 @@ use Rattle.std.specs.Ordering.{nat_cmp}
 use Rattle.std.specs.Cmp.Lexicographic.{slice_cmp}
 use Rattle.std.specs.declared.cmp.Ordering.{Ordering}
 use Rattle.std.specs.declared.cmp.Ordering.TheVariants.{Less, Equal, Greater}
-use Rattle.lio_task_control.specs.declared.binding.Binding.{Binding}
-use Rattle.lio_task_control.specs.Environment.{Environment, bind_before, bind, bind_all, value_of}
+use Rattle.lio_syntax.specs.declared.binding.Binding.{Binding}
+use Rattle.lio_syntax.specs.Environment.{Environment, bind_before, bind, bind_all, value_of}
 use Rattle.lio_calculus.specs.Operands.{bound, all_bound, bare_of, pure_of, seen_as}
-use Rattle.lio_task_control.specs.Items.{Item, Do, Access, Mark, Back, Fail, open_calls}
-use Rattle.lio_task_control.specs.Hiding.{hide_binding, hide_environment, hide_item}
+use Rattle.lio_syntax.specs.Items.{Item, Do, Access, Mark, Back, Fail, open_calls}
+use Rattle.lio_syntax.specs.Hiding.{hide_binding, hide_environment, hide_item}
 
 -- what a name is bound to in a hidden environment
 pub value_of-hidden : (observer : Label) (environment : Environment) (name : List ℕ) → value_of (hide_environment observer environment) name ≡ option_map (erase_value observer) (value_of environment name)

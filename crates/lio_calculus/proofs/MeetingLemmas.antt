@@ -11,7 +11,7 @@ use Rattle.lio_syntax_lines.specs.declared.line.Simple.{Simple}
 use Rattle.lio_cells.specs.declared.state.State.{State}
 use Rattle.lio_cells.specs.declared.state.State.TheVariants.{Absent, Job}
 use Rattle.lio_cells.specs.State.{is_absent, Kind, Reference, Channel, is_of, result_of, ready as is_ready, state_after}
-use Rattle.lio_task_control.specs.Items.{Item}
+use Rattle.lio_syntax.specs.Items.{Item}
 use Rattle.lio_calculus.specs.Task.{TaskState}
 use Rattle.lio_calculus.specs.Going.{Onward}
 use Rattle.lio_calculus.specs.Plan.{Plan, Over, Own, Visit, Target, Node, New, fault_at, ending, plan_items, plan}

@@ -28,8 +28,8 @@ use Rattle.lio_guards.specs.declared.verdict.Verdict.TheVariants.{Go, No}
 use Rattle.lio_guards.specs.Guard.{guarded_relabel, guarded_expose}
 use Rattle.lio_operators.specs.Operators.{operate1, operate2}
 use Rattle.lio_cells.specs.State.{Kind, Reference, Variable, Channel, Result as result}
-use Rattle.lio_task_control.specs.Environment.{bind_all}
-use Rattle.lio_task_control.specs.Items.{open_calls}
+use Rattle.lio_syntax.specs.Environment.{bind_all}
+use Rattle.lio_syntax.specs.Items.{open_calls}
 use Rattle.lio_values.specs.Measures.{is_pure}
 use Rattle.lio_calculus.specs.Operands.{bound, all_bound, pure_of, Labelled, sealed_of, seen_as, label_of, power_of, text_of, reference_of, variable_of, result_of, channel_of, count_of}
 use Rattle.lio_calculus.specs.Task.{TaskState}

@@ -8,9 +8,9 @@ use Rattle.lio_values.specs.declared.value.Content.TheVariants.{Faulted}
 use Rattle.lio_values.specs.declared.value.Value.{Value}
 use Rattle.lio_values.specs.declared.value.Value.TheVariants.{Sealed}
 use Rattle.lio_syntax.specs.Statements.{Statement, Statements, Nothing, Then}
-use Rattle.lio_task_control.specs.Environment.{Environment}
-use Rattle.lio_task_control.specs.Items.{Item, Do, Access, Mark, Back, Fail, enter, rest_of, open_calls}
-use Rattle.lio_task_control.specs.Throwing.{code_of, thrown, returned}
+use Rattle.lio_syntax.specs.Environment.{Environment}
+use Rattle.lio_syntax.specs.Items.{Item, Do, Access, Mark, Back, Fail, enter, rest_of, open_calls}
+use Rattle.lio_syntax.specs.Throwing.{code_of, thrown, returned}
 use Rattle.lio_calculus.specs.Sound.{EachBound, EachInItem, ItemSays, statement_says, block_says}
 use Rattle.lio_calculus.proofs.Closed.{IsClosed}
 use Rattle.lio_calculus.proofs.PlanEach.{bind-each}

@@ -28,11 +28,11 @@ use Rattle.lio_operators.specs.Laws.{IsUnthrown, IsPublic, items_in, IsPartOf, I
 use Rattle.lio_operators.proofs.OperatorLemmas.{one_gives_simple, two_give_parts}
 use Rattle.std.specs.List.{Contains}
 use Rattle.lio_values.specs.Measures.{is_pure}
-use Rattle.lio_task_control.specs.declared.binding.Binding.{Binding}
+use Rattle.lio_syntax.specs.declared.binding.Binding.{Binding}
 use Rattle.std.specs.declared.cmp.Ordering.{Ordering}
 use Rattle.std.specs.declared.cmp.Ordering.TheVariants.{Less, Equal, Greater}
-use Rattle.lio_task_control.specs.Environment.{Environment, bind_before, bind, bind_all}
-use Rattle.lio_task_control.specs.Items.{Item, Do, Access}
+use Rattle.lio_syntax.specs.Environment.{Environment, bind_before, bind, bind_all}
+use Rattle.lio_syntax.specs.Items.{Item, Do, Access}
 use Rattle.lio_calculus.specs.Operands.{bound, all_bound, Labelled, sealed_of}
 use Rattle.lio_calculus.specs.Task.{TaskState}
 use Rattle.lio_calculus.specs.Going.{Onward, Bind, Seal, Call, Return, Leave, Unlabel, Release, Expose, Throw, released}

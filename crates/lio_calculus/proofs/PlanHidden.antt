@@ -19,13 +19,13 @@ use Rattle.lio_syntax.specs.Statements as statement
 use Rattle.lio_operators.specs.Operators.{operate1, operate2}
 use Rattle.lio_operators.specs.Laws.{hide_result}
 use Rattle.lio_operators.proofs.OperatorLemmas.{hidden_from_one, hidden_from_two}
-use Rattle.lio_task_control.specs.Environment.{bind_all}
+use Rattle.lio_syntax.specs.Environment.{bind_all}
 use Rattle.lio_calculus.specs.Operands.{bound, all_bound, pure_of, Labelled, sealed_of, flag_of, label_of, power_of, text_of, count_of, reference_of, variable_of, result_of, channel_of, seen_as}
 use Rattle.lio_calculus.specs.Task.{TaskState}
-use Rattle.lio_task_control.specs.Items.{Item, Do, Access, open_calls}
+use Rattle.lio_syntax.specs.Items.{Item, Do, Access, open_calls}
 use Rattle.lio_calculus.specs.Going.{Call, Return}
 use Rattle.lio_calculus.specs.Plan.{Program, Plan, Over, fault_at, bad_type, refused, stepping, ending, ending_with, computed, calling, returning, choosing, looping, with_seen, verdict_on, birth_of, procedure_at, plan_simple, plan_statement, plan_access, plan_items, plan}
-use Rattle.lio_task_control.specs.Hiding.{hide_environment, hide_item}
+use Rattle.lio_syntax.specs.Hiding.{hide_environment, hide_item}
 use Rattle.lio_calculus.specs.Hiding.{hide_task, hide_asked, hide_onward, hide_plan}
 use Rattle.lio_calculus.proofs.HidingLemmas.{bound-hidden, seen_as-hidden, open_calls-hidden, all_bound-hidden, bind_all-hidden, IsBlind, blind-at-lists, pure-blind}
 use Rattle.lio_calculus.proofs.PlanLemmas.{bad_type-hidden, with_seen-same, with_seen-mapped, with_verdict-hidden, raising-hidden, sealing-hidden, releasing-hidden, exposing-hidden, new_reference-hidden, new_variable-hidden, writing-hidden, sending-hidden, forking-hidden, spawning-hidden, unlabelling-hidden}

@@ -19,7 +19,7 @@ use Rattle.lio_syntax_lines.specs.Operands.{is_said}
 use Rattle.lio_syntax.specs.Statements.{Procedure}
 use Rattle.lio_guards.proofs.GuardLemmas.{current_flows_to_written, learnt_flows_to_label, label_flows_to_clearance, exchange_takes_label, current_flows_to_lowered, lowered_flows_to_clearance, exposed_flows_to_clearance}
 use Rattle.lio_cells.specs.State.{Kind}
-use Rattle.lio_task_control.specs.Items.{Item, open_calls}
+use Rattle.lio_syntax.specs.Items.{Item, open_calls}
 use Rattle.lio_calculus.specs.Task.{TaskState}
 use Rattle.lio_calculus.specs.Going.{Onward, Advance, Enter, Repeat, Try, Call, RaiseTo, Lower, HoldReference, HoldVariable, Fork, Spawn, BindReply, End}
 use Rattle.lio_calculus.specs.Plan.{Program, Plan, Over, Own, Visit, Target, Node, New, plan, procedure_at}

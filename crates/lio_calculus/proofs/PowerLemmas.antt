@@ -1,5 +1,5 @@
 -- Privileges are given and never made.
-use Rattle.std.proofs.Common.{◌≡◌, sym, subst, ℕ, ◌-◌, IsTrue, List, [], ◌∷◌, All, Some, true≢false}
+use Rattle.std.proofs.Common.{◌≡◌, sym, subst, ℕ, IsTrue, List, [], ◌∷◌, All, Some, true≢false}
 use Rattle.std.specs.List.{Contains}
 use Rattle.std.proofs.lemmas.List.Elements.{All-nil, All-head, All-tail, All-cons}
 use Rattle.lio_labels.specs.declared.privilege.Priv.{Priv}
@@ -15,8 +15,8 @@ use Rattle.lio_values.specs.declared.act.Act.{Act}
 use Rattle.lio_syntax_lines.specs.declared.line.Simple.{Simple}
 use Rattle.lio_syntax_lines.specs.Operands.{can_be_said}
 use Rattle.lio_operators.specs.Laws.{IsSimple, IsUnthrown}
-use Rattle.lio_task_control.specs.Throwing.{payload_of}
-use Rattle.lio_task_control.specs.Items.{Item}
+use Rattle.lio_syntax.specs.Throwing.{payload_of}
+use Rattle.lio_syntax.specs.Items.{Item}
 use Rattle.lio_calculus.specs.Operands.{power_of}
 use Rattle.lio_calculus.specs.Task.{TaskState}
 use Rattle.lio_calculus.specs.Going.{Onward, HoldReference, HoldVariable, Fork}

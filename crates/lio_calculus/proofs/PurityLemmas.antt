@@ -1,5 +1,5 @@
 -- Turns leave contents pure: those of the calculus, and those of the erased one.
-use Rattle.std.proofs.Common.{◌≡◌, refl, sym, subst, ℕ, ◌-◌, Bool, true, false, if◌then◌else◌, IsTrue, List, [], ◌∷◌, All, Option, Some, None, true≢false}
+use Rattle.std.proofs.Common.{◌≡◌, refl, sym, subst, ℕ, Bool, true, false, if◌then◌else◌, IsTrue, List, [], ◌∷◌, All, Option, Some, None, true≢false}
 use Rattle.std.specs.Prelude.{option_and_then}
 use Rattle.std.specs.Option.{option_map}
 use Rattle.std.proofs.lemmas.Bool.{and_parts}
@@ -13,7 +13,7 @@ use Rattle.lio_values.specs.declared.value.Plain.TheVariants.{Unit as unit, Flag
 use Rattle.lio_values.specs.declared.value.Content.{Content}
 use Rattle.lio_values.specs.declared.value.Content.TheVariants.{Kept, Faulted, Hidden}
 use Rattle.lio_values.specs.declared.value.Value.{Value}
-use Rattle.lio_values.specs.declared.value.Value.TheVariants.{Bare, Sealed}
+use Rattle.lio_values.specs.declared.value.Value.TheVariants.{Bare}
 use Rattle.lio_values.specs.declared.act.Act.{Act}
 use Rattle.lio_values.specs.declared.act.Act.TheVariants as act
 use Rattle.lio_values.specs.declared.act.Reply.{Reply}
@@ -34,10 +34,10 @@ use Rattle.lio_operators.specs.Laws.{IsSimple}
 use Rattle.lio_cells.specs.declared.state.State.{State}
 use Rattle.lio_cells.specs.declared.state.State.TheVariants.{Absent, Ref, Var, Chan, Job}
 use Rattle.lio_cells.specs.State.{answer}
-use Rattle.lio_task_control.specs.Environment.{Environment}
-use Rattle.lio_task_control.specs.Hiding.{hide_binding, hide_environment, hide_item}
-use Rattle.lio_task_control.specs.Items.{Item, Do, Access, Back}
-use Rattle.lio_task_control.specs.Throwing.{payload_of}
+use Rattle.lio_syntax.specs.Environment.{Environment}
+use Rattle.lio_syntax.specs.Hiding.{hide_binding, hide_environment, hide_item}
+use Rattle.lio_syntax.specs.Items.{Item, Do, Access, Back}
+use Rattle.lio_syntax.specs.Throwing.{payload_of}
 use Rattle.lio_calculus.specs.Operands.{bound}
 use Rattle.lio_calculus.specs.Task.{TaskState}
 use Rattle.lio_calculus.specs.Going.{Onward, Release, Expose, HoldReference, HoldVariable, Fork, released}

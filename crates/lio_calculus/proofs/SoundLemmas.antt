@@ -24,8 +24,8 @@ use Rattle.lio_syntax_lines.specs.Operands.{is_said, can_be_said}
 use Rattle.lio_cells.specs.declared.state.State.{State}
 use Rattle.lio_cells.specs.declared.state.State.TheVariants.{Absent}
 use Rattle.lio_cells.specs.State.{Kind, Reference, Variable, Channel, Result, is_job, is_of, label_of}
-use Rattle.lio_task_control.specs.declared.binding.Binding.{Binding}
-use Rattle.lio_task_control.specs.Environment.{Environment, value_of}
+use Rattle.lio_syntax.specs.declared.binding.Binding.{Binding}
+use Rattle.lio_syntax.specs.Environment.{Environment, value_of}
 use Rattle.lio_calculus.specs.Operands.{bound, bare_of, seen_as, reference_of, variable_of, result_of, channel_of}
 use Rattle.lio_calculus.specs.Task.{TaskState}
 use Rattle.lio_calculus.specs.Step.{Cell, Configuration, blank, cell_at, has_label, is_named}

@@ -12,7 +12,7 @@ use Rattle.lio_values.specs.declared.fault.Fault.{Fault}
 use Rattle.lio_values.specs.declared.act.Op.TheVariants as op
 use Rattle.lio_syntax_lines.specs.declared.line.Simple.{Simple}
 use Rattle.lio_guards.proofs.GuardLemmas.{current_flows_to_written, learnt_flows_to_label, current_flows_to_label, current_flows_to_exposed}
-use Rattle.lio_task_control.specs.Items.{Item}
+use Rattle.lio_syntax.specs.Items.{Item}
 use Rattle.lio_calculus.specs.Operands.{bound, Labelled, sealed_of}
 use Rattle.lio_values.specs.declared.act.Reply.TheVariants.{Refused}
 use Rattle.lio_calculus.specs.Task.{TaskState}

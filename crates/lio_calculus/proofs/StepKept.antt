@@ -20,7 +20,7 @@ use Rattle.lio_syntax.specs.Statements.{Procedure}
 use Rattle.lio_cells.specs.declared.state.State.{State}
 use Rattle.lio_cells.specs.declared.state.State.TheVariants.{Absent, Ref, Var, Chan, Job}
 use Rattle.lio_cells.specs.State.{Kind, Reference, Variable, Result, is_of, is_job, label_of, result_of, ready, answer, state_after}
-use Rattle.lio_task_control.specs.Items.{open_calls}
+use Rattle.lio_syntax.specs.Items.{open_calls}
 use Rattle.lio_calculus.specs.Task.{TaskState}
 use Rattle.lio_calculus.specs.Going.{Onward, HoldReference, HoldVariable, Fork, Spawn, End, gone_on}
 use Rattle.lio_calculus.specs.Plan.{Program, Plan, Over, Own, Visit, Target, Node, New, plan}

@@ -14,9 +14,9 @@ use Rattle.lio_syntax_lines.specs.declared.line.Simple.{Simple}
 use Rattle.lio_cells.specs.declared.state.State.{State}
 use Rattle.lio_cells.specs.declared.state.State.TheVariants.{Absent, Ref, Var, Chan, Job}
 use Rattle.lio_cells.specs.State.{placed, ended, state_after}
-use Rattle.lio_task_control.specs.Items.{Item, rest_of}
+use Rattle.lio_syntax.specs.Items.{Item, rest_of}
 use Rattle.lio_calculus.specs.Task.{TaskState}
-use Rattle.lio_calculus.specs.Going.{Onward, Fork, gone_on}
+use Rattle.lio_calculus.specs.Going.{Onward, gone_on}
 use Rattle.lio_calculus.specs.Plan.{Program, Plan, Over, Own, Visit, Target, plan}
 use Rattle.lio_calculus.specs.Step.{Cell, Configuration, blank, cell_at, with_cell, number_of, is_met, met, Move, move_of, body_of, parameters_of, child_of, born, task_after, met_after, actor_after, target_after, after}
 use Rattle.lio_calculus.specs.Sound.{EachInItem, EachInTask, EachInState}

@@ -2,10 +2,10 @@
 use Rattle.std.proofs.Common.{◌≡◌, refl, ap, List, [], ◌∷◌, map}
 use Rattle.lio_labels.specs.declared.label.Label.{Label}
 use Rattle.lio_values.proofs.ErasureLemmas.{value_erased_twice}
-use Rattle.lio_task_control.specs.Environment.{Environment}
+use Rattle.lio_syntax.specs.Environment.{Environment}
 use Rattle.lio_calculus.specs.Task.{TaskState}
-use Rattle.lio_task_control.specs.Items.{Item, Back}
-use Rattle.lio_task_control.specs.Hiding.{hide_environment, hide_item}
+use Rattle.lio_syntax.specs.Items.{Item, Back}
+use Rattle.lio_syntax.specs.Hiding.{hide_environment, hide_item}
 use Rattle.lio_calculus.specs.Hiding.{hide_task}
 
 pub hide_environment-twice : (observer : Label) (environment : Environment) → hide_environment observer (hide_environment observer environment) ≡ hide_environment observer environment

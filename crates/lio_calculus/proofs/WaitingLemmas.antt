@@ -14,7 +14,7 @@ use Rattle.lio_syntax_lines.specs.declared.line.Simple.TheVariants as line
 use Rattle.lio_syntax.specs.Statements.{Statement}
 use Rattle.lio_cells.specs.declared.state.State.TheVariants.{Absent}
 use Rattle.lio_cells.specs.State.{Kind, Reference, Variable, Result as result, ready, answer}
-use Rattle.lio_task_control.specs.Items.{Item, Do, Access}
+use Rattle.lio_syntax.specs.Items.{Item, Do, Access}
 use Rattle.lio_calculus.specs.Operands.{bound, seen_as, reference_of, variable_of, result_of as result_handle}
 use Rattle.lio_calculus.specs.Task.{TaskState}
 use Rattle.lio_calculus.specs.Going.{Onward, Advance, BindReply}

@@ -7,7 +7,7 @@ use Rattle.lio_values.specs.declared.act.Act.TheVariants as act
 use Rattle.lio_values.specs.declared.act.Birth.{Birth}
 use Rattle.lio_syntax.specs.Statements as statement
 use Rattle.lio_cells.specs.State.{Kind, Reference, Variable, Channel, Result as result}
-use Rattle.lio_task_control.specs.Items.{Do, rest_of}
+use Rattle.lio_syntax.specs.Items.{Do, rest_of}
 use Rattle.lio_calculus.specs.Task.{TaskState}
 use Rattle.lio_calculus.specs.Going.{Onward, Raise, RaiseTo, Unlabel, Expose, Lower, HoldReference, HoldVariable, Fork, Spawn}
 use Rattle.lio_calculus.specs.Plan.{Program, Plan, Over, Own, Visit, Target, Node, New, plan}

@@ -16,10 +16,10 @@ use Rattle.lio_values.specs.declared.act.Reply.TheVariants.{Done, Got, Told, Ref
 use Rattle.lio_syntax_lines.specs.declared.line.Operand.{Operand}
 use Rattle.lio_syntax_lines.specs.declared.line.Simple.{Simple}
 use Rattle.lio_syntax.specs.Statements.{Statements, While}
-use Rattle.lio_task_control.specs.Environment.{Environment, bind}
-use Rattle.lio_task_control.specs.Throwing.{Place, thrown, returned}
+use Rattle.lio_syntax.specs.Environment.{Environment, bind}
+use Rattle.lio_syntax.specs.Throwing.{Place, thrown, returned}
 use Rattle.lio_calculus.specs.Task.{TaskState}
-use Rattle.lio_task_control.specs.Items.{Do, Access, Mark, Back, enter, rest_of}
+use Rattle.lio_syntax.specs.Items.{Do, Access, Mark, Back, enter, rest_of}
 
 -- how a task goes on after its turn
 pub data Onward : Type 0 where

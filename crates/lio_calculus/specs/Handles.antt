@@ -6,8 +6,8 @@ use Rattle.lio_syntax_lines.specs.declared.line.Simple.{Simple}
 use Rattle.lio_syntax_lines.specs.declared.line.Simple.TheVariants.{Write, Send}
 use Rattle.lio_syntax.specs.Statements as statement
 use Rattle.lio_cells.specs.State.{Kind}
-use Rattle.lio_task_control.specs.Environment.{Environment}
-use Rattle.lio_task_control.specs.Items.{Item, Do, Access}
+use Rattle.lio_syntax.specs.Environment.{Environment}
+use Rattle.lio_syntax.specs.Items.{Item, Do, Access}
 use Rattle.lio_calculus.specs.Operands.{bound, seen_as, text_of, reference_of, channel_of}
 use Rattle.lio_calculus.specs.Task.{TaskState}
 use Rattle.lio_calculus.specs.Going.{Onward}

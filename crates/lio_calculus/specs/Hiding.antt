@@ -5,7 +5,7 @@ use Rattle.lio_labels.specs.declared.label.Label.{Label}
 use Rattle.lio_values.specs.declared.act.Act.{Act}
 use Rattle.lio_values.specs.declared.act.Act.TheVariants as act
 use Rattle.lio_values.specs.Erasure.{erase_content, erase_value, erase_act, erase_reply}
-use Rattle.lio_task_control.specs.Hiding.{hide_environment, hide_item}
+use Rattle.lio_syntax.specs.Hiding.{hide_environment, hide_item}
 use Rattle.lio_calculus.specs.Task.{TaskState}
 use Rattle.lio_calculus.specs.Going.{Onward, Advance, Bind, Seal, Enter, Repeat, Try, Call, Return, Leave, Raise, RaiseTo, Unlabel, Lower, Release, Expose, HoldReference, HoldVariable, Fork, Spawn, BindReply, Throw, End}
 use Rattle.lio_calculus.specs.Plan.{Program, Plan, Over, Own, Visit, plan}

@@ -4,7 +4,7 @@ use Rattle.std.specs.Prelude.{◌≡◌, ℕ, ◌-◌, length, Option, Some, Non
 use Rattle.std.specs.Option.{option_map}
 use Rattle.lio_values.specs.declared.fault.Fault.{Fault}
 use Rattle.lio_values.specs.declared.act.Reply.TheVariants.{Refused}
-use Rattle.lio_task_control.specs.Items.{rest_of}
+use Rattle.lio_syntax.specs.Items.{rest_of}
 use Rattle.lio_calculus.specs.Task.{TaskState}
 use Rattle.lio_calculus.specs.Going.{throwing}
 use Rattle.lio_calculus.specs.Plan.{Plan, Over, Own, Visit, plan}

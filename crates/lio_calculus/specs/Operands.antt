@@ -12,7 +12,7 @@ use Rattle.lio_values.specs.declared.value.Value.TheVariants.{Bare, Sealed}
 use Rattle.lio_values.specs.Measures.{is_pure}
 use Rattle.lio_syntax_lines.specs.declared.line.Operand.{Operand}
 use Rattle.lio_syntax_lines.specs.declared.line.Operand.TheVariants.{Name, Literal}
-use Rattle.lio_task_control.specs.Environment.{Environment, value_of}
+use Rattle.lio_syntax.specs.Environment.{Environment, value_of}
 
 -- a plain value, where it is pure
 abbrev pub pure_of : Plain → Option Plain

@@ -30,10 +30,10 @@ use Rattle.lio_guards.specs.declared.verdict.Verdict.{Verdict}
 use Rattle.lio_guards.specs.declared.verdict.Verdict.TheVariants.{Go, No}
 use Rattle.lio_operators.specs.Operators.{operate1, operate2}
 use Rattle.lio_cells.specs.State.{Kind, Reference, Variable, Channel, Result as result}
-use Rattle.lio_task_control.specs.Environment.{bind_all}
+use Rattle.lio_syntax.specs.Environment.{bind_all}
 use Rattle.lio_calculus.specs.Operands.{bound, all_bound, bare_of, pure_of, Labelled, sealed_of, flag_of, label_of, power_of, text_of, count_of, reference_of, variable_of, result_of, channel_of, seen_as}
 use Rattle.lio_calculus.specs.Task.{TaskState}
-use Rattle.lio_task_control.specs.Items.{Item, Do, Access, Mark, Back, Fail, open_calls}
+use Rattle.lio_syntax.specs.Items.{Item, Do, Access, Mark, Back, Fail, open_calls}
 use Rattle.lio_calculus.specs.Going.{Onward, Advance, Bind, Seal, Enter, Repeat, Try, Call, Return, Leave, Raise, RaiseTo, Unlabel, Lower, Release, Expose, HoldReference, HoldVariable, Fork, Spawn, BindReply, Throw, End}
 
 -- what the turns of a script go by: its procedures, and how long a text may become

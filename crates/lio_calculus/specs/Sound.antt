@@ -24,8 +24,8 @@ use Rattle.lio_syntax.specs.Statements as statement
 use Rattle.lio_cells.specs.declared.state.State.{State}
 use Rattle.lio_cells.specs.declared.state.State.TheVariants.{Absent, Ref, Var, Chan, Job}
 use Rattle.lio_cells.specs.State.{Kind, Reference, Variable, Channel, Result, is_job, label_of, result_of}
-use Rattle.lio_task_control.specs.Environment.{Environment}
-use Rattle.lio_task_control.specs.Items.{Item, Do, Access, Mark, Back, Fail, rest_of, open_calls}
+use Rattle.lio_syntax.specs.Environment.{Environment}
+use Rattle.lio_syntax.specs.Items.{Item, Do, Access, Mark, Back, Fail, rest_of, open_calls}
 use Rattle.lio_calculus.specs.Operands.{bound, seen_as, reference_of, variable_of, result_of as result_handle}
 use Rattle.lio_calculus.specs.Task.{TaskState}
 use Rattle.lio_calculus.specs.Step.{Configuration, blank, cell_at, is_named}

@@ -14,9 +14,9 @@ use Rattle.lio_syntax.specs.Statements.{Statements, Nothing, Procedure}
 use Rattle.lio_cells.specs.declared.state.State.{State}
 use Rattle.lio_cells.specs.declared.state.State.TheVariants.{Absent}
 use Rattle.lio_cells.specs.State.{Kind, is_absent, is_of, label_of, ready, answer, state_after}
-use Rattle.lio_task_control.specs.Environment.{bind_all}
+use Rattle.lio_syntax.specs.Environment.{bind_all}
 use Rattle.lio_calculus.specs.Task.{TaskState}
-use Rattle.lio_task_control.specs.Items.{enter}
+use Rattle.lio_syntax.specs.Items.{enter}
 use Rattle.lio_calculus.specs.Going.{Onward, gone_on}
 use Rattle.lio_calculus.specs.Plan.{Program, Plan, Over, Own, Visit, Target, Node, New, plan}
 

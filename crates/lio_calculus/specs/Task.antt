@@ -2,8 +2,8 @@
 -- (LIO, ICFP 2012; turns and ranges of numbers are this calculus's own).
 use Rattle.std.specs.Prelude.{ℕ, Bool, List}
 use Rattle.lio_labels.specs.declared.label.Label.{Label}
-use Rattle.lio_task_control.specs.Environment.{Environment}
-use Rattle.lio_task_control.specs.Items.{Item}
+use Rattle.lio_syntax.specs.Environment.{Environment}
+use Rattle.lio_syntax.specs.Items.{Item}
 
 pub record TaskState : Type 0 where
   pub environment : Environment

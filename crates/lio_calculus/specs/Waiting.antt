@@ -7,8 +7,8 @@ use Rattle.lio_syntax_lines.specs.declared.line.Simple.{Simple}
 use Rattle.lio_syntax_lines.specs.declared.line.Simple.TheVariants.{Read, Take, Put, Wait}
 use Rattle.lio_cells.specs.declared.state.State.{State}
 use Rattle.lio_cells.specs.State.{is_reference, full_with, is_empty, result_of}
-use Rattle.lio_task_control.specs.Environment.{Environment}
-use Rattle.lio_task_control.specs.Items.{Item, Access}
+use Rattle.lio_syntax.specs.Environment.{Environment}
+use Rattle.lio_syntax.specs.Items.{Item, Access}
 use Rattle.lio_calculus.specs.Operands.{seen_as, reference_of, variable_of, result_of as result_handle}
 use Rattle.lio_calculus.specs.Task.{TaskState}
 use Rattle.lio_calculus.specs.Step.{Configuration, cell_at, can}

@@ -5,7 +5,7 @@ use Rattle.lio_values.specs.declared.act.Act.TheVariants as act
 use Rattle.lio_values.specs.declared.act.Reply.{Reply}
 use Rattle.lio_values.specs.declared.act.Reply.TheVariants.{Done, Got, Told, Refused}
 use Rattle.lio_guards.proofs.GuardLemmas.{source_flows_with_privilege, exposed_flows_with_privilege}
-use Rattle.lio_task_control.specs.Items.{Item}
+use Rattle.lio_syntax.specs.Items.{Item}
 use Rattle.lio_calculus.specs.Task.{TaskState}
 use Rattle.lio_calculus.specs.Plan.{Program, Plan, Over, Own, Visit, plan}
 use Rattle.lio_calculus.specs.Step.{Configuration, cell_at, Move, move_of, Turn, step}

@@ -16,7 +16,7 @@ use Rattle.lio_values.specs.Measures.{is_pure}
 use Rattle.lio_values.specs.Named.{IsContentNamed, IsValueNamed}
 use Rattle.lio_syntax_lines.specs.declared.line.Operand.{Operand}
 use Rattle.lio_syntax_lines.specs.declared.line.Operand.TheVariants.{Name, Literal}
-use Rattle.lio_task_control.specs.Environment.{Environment}
+use Rattle.lio_syntax.specs.Environment.{Environment}
 use Rattle.lio_calculus.specs.Operands.{bound, all_bound, Labelled, sealed_of, seen_as, label_of, power_of, reference_of, variable_of, result_of, channel_of}
 use Rattle.lio_calculus.specs.Sound.{EachBound}
 use Rattle.lio_calculus.proofs.SoundLemmas.{value_of-each, seen-plain}

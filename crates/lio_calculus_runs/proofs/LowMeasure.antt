@@ -10,7 +10,7 @@ use Rattle.lio_values.specs.declared.act.Act.{Act}
 use Rattle.lio_values.specs.declared.act.Act.TheVariants as act
 use Rattle.lio_values.specs.declared.act.Reply.{Reply}
 use Rattle.lio_values.specs.declared.act.Reply.TheVariants.{Done}
-use Rattle.lio_task_control.specs.Items.{rest_of}
+use Rattle.lio_syntax.specs.Items.{rest_of}
 use Rattle.lio_calculus.specs.Task.{TaskState}
 use Rattle.lio_calculus.specs.Going.{Onward, Expose, given, released, gone, gone_on}
 use Rattle.lio_calculus.specs.Plan.{Program, Target, plan}

@@ -16,9 +16,9 @@ use Rattle.lio_events.specs.Printable.{IsActNamed, IsRaiseOf}
 use Rattle.lio_events.proofs.PrintableLemmas.{value_named, option_named, act_named, raise_of, reply_named}
 use Rattle.lio_cells.specs.declared.state.State.{State}
 use Rattle.lio_cells.specs.declared.state.State.TheVariants.{Absent, Ref, Var, Chan, Job}
-use Rattle.lio_task_control.specs.Environment.{Environment}
-use Rattle.lio_task_control.specs.Items.{Item, Back}
-use Rattle.lio_task_control.specs.Hiding.{hide_binding, hide_environment, hide_item}
+use Rattle.lio_syntax.specs.Environment.{Environment}
+use Rattle.lio_syntax.specs.Items.{Item, Back}
+use Rattle.lio_syntax.specs.Hiding.{hide_binding, hide_environment, hide_item}
 use Rattle.lio_calculus.specs.Task.{TaskState}
 use Rattle.lio_calculus.specs.Plan.{Program, plan}
 use Rattle.lio_calculus.specs.Step.{Cell, Configuration, blank, cell_at, Move, move_of, after}

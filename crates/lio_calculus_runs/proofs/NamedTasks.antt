@@ -17,9 +17,9 @@ use Rattle.lio_values.specs.PlainText.{IsPlainNamed}
 use Rattle.lio_values.specs.Named.{IsKindNamed, IsFaultNamed, IsContentNamed, IsValueNamed}
 use Rattle.lio_events.specs.Printable.{IsActNamed, IsReplyNamed}
 use Rattle.lio_syntax.specs.Statements.{Statements, Nothing, Then, While}
-use Rattle.lio_task_control.specs.Environment.{Environment, bind}
-use Rattle.lio_task_control.specs.Items.{Item, Do, Access, Mark, Back, Fail, enter, rest_of}
-use Rattle.lio_task_control.specs.Throwing.{code_of, payload_of, thrown, returned}
+use Rattle.lio_syntax.specs.Environment.{Environment, bind}
+use Rattle.lio_syntax.specs.Items.{Item, Do, Access, Mark, Back, Fail, enter, rest_of}
+use Rattle.lio_syntax.specs.Throwing.{code_of, payload_of, thrown, returned}
 use Rattle.lio_calculus.specs.Task.{TaskState}
 use Rattle.lio_calculus.specs.Going.{Onward, Bind, Seal, Enter, Repeat, Try, Call, Return, Leave, Raise, RaiseTo, Unlabel, Lower, Release, Expose, HoldReference, HoldVariable, Fork, BindReply, Throw, End, released, given, throwing, gone, gone_on}
 use Rattle.lio_calculus.specs.Sound.{EachBound}

@@ -3,7 +3,7 @@ use Rattle.std.proofs.Common.{◌≡◌, refl, ℕ, List, All, Option, Some, Non
 use Rattle.std.specs.Prelude.{option_and_then, slice_get}
 use Rattle.std.proofs.lemmas.List.Elements.{All-head}
 use Rattle.lio_syntax.specs.Statements.{Procedure}
-use Rattle.lio_task_control.specs.Items.{Item}
+use Rattle.lio_syntax.specs.Items.{Item}
 use Rattle.lio_calculus.specs.Task.{TaskState}
 use Rattle.lio_calculus.specs.Going.{Onward, Enter, Repeat, Try, Call, RaiseTo}
 use Rattle.lio_calculus.specs.Plan.{Program, Plan, Over, Own, Visit, procedure_at, plan}

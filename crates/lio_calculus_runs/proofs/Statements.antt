@@ -21,7 +21,7 @@ use Rattle.lio_syntax.specs.Statements.{Procedure}
 use Rattle.lio_guards.specs.declared.verdict.Verdict.{Verdict}
 use Rattle.lio_guards.specs.declared.verdict.Verdict.TheVariants.{Go, No}
 use Rattle.lio_cells.specs.State.{Kind}
-use Rattle.lio_task_control.specs.Items.{Item}
+use Rattle.lio_syntax.specs.Items.{Item}
 use Rattle.lio_calculus.specs.Operands.{bound, Labelled, sealed_of, seen_as, label_of, power_of, reference_of, variable_of, result_of, channel_of}
 use Rattle.lio_calculus.specs.Task.{TaskState}
 use Rattle.lio_calculus.specs.Going.{Onward}

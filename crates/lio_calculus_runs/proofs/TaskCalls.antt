@@ -8,8 +8,8 @@ use Rattle.lio_values.specs.declared.act.Act.{Act}
 use Rattle.lio_values.specs.declared.act.Reply.{Reply}
 use Rattle.lio_values.specs.declared.act.Reply.TheVariants.{Done, Got, Told, Refused}
 use Rattle.lio_syntax.specs.Statements.{Statements, Nothing, Then, While, Procedure}
-use Rattle.lio_task_control.specs.Items.{Item, Do, Access, Mark, Back, enter, rest_of}
-use Rattle.lio_task_control.specs.Throwing.{thrown}
+use Rattle.lio_syntax.specs.Items.{Item, Do, Access, Mark, Back, enter, rest_of}
+use Rattle.lio_syntax.specs.Throwing.{thrown}
 use Rattle.lio_calculus.specs.Task.{TaskState}
 use Rattle.lio_calculus.specs.Going.{Onward, Enter, Repeat, Try, Call, Return, RaiseTo, Unlabel, Expose, BindReply, Throw, End, given, released, gone, gone_on}
 use Rattle.lio_calculus.proofs.PlacesKept.{rest-all, KeepsHandlers, thrown-all, returned-all}

@@ -6,7 +6,7 @@ use Rattle.lio_values.specs.declared.act.Act.{Act}
 use Rattle.lio_values.specs.declared.act.Act.TheVariants as act
 use Rattle.lio_values.specs.declared.act.Reply.{Reply}
 use Rattle.lio_values.specs.declared.act.Reply.TheVariants.{Told}
-use Rattle.lio_task_control.specs.Items.{Item}
+use Rattle.lio_syntax.specs.Items.{Item}
 use Rattle.lio_calculus.specs.Task.{TaskState}
 use Rattle.lio_calculus.specs.Going.{Onward, Unlabel, Expose, Fork, Spawn, BindReply, given, released, gone}
 use Rattle.lio_calculus.specs.Plan.{Program, Plan, Over, Own, Visit, plan}

@@ -5,8 +5,8 @@ use Rattle.lio_syntax_lines.specs.declared.line.Simple.{Simple}
 use Rattle.lio_syntax_lines.specs.Header.{Signature, call_of}
 use Rattle.lio_syntax.specs.Statements.{Statement, Statements, Do, If, IfElse, While, Try, Nothing, Then, Procedure}
 use Rattle.lio_syntax.specs.Beginnings.{number_of}
-use Rattle.lio_task_control.specs.Items as item
-use Rattle.lio_task_control.specs.Items.{Item, Access, Mark, Back, Fail}
+use Rattle.lio_syntax.specs.Items as item
+use Rattle.lio_syntax.specs.Items.{Item, Access, Mark, Back, Fail}
 use Rattle.lio_calculus.specs.Task.{TaskState}
 use Rattle.lio_calculus.specs.Step.{Configuration}
 use Rattle.lio_calculus.specs.Sound.{IsTaskOf}

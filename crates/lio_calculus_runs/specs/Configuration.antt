@@ -7,7 +7,7 @@ use Rattle.lio_values.specs.Named.{IsFaultNamed, IsContentNamed, IsValueNamed}
 use Rattle.lio_events.specs.Printable.{IsOptionNamed}
 use Rattle.lio_cells.specs.declared.state.State.{State}
 use Rattle.lio_cells.specs.declared.state.State.TheVariants.{Absent, Ref, Var, Chan, Job}
-use Rattle.lio_task_control.specs.Items.{Item, Do, Access, Mark, Back, Fail}
+use Rattle.lio_syntax.specs.Items.{Item, Do, Access, Mark, Back, Fail}
 use Rattle.lio_calculus.specs.Task.{TaskState}
 use Rattle.lio_calculus.specs.Step.{Configuration, cell_at}
 use Rattle.lio_calculus.specs.Sound.{EachBound, IsTaskOf}

@@ -11,8 +11,8 @@ use Rattle.lio_syntax.specs.Statements.{Procedure}
 use Rattle.lio_syntax.specs.Statements as statement
 use Rattle.lio_syntax.specs.Lines.{script_lines}
 use Rattle.lio_syntax.specs.Kept.{KeepsRules}
-use Rattle.lio_task_control.specs.Environment.{bind_all}
-use Rattle.lio_task_control.specs.Items.{Item, Do, open_calls}
+use Rattle.lio_syntax.specs.Environment.{bind_all}
+use Rattle.lio_syntax.specs.Items.{Item, Do, open_calls}
 use Rattle.lio_calculus.specs.Operands.{all_bound, seen_as, label_of, count_of}
 use Rattle.lio_calculus.specs.Task.{TaskState}
 use Rattle.lio_calculus.specs.Going.{Call}

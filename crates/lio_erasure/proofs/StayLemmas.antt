@@ -20,9 +20,9 @@ use Rattle.lio_events.proofs.PrintableLemmas.{erased-content-pure}
 use Rattle.lio_syntax.specs.Statements.{While}
 use Rattle.lio_cells.specs.declared.state.State.{State}
 use Rattle.lio_cells.specs.State.{answer}
-use Rattle.lio_task_control.specs.Items.{Item, Do, Mark, Back, rest_of}
-use Rattle.lio_task_control.specs.Hiding.{hide_environment}
-use Rattle.lio_task_control.proofs.HidingLemmas.{enter-hidden}
+use Rattle.lio_syntax.specs.Items.{Item, Do, Mark, Back, rest_of}
+use Rattle.lio_syntax.specs.Hiding.{hide_environment}
+use Rattle.lio_syntax.proofs.HidingLemmas.{enter-hidden}
 use Rattle.lio_calculus.specs.Task.{TaskState}
 use Rattle.lio_calculus.specs.Going.{Onward, Bind, Seal, Enter, Repeat, Try, Call, Return, Leave, Unlabel, Release, Expose, HoldReference, HoldVariable, Fork, BindReply, Throw, binding, given, released, taking, newest, gone, gone_on}
 use Rattle.lio_calculus.specs.Erased.{hide_state}

@@ -9,6 +9,7 @@ use Rattle.lio_outside.specs.Count.{Faults}
 use Rattle.lio_outside.proofs.CountLemmas.{FailedAt-in_part}
 use Rattle.lio_outside.proofs.OutputLemmas.{AreApart, AreOthers, IsOneOf, apart-free, each-holds, keeps-before, keeps-behind, kept-append, one-before, one-behind, others-append, others-stay, stops-before, stops-behind}
 use Rattle.lio_values.specs.declared.entry.Entry.{Entry}
+use Rattle.lio_events.specs.ChannelBytes.{channel_bytes}
 use Rattle.lio_events.specs.JournalText.{journal_text}
 use Rattle.lio_policy.specs.declared.policy.FileEntry.{FileEntry}
 use Rattle.lio_policy.specs.Policy.{PolicyParts}
@@ -160,3 +161,8 @@ outputs_hold_each_file policy journal history view seen read before now free is 
       others = λ name none. others-stay files before now name (others-append name channels (first ++ second) (channels-others journal 0 policy.channels name none.channels)
           (others-append name first second (journal-others policy.names true journal history name none.history) (journal-others policy.names false seen view name none.view))) is;
     }
+
+-- a file with a channel's name and what the channel received
+pub output-is : (journal : List Entry) (number : ℕ) (channel : FileEntry) (name bytes : List ℕ) → name ≡ channel.file → bytes ≡ channel_bytes journal number → record { name = name; bytes = bytes } ≡ output_of journal number channel
+output-is journal number channel name bytes named received =
+    ap (λ (n : List ℕ). record { name = n; bytes = bytes }) named ∙ ap (λ (b : List ℕ). record { name = channel.file; bytes = b }) received

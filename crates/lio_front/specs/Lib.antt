@@ -3,7 +3,9 @@ pub mod Command
 pub mod Sorted
 pub mod Status
 pub mod Loading
+pub mod Texts
 pub mod Clash
 pub mod Outputs
 pub mod Laws
 pub mod Summary
+pub mod Sends

@@ -6,9 +6,11 @@ mod clashes;
 mod inputs;
 pub mod laws;
 mod loading;
+mod sends;
 mod shown;
 mod status;
 mod summing;
+mod texts;
 mod words;
 mod write;
 
@@ -18,5 +20,6 @@ pub use loading::{Front, MOST_POLICY_BYTES, MOST_SCRIPT_BYTES, fetch, load};
 pub use shown::Shown;
 pub use status::Status;
 pub use summing::summary;
+pub use texts::Texts;
 pub use words::{Command, Mode, Source, Watch, is_name, read_command};
 pub use write::write_out;

@@ -6,8 +6,9 @@ ghost use Rattle.lio_syntax.specs.Statements.{Procedure};
 ghost use Rattle.lio_task.specs.Configuration.{cell_of, configuration_of};
 ghost use Rattle.lio_front.specs.Summary as spec;
 
+use crate::sends::channels_lengths;
 use lio_clauses::NoMemory;
-use lio_events::{Journal, channel_bytes};
+use lio_events::Journal;
 use lio_policy::Policy;
 use lio_task::{Config, Holder};
 use lio_values::print_number;
@@ -83,10 +84,11 @@ fn print_channels(
     ensures { OnOk result (out.new.items
         ≡ out.old.items ++ spec.channel_lines journal.now 0 policy.now.channels) }
 {
-    for (number, channel) in policy.channels.as_slice().iter().enumerate() {
-        let bytes = channel_bytes(alloc, journal, number as u32)?;
+    let channels = policy.channels.as_slice();
+    let lengths = channels_lengths(alloc, journal, channels.len())?;
+    for (number, channel) in channels.iter().enumerate() {
         out.extend_from_slice(b"channel ")?;
-        print_line(out, channel.name.bytes(), bytes.len())?;
+        print_line(out, channel.name.bytes(), lengths[number])?;
     }
     Ok(())
 }

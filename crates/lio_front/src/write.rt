@@ -4,14 +4,15 @@ ghost use Rattle.std.specs.Prelude.{◌≡◌, ◌≤◌, [], ◌∷◌, All, If
 ghost use Rattle.std.specs.Option.{option_map};
 ghost use Rattle.lio_events.specs.Printable.{IsPrintable};
 ghost use Rattle.lio_outside.specs.Outputs.{kept};
-ghost use Rattle.lio_front.specs.Outputs.{journal_output, output_of, outputs, outputs_from};
+ghost use Rattle.lio_front.specs.Outputs.{journal_output, outputs, outputs_from};
 ghost use Rattle.lio_front.specs.Outputs.{OutSays};
 
+use crate::sends::channels_bytes;
 use crate::status::Status;
 use lio_clauses::Names;
-use lio_events::{Journal, channel_bytes, print_journal};
+use lio_events::{Journal, print_journal};
 use lio_outside::{KeepFault, Store};
-use lio_policy::{FileEntry, Policy};
+use lio_policy::Policy;
 use lio_values::Text;
 use std::alloc::Global;
 
@@ -32,25 +33,6 @@ fn keep<S: Store>(alloc: Global, store: &mut S, file: &[u8], bytes: &[u8]) -> Re
     }
 }
 
-/// Writes the file of the channel with a number.
-fn keep_channel<S: Store>(
-    alloc: Global,
-    store: &mut S,
-    channel: &FileEntry,
-    number: u32,
-    journal: &Journal,
-) -> Result<(), Status>
-    ensures count { (S.faults store.old).count ≤ (S.faults store.new).count }
-    ensures ok { OnOk result (S.holds store.new
-        ≡ kept (S.holds store.old) (output_of journal.now number channel.now ∷ [])) }
-    ensures err { IfErr result (OutSays (S.holds store.old) (S.holds store.new)
-        (output_of journal.now number channel.now ∷ []) (S.faults store.old)
-        (S.faults store.new)) }
-{
-    let bytes = channel_bytes(alloc, journal, number)?;
-    keep(alloc, store, channel.file.bytes(), bytes.as_slice())
-}
-
 /// Writes the channels' files in the policy's order, each with what the channel received.
 fn keep_channels<S: Store>(
     alloc: Global,
@@ -65,8 +47,10 @@ fn keep_channels<S: Store>(
         (outputs_from journal.now 0 policy.now.channels) (S.faults store.old)
         (S.faults store.new)) }
 {
-    for (number, channel) in policy.channels.as_slice().iter().enumerate() {
-        keep_channel(alloc, store, channel, number as u32, journal)?;
+    let channels = policy.channels.as_slice();
+    let lists = channels_bytes(alloc, journal, channels.len())?;
+    for (number, channel) in channels.iter().enumerate() {
+        keep(alloc, store, channel.file.bytes(), lists[number].as_slice())?;
     }
     Ok(())
 }

@@ -2,7 +2,7 @@
 //! says a summary.
 #![tactic(auto)]
 
-ghost use Rattle.std.specs.Prelude.{◌≡◌, ◌≤◌, List};
+ghost use Rattle.std.specs.Prelude.{◌≡◌, List};
 ghost use Rattle.std.specs.Process.{exit_status};
 ghost use Rattle.lio_values.specs.declared.entry.Entry.{Entry};
 ghost use Rattle.lio_outside.specs.Call.{outside};
@@ -10,20 +10,18 @@ ghost use Rattle.lio_front.specs.Status.{exit_status as status_number};
 ghost use Rattle.lio_host_main.specs.Answers.{EndsWith};
 ghost use Rattle.lio_front.specs.Sorted.{bytes_of_words};
 
-use lio_audit::MOST_HISTORY_BYTES;
 use lio_clauses::NoMemory;
 use lio_events::Journal;
+use lio_front::Texts;
 use lio_host_main::{HostStatus, Outcome, expected_line, host_main};
 use lio_messages_notes::{Source, notes_text, troubles_of};
-use lio_messages_refusals::{
-    Program, Stop, bytes_again, history_name, print_refusal, script_name, script_text, stop_at,
-};
+use lio_messages_refusals::{Program, Stop, print_refusal, script_name, stop_at};
 use lio_outside::{Say, Store};
 use lio_start::Job;
 use lio_system::{RealSay, RealStore};
+use lio_task::Config;
 use lio_workers::{Gate, OpenGate};
 use std::alloc::Global;
-use std::fs::Files;
 use std::process::ExitCode;
 use std::sync::Wait;
 use std::thread::Threads;
@@ -46,47 +44,49 @@ fn exit_code(status: &HostStatus) -> ExitCode
     ExitCode::from(status.number())
 }
 
-/// The notes on a run whose script's file has this name. Where something went wrong in it, that
-/// file is read once more; the store's files stay.
-fn notes<R: AllocGlobal + Files, S: Store>(
-    rt: &R,
-    store: &mut S,
+/// The bytes, where they were read; else none.
+fn bytes_of(bytes: &Option<Vec<u8>>) -> &[u8] {
+    match bytes {
+        Some(bytes) => bytes.as_slice(),
+        None => &[],
+    }
+}
+
+/// The notes on a run whose script's file has this name and this text.
+fn notes(
+    alloc: Global,
     name: &str,
+    text: &[u8],
     job: &Job,
     journal: &Journal,
-) -> Result<String, NoMemory>
-    ensures files { S.holds store.new ≡ S.holds store.old }
-    ensures count { (S.faults store.old).count ≤ (S.faults store.new).count }
-{
-    let alloc = rt.alloc();
-    let troubles = troubles_of(alloc, job, journal)?;
+    config: &Config,
+) -> Result<String, NoMemory> {
+    let troubles = troubles_of(alloc, job, journal, config)?;
     if troubles.is_empty() {
         return Ok(String::new(alloc));
     }
-    let text = script_text(alloc, rt, store, name);
-    let source = Source {
-        name,
-        text: text.as_slice(),
-    };
-    notes_text(alloc, job, journal, &troubles, source)
+    let source = Source { name, text };
+    notes_text(alloc, job, journal, config, &troubles, source)
 }
 
 /// Says on standard error what went wrong in a run of files, if anything did; nothing where no
-/// memory is left for it. The store's files stay.
-fn print_notes<R: AllocGlobal + Files + Eprint, S: Store>(
-    rt: &R,
-    words: &[String],
-    store: &mut S,
-    job: &Option<Job>,
-    journal: &Journal,
-)
-    ensures files { S.holds store.new ≡ S.holds store.old }
-    ensures count { (S.faults store.old).count ≤ (S.faults store.new).count }
-{
-    let (Some(job), Some(name)) = (job, script_name(words)) else {
+/// memory is left for it.
+fn print_notes<R: AllocGlobal + Eprint>(rt: &R, words: &[String], outcome: &Outcome) {
+    let Outcome {
+        journal,
+        job: Some(job),
+        config: Some(config),
+        texts,
+        ..
+    } = outcome
+    else {
         return;
     };
-    if let Ok(notes) = notes(rt, store, name, job, journal) {
+    let Some(name) = script_name(words) else {
+        return;
+    };
+    let text = bytes_of(&texts.script);
+    if let Ok(notes) = notes(rt.alloc(), name, text, job, journal, config) {
         let _ = eprint!(rt; "{notes}");
     }
 }
@@ -97,48 +97,41 @@ fn stop_in(alloc: Global, job: &Job, history: &[u8], line: u32) -> Result<Stop, 
     stop_at(alloc, history, line, expected)
 }
 
-/// The line at which the history that is taken again stops, where the answer is that it does. It is
-/// read once more; the store's files stay.
-fn stop_of<R: AllocGlobal + Files, S: Store>(
-    rt: &R,
-    words: &[String],
-    store: &mut S,
+/// The line at which the history that is taken again stops, where the answer is that it does.
+fn stop_of(
+    alloc: Global,
     status: &HostStatus,
     job: &Option<Job>,
-) -> Option<Stop>
-    ensures files { S.holds store.new ≡ S.holds store.old }
-    ensures count { (S.faults store.old).count ≤ (S.faults store.new).count }
-{
-    let (HostStatus::NotARun(line), Some(job), Some(name)) = (status, job, history_name(words))
-    else {
-        return None;
-    };
-    let alloc = rt.alloc();
-    match bytes_again(alloc, rt, store, name, MOST_HISTORY_BYTES as u32) {
-        Some(history) if *line > 0 => stop_in(alloc, job, history.as_slice(), *line).ok(),
+    history: &Option<Vec<u8>>,
+) -> Option<Stop> {
+    match (status, job, history) {
+        (HostStatus::NotARun(line), Some(job), Some(history)) if *line > 0 => {
+            stop_in(alloc, job, history.as_slice(), *line).ok()
+        }
         _ => None,
     }
 }
 
 /// Says on standard error what was refused, or what went wrong in the run, if anything was or did.
-/// The store's files stay.
-fn report<R: AllocGlobal + Files + Eprint, S: Store>(
+fn report<R: AllocGlobal + Eprint, S: Store>(
     rt: &R,
     words: &[String],
-    store: &mut S,
-    status: &HostStatus,
-    job: &Option<Job>,
-    journal: &Journal,
-)
-    ensures files { S.holds store.new ≡ S.holds store.old }
-    ensures count { (S.faults store.old).count ≤ (S.faults store.new).count }
-{
+    store: &S,
+    outcome: &Outcome,
+) {
+    let Outcome {
+        status,
+        job,
+        texts,
+        history,
+        ..
+    } = outcome;
     if let HostStatus::Done = status {
-        print_notes(rt, words, store, job, journal);
+        print_notes(rt, words, outcome);
         return;
     }
-    let stop = stop_of(rt, words, store, status, job);
-    print_refusal(rt, Program::Host, words, store, status, stop);
+    let stop = stop_of(rt.alloc(), status, job, history);
+    print_refusal(rt, Program::Host, words, store, status, texts, stop);
 }
 
 /// Runs the script that the words name, says on standard error what was refused or went wrong, if
@@ -151,7 +144,7 @@ fn respond<R, S: Store, W: Say, G: Gate + Sync>(
     gate: &G,
 ) -> (HostStatus, ExitCode)
 where
-    R: AllocGlobal + Files + Eprint + Threads + Wait + Sync,
+    R: AllocGlobal + Eprint + Threads + Wait + Sync,
     ensures { EndsWith (λ (journal : List Entry). record {
       words = bytes_of_words words.now;
       before = outside S.holds S.faults W.said W.faults store.old say.old;
@@ -159,14 +152,18 @@ where
       journal = journal;
     }) result.0 (exit_status result.1) }
 {
+    let outcome = host_main(rt, rt.alloc(), words, store, say, gate);
+    report(rt, words, store, &outcome);
     let Outcome {
         status,
         journal,
-        job,
-    } = host_main(rt, rt.alloc(), words, store, say, gate);
-    report(rt, words, store, &status, &job, &journal);
-    // Giving back a long journal piece by piece would take a good part of the run.
+        config,
+        ..
+    } = outcome;
+    // Giving back a long journal and the logs of nodes piece by piece would take a good part of the
+    // run.
     mem::forget(journal);
+    mem::forget(config);
     let exit = exit_code(&status);
     (status, exit)
 }

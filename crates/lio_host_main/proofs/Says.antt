@@ -268,11 +268,3 @@ says-unfinished call order ran other made same finishes = absurd finishes
 -- an answer that is equal to one says the same
 pub says-same : (call : Call) (status got : Status) → got ≡ status → Says call status → Says call got
 says-same call status got is says = subst (λ (s : Status). Says call s) (sym is) says
-
--- the call, where the store then tells this
-abbrev pub later : Call → Option FileMap → Call
-later call told = record call { after = record call.after { told = told } }
-
--- what an answer says of a call stays so where files are read once more
-pub says-later : (call : Call) (status : Status) (told : Option FileMap) → told ≡ call.after.told → Says call status → Says (later call told) status
-says-later call status told same says = subst (λ (t : Option FileMap). Says (later call t) status) (sym same) says

@@ -3,7 +3,7 @@ use Rattle.std.specs.Prelude.{◌≡◌, ◌<◌, ◌≤◌, ℕ, List, [], leng
 use Rattle.lio_values.specs.declared.entry.Entry.{Entry}
 use Rattle.lio_outside.specs.FileMap.{FileMap}
 use Rattle.lio_outside.specs.Call.{Outside}
-use Rattle.lio_outside.specs.Count.{Faults, FailedAt, Rose}
+use Rattle.lio_outside.specs.Count.{FailedAt, Rose}
 use Rattle.lio_outside.specs.Said.{said_with, SaidPartly}
 use Rattle.lio_outside.specs.Outputs.{kept, KeepsFirst, StopsAt}
 use Rattle.lio_front.specs.Laws.{HoldsEachFile}
@@ -166,18 +166,12 @@ abbrev pub Completes : Call → Status → FileMap → Type 0
 Completes call status files = (order : Order) → verdict files call.words ≡ Ok order → CanBeRun order.way order
     → (Rose call.before.faults.count call.after.faults.count → ⊥) → (Rose call.before.say_faults call.after.say_faults → ⊥) → (status ≡ Done) ⊎ (status ≡ NoMemory)
 
--- a call up to the moment at which its store had these faults
-abbrev pub until : Call → Faults → Call
-until call faults = record call { after = record call.after { faults = faults } }
-
--- A call ends the program with an answer and its exit status. The answer was there when the store had some faults, after which files were read once more, for what is told of it. Up to then it says of the
--- call, with some journal, what it is to say, and where the store tells its files follows the verdict and is Done where it has to be.
+-- A call ends the program with an answer and its exit status: of the call, with some journal, the answer says what it is to say, and where the store tells its files it follows the verdict and is Done where it has to be.
 pub record EndsWith (call : List Entry → Call) (status : Status) (exit : ℕ) : Type 0 where
   pub journal : List Entry
-  pub faults : Faults
-  pub says : Says (until (call journal) faults) status
-  pub follows : IfSome (call journal).before.told (Follows (until (call journal) faults) status)
-  pub completes : IfSome (call journal).before.told (Completes (until (call journal) faults) status)
+  pub says : Says (call journal) status
+  pub follows : IfSome (call journal).before.told (Follows (call journal) status)
+  pub completes : IfSome (call journal).before.told (Completes (call journal) status)
   pub bad_words : command_of (call journal).words ≡ None → status ≡ BadWords
-  pub no_fewer : faults.count ≤ (call journal).after.faults.count
+  pub count : (call journal).before.faults.count ≤ (call journal).after.faults.count
   pub exit_is : exit ≡ exit_status status

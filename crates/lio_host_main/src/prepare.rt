@@ -16,7 +16,7 @@ use crate::order::{Loaded, Order, Way};
 use crate::workload_files::{POLICY, SCRIPT, workload};
 use lio_audit::MOST_HISTORY_BYTES;
 use lio_clauses::NoMemory;
-use lio_front::{Command, Mode, Source, Status, clash, fetch, load, load_inputs};
+use lio_front::{Command, Mode, Source, Status, Texts, clash, fetch, load, load_inputs};
 use lio_outside::Store;
 use lio_policy::Policy;
 use lio_start::Job;
@@ -130,6 +130,7 @@ fn load_from<S: Store>(
     policy: &[u8],
     script: &[u8],
     command: Command<'_>,
+    texts: &mut Texts,
 ) -> Result<Loaded, Status>
     ensures files { S.holds store.new ≡ S.holds store.old }
     ensures count { (S.faults store.old).count ≤ (S.faults store.new).count }
@@ -139,7 +140,7 @@ fn load_from<S: Store>(
         (loading_from policy.now script.now (named command.entry))
         (S.faults store.old) (S.faults store.new) status) }
 {
-    let front = load(alloc, store, policy, script, label_of(command))?;
+    let front = load(alloc, store, policy, script, label_of(command), texts)?;
     match take_inputs(alloc, store, command, &front.policy) {
         Ok(inputs) => Ok(Loaded {
             job: Job::of(front.policy, front.script, inputs),
@@ -155,6 +156,7 @@ fn load_source<S: Store>(
     alloc: Global,
     store: &mut S,
     command: Command<'_>,
+    texts: &mut Texts,
 ) -> Result<Loaded, Status>
     requires { IsSized (source_named command.source) }
     ensures files { S.holds store.new ≡ S.holds store.old }
@@ -168,10 +170,10 @@ fn load_source<S: Store>(
         (loading (named command.entry)) (S.faults store.old) (S.faults store.new) status) }
 {
     match command.source {
-        Source::Files(policy, script) => load_from(alloc, store, policy, script, command),
+        Source::Files(policy, script) => load_from(alloc, store, policy, script, command, texts),
         Source::Made(size) => {
             let mut files = workload(alloc, size)?;
-            load_from(alloc, &mut files, POLICY, SCRIPT, command)
+            load_from(alloc, &mut files, POLICY, SCRIPT, command, texts)
         }
     }
 }
@@ -193,11 +195,13 @@ fn load_way<S: Store>(alloc: Global, store: &mut S, mode: Mode<'_>) -> Result<Wa
     }
 }
 
-/// Prepares what a command asks for. The store's files stay.
+/// Prepares what a command asks for. The bytes of the policy and of the script are handed back as far
+/// as they were read, whatever the answer. The store's files stay.
 pub fn prepare_order<'a, S: Store>(
     alloc: Global,
     store: &mut S,
     command: Command<'a>,
+    texts: &mut Texts,
 ) -> Result<Order<'a>, Status>
     requires sized { IsSized (source_named command.source) }
     requires counted { IsCounted (mode_named command.mode) }
@@ -209,7 +213,7 @@ pub fn prepare_order<'a, S: Store>(
     ensures err { IfErr result (λ status. IsRefusedBy (named command.entry) (S.holds store.old)
         (S.faults store.old) (S.faults store.new) status) }
 {
-    let Loaded { job, observer } = load_source(alloc, store, command)?;
+    let Loaded { job, observer } = load_source(alloc, store, command, texts)?;
     match load_way(alloc, store, command.mode) {
         Ok(way) => Ok(Order {
             job,

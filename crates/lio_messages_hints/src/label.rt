@@ -14,8 +14,15 @@ pub(crate) fn label_text_mistake(alloc: Global, names: &Names, place: usize, tex
     }
     match Label::read(alloc, text, names) {
         Ok(_) => Ok(None),
-        Err(fault) => fault_told(alloc, names, place, text, fault),
+        Err(fault) => fault_told(alloc, names, place, text, Part::Label, fault),
     }
+}
+
+/// What a text is to be.
+#[derive(Clone, Copy, PartialEq, Eq)]
+enum Part {
+    Label,
+    Formula,
 }
 
 /// What is wrong with the text of a formula, which stands at a place.
@@ -27,12 +34,19 @@ pub(crate) fn formula_text_mistake(
 ) -> Found {
     match Formula::read(alloc, text, names) {
         Ok(_) => Ok(None),
-        Err(fault) => fault_told(alloc, names, place, text, fault),
+        Err(fault) => fault_told(alloc, names, place, text, Part::Formula, fault),
     }
 }
 
 /// The fault of a text, which stands at a place.
-fn fault_told(alloc: Global, names: &Names, place: usize, text: &[u8], fault: TextFault) -> Found {
+fn fault_told(
+    alloc: Global,
+    names: &Names,
+    place: usize,
+    text: &[u8],
+    part: Part,
+    fault: TextFault,
+) -> Found {
     match fault {
         TextFault::NoMemory => Err(NoMemory),
         TextFault::Wide => told(alloc, place, "more than 64 clauses stand here"),
@@ -42,7 +56,7 @@ fn fault_told(alloc: Global, names: &Names, place: usize, text: &[u8], fault: Te
         }
         TextFault::BadText(at) => {
             let at = at as usize;
-            no_token(alloc, place, token_at(text, at), at)
+            no_token(alloc, place, text, part, at)
         }
     }
 }
@@ -92,9 +106,42 @@ fn no_principal(alloc: Global, names: &Names, place: usize, token: &[u8], at: us
     Ok(Some(Mistake { place, text }))
 }
 
+/// Whether a parenthesis is open at a place of a text.
+fn is_open(text: &[u8], at: usize) -> bool {
+    let mut is_open = false;
+    for byte in text.get(..at).unwrap_or(b"") {
+        match byte {
+            b'(' => is_open = true,
+            b')' => is_open = false,
+            _ => {}
+        }
+    }
+    is_open
+}
+
+/// Whether a name or a constant stands before a place of a text.
+fn is_behind_word(text: &[u8], at: usize) -> bool {
+    for byte in text.get(..at).unwrap_or(b"").iter().rev() {
+        if *byte != b' ' {
+            return is_of_word(*byte);
+        }
+    }
+    false
+}
+
 /// A token that may not stand at its place.
-fn no_token(alloc: Global, place: usize, token: &[u8], at: usize) -> Found {
+fn no_token(alloc: Global, place: usize, text: &[u8], part: Part, at: usize) -> Found {
+    let token = token_at(text, at);
     let template = match token {
+        [b'/', b'\\'] if is_open(text, at) => "parentheses hold \"\\/\" alone",
+        [] | [b'%', b'%'] if is_open(text, at) && is_behind_word(text, at) => {
+            "\")\" is missing before this"
+        }
+        [b'%', b'%'] if is_open(text, at) => "a principal is missing before this",
+        [b'%', b'%'] if part == Part::Formula => {
+            "a privilege is one formula, without \"%%\" and a second part"
+        }
+        [b'%'] if part == Part::Label => "\"%%\" stands between the two parts of a label",
         [] => "the label ends too early; a principal, \"True\" or \"False\" is missing",
         [b'\\', b'/'] => {
             "\"\\/\" stands between principals in parentheses alone, as in (alice \\/ bob)"

@@ -13,4 +13,4 @@ pub use bytes::Bytes;
 pub use message::{Message, Piece, filled};
 pub use mistake::Mistake;
 pub use policy::{PolicyMistake, policy_mistake};
-pub use script::{line_mistake, script_mistake};
+pub use script::{line_at, line_mistake, script_mistake};

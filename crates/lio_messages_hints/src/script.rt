@@ -3,6 +3,7 @@
 mod expression;
 mod first;
 mod form;
+mod hints;
 mod label;
 mod line;
 mod operand;
@@ -12,5 +13,6 @@ mod similar;
 mod text;
 mod words;
 
+pub use hints::line_at;
 pub use line::line_mistake;
 pub use rules::script_mistake;

@@ -2,10 +2,10 @@
 //! which channel received nothing. What a note says has no contract; rows show it.
 #![tactic(auto)]
 
+mod found;
 mod notes;
 mod printer;
 mod reason;
-mod replay;
 mod seen;
 mod source;
 mod trace;

@@ -1,8 +1,8 @@
 //! The notes on a run.
 
+use crate::found::Found;
 use crate::printer::Printer;
 use crate::reason::kind_word;
-use crate::replay::{Found, look_again};
 use crate::source::{Source, SourceLine};
 use crate::trace::fault_of;
 use crate::troubles::{Ending, Trouble, Troubles};
@@ -11,6 +11,7 @@ use lio_events::Journal;
 use lio_messages_hints::Piece;
 use lio_policy::{FileEntry, Policy, TaskEntry};
 use lio_start::Job;
+use lio_task::Config;
 use lio_values::{Act, Entry, FaultKind};
 use std::alloc::Global;
 
@@ -211,17 +212,18 @@ impl<'r> About<'r> {
     }
 }
 
-/// The notes on the run of a job with this journal, a line or a few for each of its troubles, and
-/// how many more there are. Where a line of the script is to be shown, its file's text is.
+/// The notes on the run of a job that has this journal and ended with this configuration, a line or
+/// a few for each of its troubles, and how many more there are. Where a line of the script is to be
+/// shown, its file's text is.
 pub fn notes_text(
     alloc: Global,
     job: &Job,
     journal: &Journal,
+    config: &Config,
     troubles: &Troubles,
     source: Source<'_>,
 ) -> Result<String, NoMemory> {
     let entries = journal.entries();
-    let found = look_again(alloc, job, entries, troubles.first.as_slice())?;
     let policy = job.policy();
     let about = About {
         policy,
@@ -229,8 +231,9 @@ pub fn notes_text(
         source,
     };
     let mut printer = Printer::new(alloc, &policy.names);
-    for found in &found {
-        about.print_note(&mut printer, found);
+    for trouble in &troubles.first {
+        let found = Found::of(alloc, job, config, entries, *trouble)?;
+        about.print_note(&mut printer, &found);
     }
     if troubles.more > 0 {
         let more = Piece::Number(troubles.more as u64);

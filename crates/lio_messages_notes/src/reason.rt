@@ -7,8 +7,7 @@ use lio_labels::{Label, Priv};
 use lio_messages_hints::Piece;
 use lio_start::Job;
 use lio_syntax_lines::{One, Operand, Simple, Two};
-use lio_task::Task;
-use lio_task_control::{Environment, Front};
+use lio_task_control::{Environment, Front, Stood};
 use lio_values::{FaultKind, Plain};
 
 /// The word of a kind of fault.
@@ -248,10 +247,11 @@ fn print_flow(
     }
 }
 
-/// Writes why a turn that a task is about to take throws a fault of a kind.
-pub(crate) fn print_reason(printer: &mut Printer<'_>, job: &Job, task: &Task, kind: &FaultKind) {
-    let environment = task.environment();
-    let front = task.front(job.script());
+/// Writes why a task threw a fault that nothing caught, where it stood then.
+pub(crate) fn print_reason(printer: &mut Printer<'_>, job: &Job, stood: &Stood) {
+    let environment = stood.environment();
+    let front = stood.front(job.script());
+    let kind = stood.kind();
     let (template, asked, left) = match kind {
         FaultKind::BadType => {
             print_bad_type(printer, environment, &front);

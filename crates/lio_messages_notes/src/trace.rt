@@ -16,11 +16,8 @@ pub(crate) struct Trace {
     pub last: Option<usize>,
     /// The turn before that one.
     pub before: Option<usize>,
-    pub has_ended: bool,
     /// How many tasks waited for it, were told a fault and went on.
     pub handlers: usize,
-    /// Whether something was sent to it.
-    pub has_received: bool,
 }
 
 /// What is known of a node that no turn has met.
@@ -29,9 +26,7 @@ const NOTHING: Trace = Trace {
     turns: 0,
     last: None,
     before: None,
-    has_ended: false,
     handlers: 0,
-    has_received: false,
 };
 
 /// The fault in a content, if there is one.
@@ -74,14 +69,6 @@ fn child_of(entry: &Entry) -> Option<u32> {
     }
 }
 
-/// The channel to which a turn sent something, if it did.
-fn receiver_of(entry: &Entry) -> Option<u32> {
-    match (&entry.act, &entry.reply) {
-        (Act::Send(_), Reply::Done) => entry.target,
-        _ => None,
-    }
-}
-
 /// The node with a number, where there is one.
 fn node(traces: &mut Vec<Trace>, number: Option<u32>) -> Option<&mut Trace> {
     traces.get_mut(number? as usize)
@@ -91,7 +78,6 @@ fn node(traces: &mut Vec<Trace>, number: Option<u32>) -> Option<&mut Trace> {
 fn note_actor(traces: &mut Vec<Trace>, place: usize, entry: &Entry) -> Option<usize> {
     let trace = node(traces, Some(entry.actor))?;
     trace.turns = trace.turns.saturating_add(1);
-    trace.has_ended = matches!(&entry.act, Act::Ended(_));
     trace.before = trace.last;
     trace.last = Some(place);
     trace.before
@@ -99,16 +85,16 @@ fn note_actor(traces: &mut Vec<Trace>, place: usize, entry: &Entry) -> Option<us
 
 /// Notes the turn at a place.
 fn note_turn(traces: &mut Vec<Trace>, entries: &[Entry], place: usize, entry: &Entry) {
+    let before = note_actor(traces, place, entry);
+    if let Act::Step = &entry.act {
+        return;
+    }
     if let Some(child) = node(traces, child_of(entry)) {
         child.born = Some(place);
-    }
-    if let Some(channel) = node(traces, receiver_of(entry)) {
-        channel.has_received = true;
     }
     if let Some(task) = node(traces, fault_source(entry)) {
         task.handlers = task.handlers.saturating_add(1);
     }
-    let before = note_actor(traces, place, entry);
     // Who ends by a fault didn't catch the one that it was told in its turn before.
     if fault_of(entry).is_some()
         && let Some(before) = before

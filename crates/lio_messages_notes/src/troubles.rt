@@ -1,11 +1,13 @@
-//! What went wrong in a run, by its journal.
+//! What went wrong in a run, by its last configuration, and by its journal where a task failed.
 
 use crate::trace::{Trace, fault_of, fault_source, traces_of};
+use lio_cells::State;
 use lio_clauses::NoMemory;
 use lio_events::Journal;
 use lio_policy::Policy;
 use lio_start::Job;
-use lio_values::Entry;
+use lio_task::{Config, Holder};
+use lio_values::{Content, Entry};
 use std::alloc::Global;
 
 /// How many notes there are at most.
@@ -76,9 +78,11 @@ impl Troubles {
     }
 
     /// Adds the tasks that haven't ended, by number.
-    fn add_waiting(&mut self, policy: &Policy, traces: &[Trace]) -> Result<(), NoMemory> {
-        for (number, trace) in traces.iter().enumerate() {
-            if !trace.has_ended && (trace.born.is_some() || is_of_policy(policy, number)) {
+    fn add_waiting(&mut self, config: &Config) -> Result<(), NoMemory> {
+        for (number, holder) in config.holders.iter().enumerate() {
+            if let Some(task) = &holder.task
+                && !task.has_ended()
+            {
                 self.add(Trouble::Waits(number_of(number)))?;
             }
         }
@@ -86,10 +90,10 @@ impl Troubles {
     }
 
     /// Adds the channels that received nothing, in the policy's order.
-    fn add_silent(&mut self, policy: &Policy, traces: &[Trace]) -> Result<(), NoMemory> {
+    fn add_silent(&mut self, policy: &Policy, config: &Config) -> Result<(), NoMemory> {
         let channels = policy.channels.as_slice().len();
-        for (number, trace) in traces.iter().take(channels).enumerate() {
-            if !trace.has_received {
+        for (number, holder) in config.holders.iter().take(channels).enumerate() {
+            if holder.node.log().is_empty() {
                 self.add(Trouble::Silent(number_of(number)))?;
             }
         }
@@ -121,23 +125,43 @@ fn number_of(place: usize) -> u32 {
     u32::try_from(place).unwrap_or(u32::MAX)
 }
 
-/// Whether a node is a task of the policy, which stand behind the channels.
-fn is_of_policy(policy: &Policy, number: usize) -> bool {
-    let channels = policy.channels.as_slice().len();
-    number >= channels && number - channels < policy.tasks.as_slice().len()
+/// Whether what stands at a number is the job of a task that ended by a fault.
+fn has_failed(holder: &Holder) -> bool {
+    matches!(
+        holder.node.state(),
+        State::Job(_, Some(Content::Faulted(_)))
+    )
 }
 
-/// What went wrong in the run of a job with this journal.
-pub fn troubles_of(alloc: Global, job: &Job, journal: &Journal) -> Result<Troubles, NoMemory> {
+/// Whether a task ended by a fault.
+fn has_any_failed(config: &Config) -> bool {
+    for holder in &config.holders {
+        if has_failed(holder) {
+            return true;
+        }
+    }
+    false
+}
+
+/// What went wrong in the run of a job that has this journal and ended with this configuration.
+/// Where no task ended by a fault the journal isn't looked at.
+pub fn troubles_of(
+    alloc: Global,
+    job: &Job,
+    journal: &Journal,
+    config: &Config,
+) -> Result<Troubles, NoMemory> {
     let policy = job.policy();
-    let entries = journal.entries();
-    let traces = traces_of(alloc, policy, entries)?;
     let mut troubles = Troubles {
         first: Vec::new(alloc),
         more: 0,
     };
-    troubles.add_endings(traces.as_slice(), entries)?;
-    troubles.add_waiting(policy, traces.as_slice())?;
-    troubles.add_silent(policy, traces.as_slice())?;
+    if has_any_failed(config) {
+        let entries = journal.entries();
+        let traces = traces_of(alloc, policy, entries)?;
+        troubles.add_endings(traces.as_slice(), entries)?;
+    }
+    troubles.add_waiting(config)?;
+    troubles.add_silent(policy, config)?;
     Ok(troubles)
 }

@@ -7,9 +7,9 @@ use crate::program::Program;
 use crate::stop::Stop;
 use crate::task::{WrongTask, wrong_task};
 use lio_clauses::NoMemory;
-use lio_front::Status;
+use lio_front::{Status, Texts};
 use lio_messages_hints::{Piece, filled};
-use lio_outside::Trouble;
+use lio_outside::{Store, Trouble};
 use lio_policy::{Policy, read_policy};
 use lio_policy_draft::PolicyFault;
 use lio_values::Text;
@@ -30,14 +30,6 @@ pub enum Detail {
     Fault(FileFault),
     /// The line at which a history or a view stops.
     Stop(Stop),
-}
-
-/// The texts of the policy and of the script, as far as they are there and say something of a
-/// refusal.
-#[derive(Clone, Copy)]
-pub struct Texts<'a> {
-    pub policy: Option<&'a [u8]>,
-    pub script: Option<&'a [u8]>,
 }
 
 /// What is told of a trouble with a file.
@@ -97,37 +89,40 @@ fn texts_say(
 }
 
 /// The channels that are written before the file with a name, in the policy that a text is.
-fn channels_of(alloc: Global, policy: Option<&[u8]>, name: &Text) -> Option<Channels> {
-    match read_policy(alloc, policy?) {
+fn channels_of(alloc: Global, policy: &Option<Vec<u8>>, name: &Text) -> Option<Channels> {
+    let Some(policy) = policy else {
+        return None;
+    };
+    match read_policy(alloc, policy.as_slice()) {
         Ok(policy) => Some(channels_before(&policy, name)),
         Err(_) => None,
     }
 }
 
-/// What the trouble with a file, the texts, and the line at which a history or a view stops say of
-/// a refusal.
+/// What the trouble with a file, the texts that were read, and the line at which a history or a
+/// view stops say of a refusal.
 pub fn detail_of(
     alloc: Global,
     status: &Status,
     why: Option<String>,
-    texts: Texts<'_>,
+    texts: &Texts,
     stop: Option<Stop>,
 ) -> Result<Detail, NoMemory> {
-    let Texts { policy, script } = texts;
-    match (status, policy, script) {
+    match (status, &texts.policy, &texts.script) {
         (Status::ReadFault(_), _, _) => {
             let channels = None;
             Ok(Detail::Fault(FileFault { why, channels }))
         }
-        (Status::WriteFault(name), _, _) => {
+        (Status::WriteFault(name), policy, _) => {
             let channels = channels_of(alloc, policy, name);
             Ok(Detail::Fault(FileFault { why, channels }))
         }
         (Status::BadPolicy(rule, entry), Some(policy), _) => {
-            Ok(Detail::Entry(wrong_entry(alloc, policy, *rule, *entry)?))
+            let found = wrong_entry(alloc, policy.as_slice(), *rule, *entry)?;
+            Ok(Detail::Entry(found))
         }
         (Status::BadScript(_, _) | Status::BadStart(_, _), Some(policy), Some(script)) => {
-            texts_say(alloc, status, policy, script)
+            texts_say(alloc, status, policy.as_slice(), script.as_slice())
         }
         (Status::NotARun(_) | Status::NotAView(_), _, _) => match stop {
             Some(stop) => Ok(Detail::Stop(stop)),
@@ -135,4 +130,33 @@ pub fn detail_of(
         },
         _ => Ok(Detail::Nothing),
     }
+}
+
+/// What stood in the way of a file, where the answer is that something did.
+fn trouble_of<S: Store>(
+    alloc: Global,
+    program: Program,
+    store: &S,
+    status: &Status,
+) -> Option<String> {
+    match (status, store.trouble()) {
+        (Status::ReadFault(_) | Status::WriteFault(_), Some(trouble)) => {
+            trouble_text(alloc, program, trouble).ok()
+        }
+        _ => None,
+    }
+}
+
+/// What helps to mend what was refused, by the trouble of the store, the texts that were read, and
+/// the line at which a history or a view stops.
+pub(crate) fn refusal_detail<S: Store>(
+    alloc: Global,
+    program: Program,
+    store: &S,
+    status: &Status,
+    texts: &Texts,
+    stop: Option<Stop>,
+) -> Detail {
+    let why = trouble_of(alloc, program, store, status);
+    detail_of(alloc, status, why, texts, stop).unwrap_or(Detail::Nothing)
 }

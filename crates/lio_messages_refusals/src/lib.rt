@@ -2,7 +2,6 @@
 //! mend it. What it says has no contract; rows show it.
 #![tactic(auto)]
 
-mod again;
 mod channels;
 mod detail;
 mod entry;
@@ -14,9 +13,8 @@ mod stop;
 mod task;
 mod words;
 
-pub use again::{bytes_again, script_text};
-pub use detail::{Detail, Texts, detail_of, trouble_text};
+pub use detail::{Detail, detail_of, trouble_text};
 pub use program::Program;
 pub use refusal::{print_refusal, refusal_text};
 pub use stop::{Stop, stop_at};
-pub use words::{futures_words, history_name, script_name};
+pub use words::{futures_words, script_name};

@@ -3,9 +3,8 @@
 use crate::program::Program;
 use crate::rules::script_rule;
 use lio_clauses::NoMemory;
-use lio_messages_hints::{Message, Mistake, Piece, script_mistake};
+use lio_messages_hints::{Message, Mistake, Piece, line_at, script_mistake};
 use lio_policy::Policy;
-use lio_syntax::line_at;
 use lio_values::Text;
 use std::alloc::Global;
 

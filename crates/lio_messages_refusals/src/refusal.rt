@@ -1,10 +1,7 @@
 //! What is printed of a refusal.
 
-ghost use Rattle.std.specs.Prelude.{◌≡◌, ◌≤◌};
-
-use crate::again::refusal_detail;
 use crate::channels::{FileFault, tell_unread, tell_unwritten};
-use crate::detail::Detail;
+use crate::detail::{Detail, refusal_detail};
 use crate::entry::{tell_policy, tell_policy_rule};
 use crate::line::{tell_script, tell_script_rule};
 use crate::program::Program;
@@ -12,12 +9,11 @@ use crate::stop::{Stop, tell_line, tell_size, tell_stop};
 use crate::task::{tell_some_task, tell_task};
 use crate::words::{FileNames, file_names, tell_words};
 use lio_clauses::NoMemory;
-use lio_front::{Shown, Status};
+use lio_front::{Shown, Status, Texts};
 use lio_messages_hints::Message;
 use lio_outside::Store;
 use lio_values::Text;
 use std::alloc::Global;
-use std::fs::Files;
 
 /// As what the words name a file.
 #[derive(Clone, Copy)]
@@ -201,26 +197,23 @@ pub fn refusal_text(
 }
 
 /// Prints a refusal on standard error, if there was one; without memory for its words, the answer
-/// alone. The line at which a history or a view stops is given. The store's files stay.
-pub fn print_refusal<R: AllocGlobal + Files + Eprint, S: Store>(
+/// alone. It is told by the texts that were read, the store's trouble, and the line at which a
+/// history or a view stops.
+pub fn print_refusal<R: AllocGlobal + Eprint, S: Store>(
     rt: &R,
     program: Program,
     words: &[String],
-    store: &mut S,
+    store: &S,
     status: &Status,
+    texts: &Texts,
     stop: Option<Stop>,
-)
-    ensures files { S.holds store.new ≡ S.holds store.old }
-    ensures count { (S.faults store.old).count ≤ (S.faults store.new).count }
-{
+) {
     if let Status::Done = status {
-        drop(stop);
         return;
     }
     let alloc = rt.alloc();
-    let detail = refusal_detail(alloc, rt, program, store, status, words, stop);
+    let detail = refusal_detail(alloc, program, store, status, texts, stop);
     let text = refusal_text(alloc, program, status, words, &detail);
-    drop(detail);
     // A refusal that can't be printed still has its exit status.
     let _ = match text {
         Ok(text) => eprintln!(rt; "{text}"),

@@ -86,11 +86,6 @@ pub fn script_name(words: &[String]) -> Option<&str> {
     }
 }
 
-/// The name of the history's file that is taken again, where the words of the host name one.
-pub fn history_name(words: &[String]) -> Option<&str> {
-    file_names(Program::Host, words).record
-}
-
 /// Tells of a word that is to be a label, and is none.
 fn tell_label(message: &mut Message, label: &str) {
     message.words("\"");

@@ -2,7 +2,7 @@
 //! that the observer sees, and says how many lines it has.
 #![tactic(auto)]
 
-ghost use Rattle.std.specs.Prelude.{◌≡◌, ◌≤◌};
+ghost use Rattle.std.specs.Prelude.{◌≡◌};
 ghost use Rattle.std.specs.Process.{exit_status};
 ghost use Rattle.lio_front.specs.Sorted.{bytes_of_words};
 ghost use Rattle.lio_observe_main.specs.Answers.{EndsWith};
@@ -14,10 +14,9 @@ mod stop;
 use crate::stop::stop_of;
 use lio_clauses::NoMemory;
 use lio_messages_refusals::{Program, print_refusal};
-use lio_observe_main::{ObserveStatus, observe_main};
+use lio_observe_main::{ObserveStatus, Observed, observe_read};
 use lio_outside::{Say, Store};
 use lio_system::{RealSay, RealStore};
-use std::fs::Files;
 use std::process::ExitCode;
 use std::{env, io};
 
@@ -38,23 +37,9 @@ fn exit_code(status: &ObserveStatus) -> ExitCode
     ExitCode::from(status.number())
 }
 
-/// Says on standard error what was refused, if anything was. The store's files stay.
-fn report<R: AllocGlobal + Files + Eprint, S: Store>(
-    rt: &R,
-    words: &[String],
-    store: &mut S,
-    status: &ObserveStatus,
-)
-    ensures files { S.holds store.new ≡ S.holds store.old }
-    ensures count { (S.faults store.old).count ≤ (S.faults store.new).count }
-{
-    let stop = stop_of(rt.alloc(), rt, store, status, words);
-    print_refusal(rt, Program::Observer, words, store, status, stop);
-}
-
 /// Checks what the words name, says on standard error what was refused, if anything was, and gives
 /// the answer and its exit status.
-fn respond<R: AllocGlobal + Files + Eprint, S: Store, W: Say>(
+fn respond<R: AllocGlobal + Eprint, S: Store, W: Say>(
     rt: &R,
     words: &[String],
     store: &mut S,
@@ -67,8 +52,17 @@ fn respond<R: AllocGlobal + Files + Eprint, S: Store, W: Say>(
       after = outside S.holds S.faults W.said W.faults store.new say.new;
     }) result.0 (exit_status result.1) }
 {
-    let status = observe_main(rt.alloc(), words, store, say);
-    report(rt, words, store, &status);
+    let Observed { status, read } = observe_read(rt.alloc(), words, store, say);
+    let stop = stop_of(rt.alloc(), &status, &read.claim);
+    print_refusal(
+        rt,
+        Program::Observer,
+        words,
+        store,
+        &status,
+        &read.texts,
+        stop,
+    );
     let exit = exit_code(&status);
     (status, exit)
 }

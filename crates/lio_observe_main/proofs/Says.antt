@@ -161,11 +161,3 @@ bad_words call SayFault (count, accepts, partly, rose) none = absurd (no-command
 bad_words call NoMemory ((command, named), same) none = absurd (no-command call.words command none named)
 bad_words call (NotAView line) (view, same) none = absurd (no-command call.words view.verdict.command none view.verdict.named)
 bad_words call other says none = absurd says
-
--- the call, where the store then tells this
-abbrev pub later : Call → Option FileMap → Call
-later call told = record call { after = record call.after { told = told } }
-
--- what an answer says of a call stays so where files are read once more
-pub says-later : (call : Call) (status : Status) (told : Option FileMap) → told ≡ call.after.told → Says call status → Says (later call told) status
-says-later call status told same says = subst (λ (t : Option FileMap). Says (later call t) status) (sym same) says

@@ -94,17 +94,11 @@ StopsTheCheck claim (NotAView line) = IsWrongAt claim line
 StopsTheCheck claim NoMemory = Unit {0}
 StopsTheCheck claim other = ⊥
 
--- a call up to the moment at which its store had these faults
-abbrev pub until : Call → Faults → Call
-until call faults = record call { after = record call.after { faults = faults } }
-
--- A call ends the program with an answer and its exit status. The answer was there when the store had some faults, after which files were read once more, for what is told of it. Up to then it says of the
--- call what it is to say, and where the store tells its files follows the verdict and is Done where it has to be.
+-- A call ends the program with an answer and its exit status: of the call the answer says what it is to say, and where the store tells its files it follows the verdict and is Done where it has to be.
 pub record EndsWith (call : Call) (status : Status) (exit : ℕ) : Type 0 where
-  pub faults : Faults
-  pub says : Says (until call faults) status
-  pub follows : IfSome call.before.told (Follows (until call faults) status)
-  pub completes : IfSome call.before.told (Completes (until call faults) status)
+  pub says : Says call status
+  pub follows : IfSome call.before.told (Follows call status)
+  pub completes : IfSome call.before.told (Completes call status)
   pub bad_words : command_of call.words ≡ None → status ≡ BadWords
-  pub no_fewer : faults.count ≤ call.after.faults.count
+  pub count : call.before.faults.count ≤ call.after.faults.count
   pub exit_is : exit ≡ exit_status status

@@ -10,7 +10,7 @@ ghost use Rattle.lio_observe_main.specs.Words.{named};
 use crate::inputs::load_texts;
 use crate::words::Command;
 use lio_audit::MOST_HISTORY_BYTES;
-use lio_front::{Front, Status, fetch, load};
+use lio_front::{Front, Status, Texts, fetch, load};
 use lio_labels::Label;
 use lio_outside::Store;
 use lio_policy::Policy;
@@ -57,11 +57,13 @@ fn load_held<S: Store>(
 }
 
 /// Fetches and reads what a command names: the policy, the observer's label, the script, the inputs
-/// that the observer sees, and its view. The store's files stay.
+/// that the observer sees, and its view. The bytes of the policy and of the script are handed back
+/// as far as they were read, whatever the answer. The store's files stay.
 pub fn load_claim<S: Store>(
     alloc: Global,
     store: &mut S,
     command: Command<'_>,
+    texts: &mut Texts,
 ) -> Result<Claim, Status>
     ensures files { S.holds store.new ≡ S.holds store.old }
     ensures count { (S.faults store.old).count ≤ (S.faults store.new).count }
@@ -75,7 +77,7 @@ pub fn load_claim<S: Store>(
         policy,
         script,
         observer,
-    } = load(alloc, store, command.policy, command.script, label)?;
+    } = load(alloc, store, command.policy, command.script, label, texts)?;
     let Some(observer) = observer else {
         drop(policy);
         drop(script);

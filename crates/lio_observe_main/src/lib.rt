@@ -12,5 +12,5 @@ mod words;
 pub use claim::{Claim, load_claim};
 pub use expected::expected_line;
 pub use lio_front::{Shown, Status as ObserveStatus};
-pub use observe::observe_main;
+pub use observe::{Observed, Read, observe_main, observe_read};
 pub use words::{Command, read_words};

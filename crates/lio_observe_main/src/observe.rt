@@ -10,18 +10,38 @@ ghost use Rattle.lio_observe_main.specs.Words.{command_of};
 
 use crate::ObserveStatus;
 use crate::checking::check_claim;
-use crate::claim::load_claim;
+use crate::claim::{Claim, load_claim};
 use crate::words::read_words;
-use lio_clauses::NoMemory;
+use lio_clauses::{NoMemory, assign};
+use lio_front::Texts;
 use lio_outside::{Say, Store};
 use lio_values::print_number;
 use std::alloc::Global;
+
+/// What an observer's call read.
+#[derive(Drop)]
+pub struct Read {
+    /// The bytes of the policy and of the script, as far as they were read.
+    pub texts: Texts,
+    /// What was checked, where all of it was read.
+    pub claim: Option<Claim>,
+}
+
+/// How an observer's call ended, and what it read.
+#[derive(Drop)]
+pub struct Observed {
+    /// The answer.
+    pub status: ObserveStatus,
+    /// What was read for it.
+    pub read: Read,
+}
 
 /// Checks the view that the words name, and gives the number of its lines. The store's files stay.
 fn check_words<S: Store>(
     alloc: Global,
     words: &[String],
     store: &mut S,
+    read: &mut Read,
 ) -> Result<u32, ObserveStatus>
     ensures files { S.holds store.new ≡ S.holds store.old }
     ensures count { (S.faults store.old).count ≤ (S.faults store.new).count }
@@ -32,9 +52,9 @@ fn check_words<S: Store>(
     let Some(command) = read_words(words) else {
         return Err(ObserveStatus::BadWords);
     };
-    let claim = load_claim(alloc, store, command)?;
+    let claim = load_claim(alloc, store, command, &mut read.texts)?;
     let lines = check_claim(alloc, &claim);
-    drop(claim);
+    assign(&mut read.claim, Some(claim));
     lines
 }
 
@@ -61,13 +81,8 @@ fn say_lines<W: Say>(alloc: Global, say: &mut W, lines: u32) -> Result<(), Obser
     Ok(())
 }
 
-/// What `observe_main` answers.
-fn answer<S: Store, W: Say>(
-    alloc: Global,
-    words: &[String],
-    store: &mut S,
-    say: &mut W,
-) -> ObserveStatus
+/// What `observe_read` answers.
+fn answer<S: Store, W: Say>(alloc: Global, words: &[String], store: &mut S, say: &mut W) -> Observed
     ensures files { S.holds store.new ≡ S.holds store.old }
     ensures count { (S.faults store.old).count ≤ (S.faults store.new).count }
     ensures say_count { W.faults say.old ≤ W.faults say.new }
@@ -75,16 +90,54 @@ fn answer<S: Store, W: Say>(
       words = bytes_of_words words.now;
       before = outside S.holds S.faults W.said W.faults store.old say.old;
       after = outside S.holds S.faults W.said W.faults store.new say.new;
-    }) result }
+    }) result.status }
 {
-    let lines = match check_words(alloc, words, store) {
+    let mut read = Read {
+        texts: Texts::none(),
+        claim: None,
+    };
+    let lines = match check_words(alloc, words, store, &mut read) {
         Ok(lines) => lines,
-        Err(status) => return status,
+        Err(status) => return Observed { status, read },
     };
     match say_lines(alloc, say, lines) {
-        Ok(()) => ObserveStatus::Done,
-        Err(status) => status,
+        Ok(()) => Observed {
+            status: ObserveStatus::Done,
+            read,
+        },
+        Err(status) => Observed { status, read },
     }
+}
+
+/// Does what `observe_main` does, and hands back what was read for it. The store's files stay.
+pub fn observe_read<S: Store, W: Say>(
+    alloc: Global,
+    words: &[String],
+    store: &mut S,
+    say: &mut W,
+) -> Observed
+    ensures files { S.holds store.new ≡ S.holds store.old }
+    ensures count { (S.faults store.old).count ≤ (S.faults store.new).count }
+    ensures say_count { W.faults say.old ≤ W.faults say.new }
+    ensures says { Says (record {
+      words = bytes_of_words words.now;
+      before = outside S.holds S.faults W.said W.faults store.old say.old;
+      after = outside S.holds S.faults W.said W.faults store.new say.new;
+    }) result.status }
+    ensures follows { IfSome (S.holds store.old) (Follows (record {
+      words = bytes_of_words words.now;
+      before = outside S.holds S.faults W.said W.faults store.old say.old;
+      after = outside S.holds S.faults W.said W.faults store.new say.new;
+    }) result.status) }
+    ensures completes { IfSome (S.holds store.old) (Completes (record {
+      words = bytes_of_words words.now;
+      before = outside S.holds S.faults W.said W.faults store.old say.old;
+      after = outside S.holds S.faults W.said W.faults store.new say.new;
+    }) result.status) }
+    ensures bad_words { command_of (bytes_of_words words.now) ≡ None
+        → result.status ≡ ObserveStatus.BadWords }
+{
+    answer(alloc, words, store, say)
 }
 
 /// Checks that the bytes of a file are what an observer sees of a complete run, by the policy, the
@@ -117,5 +170,6 @@ pub fn observe_main<S: Store, W: Say>(
     ensures bad_words { command_of (bytes_of_words words.now) ≡ None
         → result ≡ ObserveStatus.BadWords }
 {
-    answer(alloc, words, store, say)
+    let Observed { status, .. } = observe_read(alloc, words, store, say);
+    status
 }

@@ -1,7 +1,6 @@
 //! The cases of a text.
 
 use lio_clauses::NoMemory;
-use lio_messages_refusals::Texts;
 use std::alloc::{AllocError, Global};
 
 /// A part of a case: its word, what it is about, and its text.
@@ -80,16 +79,6 @@ pub(crate) struct Setting<'c> {
     pub kind: Kind,
     pub policy: &'c str,
     pub script: &'c str,
-}
-
-impl<'c> Setting<'c> {
-    /// The policy and the script, for what is printed of an answer.
-    pub fn texts(self) -> Texts<'c> {
-        Texts {
-            policy: Some(self.policy.as_bytes()),
-            script: Some(self.script.as_bytes()),
-        }
-    }
 }
 
 /// The first part with a word of a block, if it has one.

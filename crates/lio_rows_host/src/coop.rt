@@ -8,9 +8,9 @@ use crate::store::{say_of, store_of};
 use lio_async_main::{CoopOutcome, coop_main};
 use lio_clauses::NoMemory;
 use lio_events::Journal;
-use lio_front::Status;
+use lio_front::{Status, Texts};
 use lio_host_main::{Outcome, host_main};
-use lio_messages_refusals::{Program, Texts, futures_words};
+use lio_messages_refusals::{Program, futures_words};
 use lio_outside::{MemSay, MemStore};
 use lio_workers::OpenGate;
 use std::alloc::Global;
@@ -80,7 +80,7 @@ fn found_of(
     status: &Status,
     journal: &Journal,
     words: &[String],
-    texts: Texts<'_>,
+    texts: &Texts,
     say: &MemSay,
 ) -> Result<Found, NoMemory> {
     let mut found = Found::new(alloc, format!(in alloc; "{status}")?, status.number());
@@ -104,9 +104,12 @@ where
 {
     let alloc = rt.alloc();
     let mut say = say_of(alloc, case)?;
-    let CoopOutcome { status, journal } = coop_main(rt, alloc, words, store, &mut say);
-    let texts = setting.texts();
-    let mut found = found_of(alloc, case, &status, &journal, words, texts, &say);
+    let CoopOutcome {
+        status,
+        journal,
+        texts,
+    } = coop_main(rt, alloc, words, store, &mut say);
+    let mut found = found_of(alloc, case, &status, &journal, words, &texts, &say);
     let added = match &mut found {
         Ok(found) => add_host(rt, case, setting, words, &status, &journal, found),
         Err(NoMemory) => Err(NoMemory),

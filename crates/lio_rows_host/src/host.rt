@@ -13,6 +13,7 @@ use lio_messages_notes::{Source, notes_text, troubles_of};
 use lio_messages_refusals::{Program, Stop, stop_at};
 use lio_outside::{MemSay, MemStore};
 use lio_start::Job;
+use lio_task::Config;
 use lio_workers::OpenGate;
 use std::alloc::Global;
 use std::sync::Wait;
@@ -21,27 +22,17 @@ use std::thread::Threads;
 /// The notes on a run.
 fn notes(
     alloc: Global,
-    job: &Option<Job>,
+    job: &Job,
     journal: &Journal,
+    config: &Config,
     script: &str,
 ) -> Result<String, NoMemory> {
-    let Some(job) = job else {
-        return Ok(String::new(alloc));
-    };
-    let troubles = troubles_of(alloc, job, journal)?;
+    let troubles = troubles_of(alloc, job, journal, config)?;
     let source = Source {
         name: "s.lio",
         text: script.as_bytes(),
     };
-    notes_text(alloc, job, journal, &troubles, source)
-}
-
-/// The bytes of the history that is in a store, if it is there.
-fn history_of(alloc: Global, store: &MemStore) -> Result<Option<Vec<u8>>, NoMemory> {
-    match store.get(b"h") {
-        Some(bytes) => Ok(Some(Vec::from_slice(alloc, bytes)?)),
-        None => Ok(None),
-    }
+    notes_text(alloc, job, journal, config, &troubles, source)
 }
 
 /// The line at which a history stops, where the answer is that it does.
@@ -67,20 +58,21 @@ fn found_of(
     setting: Setting<'_>,
     outcome: &Outcome,
     words: &[String],
-    history: &Option<Vec<u8>>,
     say: &MemSay,
 ) -> Result<Found, NoMemory> {
     let status = &outcome.status;
-    let stop = stop_of(alloc, status, &outcome.job, history)?;
+    let stop = stop_of(alloc, status, &outcome.job, &outcome.history)?;
     let mut found = Found::new(alloc, format!(in alloc; "{status}")?, status.number());
-    let texts = setting.texts();
+    let texts = &outcome.texts;
     found.says = says(alloc, case, Program::Host, status, words, texts, stop)?;
     found.said = Vec::from_slice(alloc, say.said())?;
     found.entries = outcome.journal.entries().len() as u64;
     if let Status::Done = status {
         found.may_say = true;
-        if case.part("notes").is_some() {
-            found.notes = notes(alloc, &outcome.job, &outcome.journal, setting.script)?;
+        if case.part("notes").is_some()
+            && let (Some(job), Some(config)) = (&outcome.job, &outcome.config)
+        {
+            found.notes = notes(alloc, job, &outcome.journal, config, setting.script)?;
         }
     }
     Ok(found)
@@ -148,11 +140,10 @@ fn run_once<R: AllocGlobal + Threads + Wait + Sync>(
     store: &mut MemStore,
 ) -> Result<Found, NoMemory> {
     let alloc = rt.alloc();
-    let history = history_of(alloc, store)?;
     let mut say = say_of(alloc, case)?;
     let gate = NotingGate::new(case.number("held").unwrap_or(0));
     let outcome = host_main(rt, alloc, words, store, &mut say, &gate);
-    let found = found_of(alloc, case, setting, &outcome, words, &history, &say);
+    let found = found_of(alloc, case, setting, &outcome, words, &say);
     drop(outcome);
     let mut found = found?;
     found.gate = told_of(alloc, &gate)?;

@@ -1,6 +1,6 @@
 //! The jobs that words name.
 
-use lio_front::{Status, read_command};
+use lio_front::{Status, Texts, read_command};
 use lio_host_main::{Loaded, Order, prepare_order};
 use lio_outside::MemStore;
 use std::alloc::Global;
@@ -23,7 +23,7 @@ pub(crate) fn host_job(
     store: &mut MemStore,
 ) -> Result<Loaded, Status> {
     match read_command(words) {
-        Some(command) => Ok(loaded(prepare_order(alloc, store, command)?)),
+        Some(command) => Ok(loaded(prepare_order(alloc, store, command, &mut Texts::none())?)),
         None => Err(Status::BadWords),
     }
 }
@@ -35,7 +35,7 @@ pub(crate) fn futures_job(
     store: &mut MemStore,
 ) -> Result<Loaded, Status> {
     match lio_async_main::read_words(words) {
-        Some(command) => Ok(loaded(prepare_order(alloc, store, command)?)),
+        Some(command) => Ok(loaded(prepare_order(alloc, store, command, &mut Texts::none())?)),
         None => Err(Status::BadWords),
     }
 }

@@ -1,21 +1,15 @@
 //! Cases of the observer's check.
 
-use crate::cases::{Case, Setting};
+use crate::cases::Case;
 use crate::found::Found;
 use crate::says::says;
 use crate::store::say_of;
 use lio_clauses::NoMemory;
-use lio_front::Status;
-use lio_messages_refusals::{Program, Stop, Texts, stop_at};
-use lio_observe_main::{Claim, expected_line, load_claim, observe_main, read_words};
+use lio_front::{Status, Texts};
+use lio_messages_refusals::{Program, Stop, stop_at};
+use lio_observe_main::{Claim, Observed, expected_line, observe_read};
 use lio_outside::{MemSay, MemStore};
 use std::alloc::Global;
-
-/// What the words of a case name, where all of it is there.
-fn claim_of(alloc: Global, store: &mut MemStore, words: &[String]) -> Option<Claim> {
-    let command = read_words(words)?;
-    load_claim(alloc, store, command).ok()
-}
 
 /// The line at which a view stops, where the answer is that it does.
 fn stop_of(
@@ -38,7 +32,7 @@ fn found_of(
     case: &Case<'_>,
     status: &Status,
     words: &[String],
-    texts: Texts<'_>,
+    texts: &Texts,
     stop: Option<Stop>,
     say: &MemSay,
 ) -> Result<Found, NoMemory> {
@@ -52,18 +46,11 @@ fn found_of(
 pub(crate) fn run(
     alloc: Global,
     case: &Case<'_>,
-    setting: Setting<'_>,
     words: &[String],
     store: &mut MemStore,
 ) -> Result<Found, NoMemory> {
     let mut say = say_of(alloc, case)?;
-    let status = observe_main(alloc, words, store, &mut say);
-    let claim = claim_of(alloc, store, words);
-    let stop = stop_of(alloc, &status, &claim);
-    let found = match stop {
-        Ok(stop) => found_of(alloc, case, &status, words, setting.texts(), stop, &say),
-        Err(NoMemory) => Err(NoMemory),
-    };
-    drop(status);
-    found
+    let Observed { status, read } = observe_read(alloc, words, store, &mut say);
+    let stop = stop_of(alloc, &status, &read.claim)?;
+    found_of(alloc, case, &status, words, &read.texts, stop, &say)
 }

@@ -27,7 +27,7 @@ where
     match setting.kind {
         Kind::Host => host::run(rt, case, setting, words, store),
         Kind::Futures => coop::run(rt, case, setting, words, store),
-        Kind::Observer => observer::run(rt.alloc(), case, setting, words, store),
+        Kind::Observer => observer::run(rt.alloc(), case, words, store),
         Kind::Polls => polls::run(rt, case, words, store),
         Kind::Seats => seats::run(rt.alloc(), words, store),
         Kind::Table => tables::run(rt, words, store),

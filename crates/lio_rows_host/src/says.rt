@@ -2,8 +2,8 @@
 
 use crate::cases::Case;
 use lio_clauses::NoMemory;
-use lio_front::Status;
-use lio_messages_refusals::{Program, Stop, Texts, detail_of, refusal_text, trouble_text};
+use lio_front::{Status, Texts};
+use lio_messages_refusals::{Program, Stop, detail_of, refusal_text, trouble_text};
 use lio_outside::Trouble;
 use std::alloc::Global;
 use std::io;
@@ -28,7 +28,7 @@ pub(crate) fn says(
     program: Program,
     status: &Status,
     words: &[String],
-    texts: Texts<'_>,
+    texts: &Texts,
     stop: Option<Stop>,
 ) -> Result<String, NoMemory> {
     let why = why(alloc, case, program);

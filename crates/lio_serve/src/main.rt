@@ -8,6 +8,7 @@ use futures::test::MockTask;
 use lio_async_main::{first_machine, read_words};
 use lio_async_rounds::ViewStream;
 use lio_clauses::NoMemory;
+use lio_front::Texts;
 use lio_host_main::{HostStatus, Order, prepare_order};
 use lio_outside::Store;
 use lio_system::RealStore;
@@ -43,7 +44,7 @@ fn stream_of<S: Store>(
         observer,
         way,
         ..
-    } = prepare_order(alloc, store, command)?;
+    } = prepare_order(alloc, store, command, &mut Texts::none())?;
     let machine = first_machine(alloc, &job);
     match (machine, observer) {
         (Ok(machine), Some(observer)) => Ok(ViewStream::new(alloc, machine, observer)),

@@ -15,9 +15,9 @@ use Rattle.lio_values.proofs.ItemsLemmas.{erased-items}
 use Rattle.lio_values.specs.Erasure.{erase_content, erase_value}
 use Rattle.lio_syntax.specs.Statements.{Procedure}
 use Rattle.lio_cells.specs.declared.state.State.TheVariants.{Job}
-use Rattle.lio_task_control.specs.Environment.{bind_all}
-use Rattle.lio_task_control.specs.Items.{enter}
-use Rattle.lio_task_control.specs.Hiding.{hide_environment, hide_item}
+use Rattle.lio_syntax.specs.Environment.{bind_all}
+use Rattle.lio_syntax.specs.Items.{enter}
+use Rattle.lio_syntax.specs.Hiding.{hide_environment, hide_item}
 use Rattle.lio_calculus.specs.Task.{TaskState}
 use Rattle.lio_calculus.specs.Hiding.{hide_task}
 use Rattle.lio_calculus.specs.Step.{Cell, blank, body_of, parameters_of}

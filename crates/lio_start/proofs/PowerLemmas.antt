@@ -11,7 +11,7 @@ use Rattle.lio_values.specs.declared.value.Plain.TheVariants.{Unit as unit, Powe
 use Rattle.lio_values.specs.declared.value.Value.{Value}
 use Rattle.lio_values.specs.declared.value.Value.TheVariants.{Bare, Sealed}
 use Rattle.lio_syntax.specs.Statements.{Procedure}
-use Rattle.lio_task_control.specs.declared.binding.Binding.{Binding}
+use Rattle.lio_syntax.specs.declared.binding.Binding.{Binding}
 use Rattle.lio_calculus.specs.Step.{Cell, cell_at, body_of, parameters_of}
 use Rattle.lio_calculus.specs.Sound.{EachInItem, EachInTask, EachInState}
 use Rattle.lio_calculus.proofs.Lists.{All-slice_get}

@@ -21,8 +21,8 @@ use Rattle.lio_values.specs.declared.value.Value.TheVariants.{Bare, Sealed}
 use Rattle.lio_syntax.specs.Statements.{Procedure}
 use Rattle.lio_syntax.specs.Beginnings.{number_of}
 use Rattle.lio_cells.specs.State.{Channel, is_job, label_of, result_of}
-use Rattle.lio_task_control.specs.Environment.{bind_all}
-use Rattle.lio_task_control.specs.Items.{enter, open_calls}
+use Rattle.lio_syntax.specs.Environment.{bind_all}
+use Rattle.lio_syntax.specs.Items.{enter, open_calls}
 use Rattle.lio_calculus.specs.Task.{TaskState}
 use Rattle.lio_calculus.specs.Step.{Cell, Configuration, blank, cell_at, is_named, body_of, parameters_of}
 use Rattle.lio_calculus.specs.Sound.{Names, ContentNames, ValueNames, IsOpen, EachBound, EachInItem, EachInTask, EachInState, IsNoAccess, block_says, IsTaskOf, IsInRange}

@@ -13,8 +13,8 @@ use Rattle.lio_syntax.specs.Statements.{Procedure}
 use Rattle.lio_syntax.specs.Lines.{script_lines}
 use Rattle.lio_syntax.specs.Verdict.{IsOver}
 use Rattle.lio_syntax.specs.Kept as kept
-use Rattle.lio_task_control.specs.Environment.{bind_all}
-use Rattle.lio_task_control.specs.Items.{enter}
+use Rattle.lio_syntax.specs.Environment.{bind_all}
+use Rattle.lio_syntax.specs.Items.{enter}
 use Rattle.lio_calculus.specs.Task.{TaskState}
 use Rattle.lio_calculus.specs.Step.{blank, cell_at}
 use Rattle.lio_calculus.specs.Sound.{block_says, EachBound, IsTaskOf, IsSound}

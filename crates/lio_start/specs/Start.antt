@@ -10,8 +10,8 @@ use Rattle.lio_values.specs.declared.value.Value.TheVariants.{Bare, Sealed}
 use Rattle.lio_labels.specs.declared.label.Label.{Label}
 use Rattle.lio_syntax.specs.Statements.{Procedure}
 use Rattle.lio_cells.specs.declared.state.State.TheVariants.{Chan, Job}
-use Rattle.lio_task_control.specs.Environment.{bind_all}
-use Rattle.lio_task_control.specs.Items.{enter}
+use Rattle.lio_syntax.specs.Environment.{bind_all}
+use Rattle.lio_syntax.specs.Items.{enter}
 use Rattle.lio_calculus.specs.Task.{TaskState}
 use Rattle.lio_calculus.specs.Step.{Cell, Configuration, blank, body_of, parameters_of}
 use Rattle.lio_policy.specs.Policy.{PolicyParts}

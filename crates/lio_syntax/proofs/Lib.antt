@@ -12,3 +12,4 @@ pub mod NameLemmas
 pub mod PlaceLemmas
 pub mod PlaceTable
 pub mod AllLaws
+pub mod HidingLemmas

@@ -15,3 +15,7 @@ pub mod Closing
 pub mod Places
 pub mod Beginnings
 pub mod Procedures
+pub mod Environment
+pub mod Items
+pub mod Throwing
+pub mod Hiding

@@ -1,10 +1,10 @@
 //! Scripts: their procedures, and how a script is read from its text and printed.
 #![tactic(auto)]
 
+mod binding;
 mod ends;
 mod fault;
 mod headers;
-mod hints;
 pub mod laws;
 mod open_block;
 mod places;
@@ -17,9 +17,9 @@ mod rules;
 mod script;
 mod text;
 
+pub use binding::Binding;
 pub use fault::ScriptFault;
-pub use hints::{Hint, OpenAt, TakesAt, hint_at, line_at, parameter_count};
 pub use places::Place;
 pub use print::print_script;
-pub use read::read_script;
+pub use read::{parameter_count, read_script};
 pub use script::Script;

@@ -32,6 +32,15 @@ pub(crate) fn read_headers(alloc: Global, bytes: &[u8]) -> Result<Headers, NoMem
     Ok(headers)
 }
 
+/// How many parameters the first procedure of a script with a name has, if there is one.
+pub fn parameter_count(
+    alloc: Global,
+    script: &[u8],
+    name: &[u8],
+) -> Result<Option<usize>, NoMemory> {
+    Ok(read_headers(alloc, script)?.find(name))
+}
+
 /// The script that a text is, over the names of principals, or the first line that breaks a rule
 /// with the lowest rule that it breaks.
 pub fn read_script(alloc: Global, bytes: &[u8], names: &Names) -> Result<Script, ScriptFault>

@@ -3,7 +3,7 @@ use Rattle.std.proofs.Common.{◌≡◌, refl, subst, sym, ◌==◌, Bool, true,
 use Rattle.lio_values.specs.declared.fault.FaultKind.TheVariants.{NoTurns}
 use Rattle.lio_values.specs.declared.value.Content.TheVariants.{Faulted}
 use Rattle.lio_syntax_lines.specs.declared.line.Simple.{Simple}
-use Rattle.lio_task_control.specs.Items.{Item}
+use Rattle.lio_syntax.specs.Items.{Item}
 use Rattle.lio_calculus.specs.Plan.{Over, Own, Plan, Program, Visit, ending, fault_at, plan, plan_items}
 use Rattle.lio_calculus.specs.Task.{TaskState}
 use Rattle.lio_calculus.proofs.Outcome.{Outcome}

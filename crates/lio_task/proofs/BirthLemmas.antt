@@ -5,10 +5,10 @@ use Rattle.lio_values.specs.declared.value.Value.{Value}
 use Rattle.lio_values.specs.declared.act.Birth.{Birth}
 use Rattle.lio_syntax.specs.Statements.{Statements, Procedure}
 use Rattle.lio_syntax.specs.Lines.{script_lines}
-use Rattle.lio_task_control.specs.Environment.{Environment, bind_all}
-use Rattle.lio_task_control.specs.Items.{enter}
+use Rattle.lio_syntax.specs.Environment.{Environment, bind_all}
+use Rattle.lio_syntax.specs.Items.{enter}
 use Rattle.lio_task_control.specs.Continuation.{body_at}
-use Rattle.lio_task_control.specs.Throwing.{Place}
+use Rattle.lio_syntax.specs.Throwing.{Place}
 use Rattle.lio_calculus.specs.Task.{TaskState}
 use Rattle.lio_calculus.specs.Step.{child_of, parameters_of, body_of}
 use Rattle.lio_task_turns.specs.Procedure.{IsNumbered}

@@ -7,9 +7,9 @@ use Rattle.lio_values.specs.declared.act.Act.{Act}
 use Rattle.lio_values.specs.declared.act.Reply.{Reply}
 use Rattle.lio_syntax.specs.Statements.{If, IfElse, While, Try}
 use Rattle.lio_syntax.specs.Statements as statement
-use Rattle.lio_task_control.specs.Items.{Item, Do, Access, Mark, Back, Fail, rest_of, enter}
+use Rattle.lio_syntax.specs.Items.{Item, Do, Access, Mark, Back, Fail, rest_of, enter}
 use Rattle.lio_task_control.specs.Front.{AtStatement, IsBack, entered, entered_other}
-use Rattle.lio_task_control.specs.Throwing.{returned}
+use Rattle.lio_syntax.specs.Throwing.{returned}
 use Rattle.lio_calculus.specs.Task.{TaskState}
 use Rattle.lio_calculus.specs.Going.{at, gone_on}
 use Rattle.lio_task_plan.specs.declared.plan.Control.TheVariants as control

@@ -5,7 +5,7 @@ use Rattle.lio_values.specs.declared.act.Reply.{Reply}
 use Rattle.lio_syntax_lines.specs.declared.line.Line.{Line}
 use Rattle.lio_syntax.specs.Statements.{Procedure}
 use Rattle.lio_syntax.specs.Lines.{script_lines}
-use Rattle.lio_task_control.specs.Items.{Item, rest_of}
+use Rattle.lio_syntax.specs.Items.{Item, rest_of}
 use Rattle.lio_task_control.specs.Front.{AtStatement}
 use Rattle.lio_calculus.specs.Task.{TaskState}
 use Rattle.lio_calculus.specs.Going as going

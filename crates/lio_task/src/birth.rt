@@ -41,6 +41,7 @@ impl Task {
             first: birth.first,
             cells: birth.cells,
             ended: false,
+            born: None,
         })
     }
 
@@ -58,6 +59,35 @@ impl Task {
         match act {
             Act::Fork(birth) => Ok(Some(Task::of_birth(alloc, birth.get(), at, script)?)),
             Act::Spawn(birth) => Ok(Some(Task::of_birth(alloc, birth.get(), at, script)?)),
+            _ => Ok(None),
+        }
+    }
+
+    /// A child as it is born of this task, where it stands.
+    fn child(&self, alloc: Global, birth: &Birth, script: &Script) -> Result<Task, NoMemory>
+        requires { CanBeBorn script.now self.now.label birth.now }
+        ensures { IfOk result (λ task. (longest : ℕ) → state_in script.now task
+            ≡ child_of (program_of script.now longest) self.now.label birth.now) }
+    {
+        let mut child = Task::of_birth(alloc, birth, &self.label, script)?;
+        child.born = Some(self.line(script));
+        Ok(child)
+    }
+
+    /// The child that an act of this task gives birth to, if it does.
+    pub(crate) fn bear(
+        &self,
+        alloc: Global,
+        act: &Act,
+        script: &Script,
+    ) -> Result<Option<Task>, NoMemory>
+        requires { CanBear script.now self.now.label act.now }
+        ensures { IfOk result (λ child. (longest : ℕ) → option_map (state_in script.now) child
+            ≡ born (program_of script.now longest) self.now.label act.now) }
+    {
+        match act {
+            Act::Fork(birth) => Ok(Some(self.child(alloc, birth.get(), script)?)),
+            Act::Spawn(birth) => Ok(Some(self.child(alloc, birth.get(), script)?)),
             _ => Ok(None),
         }
     }

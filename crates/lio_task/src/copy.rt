@@ -27,6 +27,7 @@ impl Task {
             first: self.first,
             cells: self.cells,
             ended: self.ended,
+            born: self.born,
         })
     }
 

@@ -25,11 +25,11 @@ impl Task {
     ghost use Rattle.lio_syntax.specs.Lines.{script_lines};
     ghost use Rattle.lio_syntax.specs.Statements as statement;
     ghost use Rattle.lio_syntax_lines.specs.declared.line.Simple.{Simple as Simply};
-    ghost use Rattle.lio_task_control.specs.Items.{Access, Back, enter};
+    ghost use Rattle.lio_syntax.specs.Items.{Access, Back, enter};
     ghost use Rattle.lio_task_control.specs.Continuation.{body_at};
     ghost use Rattle.lio_task_control.specs.Front.{AtStatement, Begins, IsBack, IsOwn, entered};
     ghost use Rattle.lio_task_control.specs.Front.{entered_other};
-    ghost use Rattle.lio_task_control.specs.Throwing.{returned};
+    ghost use Rattle.lio_syntax.specs.Throwing.{returned};
     ghost use Rattle.lio_values.specs.declared.value.Value.TheVariants as value;
     ghost use Rattle.lio_values.specs.declared.value.Plain.TheVariants.{Unit as unit};
     ghost use Rattle.lio_values.specs.declared.value.Content.TheVariants as content;

@@ -4,7 +4,7 @@ ghost use Rattle.lio_labels.specs.Flow.{flows};
 
 use lio_labels::Label;
 use lio_syntax::Script;
-use lio_task_control::{Continuation, Environment};
+use lio_task_control::{Continuation, Environment, Stood};
 use lio_task_turns::Standing;
 
 /// A task: where it stands in its script, its current label and its clearance, the turns that it
@@ -18,6 +18,8 @@ pub struct Task {
     pub(crate) first: u32,
     pub(crate) cells: u32,
     pub(crate) ended: bool,
+    /// The line at which its parent stood when it was born, where it is a child.
+    pub(crate) born: Option<usize>,
     ghost range: { first + cells < 2 ^ 31 },
     ghost cleared: { IsTrue (flows label clearance) },
 }
@@ -52,6 +54,18 @@ impl Task {
     /// The line of the script at which it stands, from 0. It is for messages: no clause says which.
     pub fn line(&self, script: &Script) -> usize {
         self.continuation.line(script)
+    }
+
+    /// Where it stood when it threw a fault that nothing caught, if it did. It is for messages: no
+    /// clause says where.
+    pub fn stood(&self) -> Option<&Stood> {
+        self.continuation.stood()
+    }
+
+    /// The line of the script at which its parent stood when it was born, from 0, where it is a
+    /// child. It is for messages: no clause says which.
+    pub fn born(&self) -> Option<usize> {
+        self.born
     }
 
     /// Its current label.

@@ -258,7 +258,7 @@ impl Holder {
         let Some(task) = &self.task else {
             unreachable!()
         };
-        Task::born_by(alloc, act, task.label(), script)
+        task.bear(alloc, act, script)
     }
 
     /// Fills the entry of a turn that meets the node of another holder, but for its ticket, and
@@ -344,6 +344,7 @@ impl Holder {
     }
 
     /// Takes out who waits at its node, where the node is about to change.
+    #[inline(always)]
     fn wake(&mut self, changes: bool) -> Option<Waiters>
         ensures woken { result ≡ (if changes then Some self.old.node.waiters else None) }
         ensures node { self.new.node ≡ woken changes self.old.node }

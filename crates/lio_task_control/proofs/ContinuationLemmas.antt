@@ -13,9 +13,9 @@ use Rattle.lio_syntax.specs.Statements as statement
 use Rattle.lio_task_control.specs.declared.frame.Frame.{Frame}
 use Rattle.lio_task_control.specs.declared.frame.Call.{Call}
 use Rattle.lio_task_control.specs.declared.continuation.Continuation.{Continuation}
-use Rattle.lio_task_control.specs.Environment.{Environment, bind}
-use Rattle.lio_task_control.specs.Items.{Item, Do, Access, Mark, Back, Fail, enter, rest_of, open_calls}
-use Rattle.lio_task_control.specs.Throwing.{Place, thrown, returned}
+use Rattle.lio_syntax.specs.Environment.{Environment, bind}
+use Rattle.lio_syntax.specs.Items.{Item, Do, Access, Mark, Back, Fail, enter, rest_of, open_calls}
+use Rattle.lio_syntax.specs.Throwing.{Place, thrown, returned}
 use Rattle.lio_task_control.specs.Continuation.{frame_items, frame_over, call_over, calls_over, place_of}
 use Rattle.lio_task_control.specs.Front.{AtStatement, IsOwn, IsBack, Begins, entered, entered_other}
 use Rattle.lio_task_control.specs.Parts.{IsOutside, IsAccessed, SameCalls, outermost}

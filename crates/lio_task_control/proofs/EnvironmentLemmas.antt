@@ -12,7 +12,8 @@ use Rattle.std.proofs.lemmas.Grind.{common_steps}
 use Rattle.std.proofs.lemmas.Map.Text.{is_eq-slice_cmp}
 use Rattle.std.proofs.lemmas.Slice.Eq.{bytes_eq-Decides}
 use Rattle.lio_values.specs.declared.value.Value.{Value}
-use Rattle.lio_task_control.specs.Environment.{Environment, Binding, bind_before, bind, bind_all, value_of}
+use Rattle.lio_syntax.specs.declared.binding.Binding.{Binding}
+use Rattle.lio_syntax.specs.Environment.{Environment, bind_before, bind, bind_all, value_of}
 use Rattle.lio_task_control.specs.Bound.{IsBoundBefore}
 
 pub drop_at : {X : Type 0} (xs : List X) (i : ℕ) (x : X) → i < length xs → x ≡ get_or xs i x → drop i xs ≡ x ∷ drop (i + 1) xs

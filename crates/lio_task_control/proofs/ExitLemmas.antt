@@ -13,9 +13,9 @@ use Rattle.lio_syntax.specs.declared.places.Place.{Place}
 use Rattle.lio_syntax.specs.Places.{else_at, behind_else, first_place, settled, settled_by, blocks_by, blocks_behind, blocks_at, place_by, place_or, place_at}
 use Rattle.lio_syntax.proofs.GrammarLemmas.{Fits, accepted}
 use Rattle.lio_syntax.proofs.PlaceLemmas.{EndLine, end_line, Shape, here}
-use Rattle.lio_task_control.specs.Environment.{Environment}
-use Rattle.lio_task_control.specs.Items.{Item, Do, enter, rest_of}
-use Rattle.lio_task_control.specs.Throwing.{Place as Stand, thrown}
+use Rattle.lio_syntax.specs.Environment.{Environment}
+use Rattle.lio_syntax.specs.Items.{Item, Do, enter, rest_of}
+use Rattle.lio_syntax.specs.Throwing.{Place as Stand, thrown}
 use Rattle.lio_task_control.specs.Continuation.{block_of, block_at, innermost, marked, passed, outer_at, items_at}
 use Rattle.lio_task_control.specs.Parts.{EndsAll, SettlesAt, CatchesNothing, with_fault}
 use Rattle.lio_task_control.proofs.BlockLemmas.{block_at-proc, block_at-else, block_at-end, block_at-catch, block_at-none}

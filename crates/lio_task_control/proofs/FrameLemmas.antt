@@ -12,9 +12,9 @@ use Rattle.lio_task_control.specs.declared.frame.Stage.TheVariants as stage
 use Rattle.lio_task_control.specs.declared.front.Front.{Front}
 use Rattle.lio_task_control.specs.declared.front.Front.TheVariants as front
 use Rattle.lio_task_control.specs.declared.places.Handler.{Handler}
-use Rattle.lio_task_control.specs.Environment.{Environment}
-use Rattle.lio_task_control.specs.Items.{Item, Do, Access, Mark, Back, Fail, enter, rest_of}
-use Rattle.lio_task_control.specs.Throwing.{thrown}
+use Rattle.lio_syntax.specs.Environment.{Environment}
+use Rattle.lio_syntax.specs.Items.{Item, Do, Access, Mark, Back, Fail, enter, rest_of}
+use Rattle.lio_syntax.specs.Throwing.{thrown}
 use Rattle.lio_task_control.specs.Continuation.{block_at, items_at, accessed, stage_items, frame_items, body_by, body_at}
 use Rattle.lio_task_control.specs.Front.{IsFront, Begins, entered, entered_other}
 use Rattle.lio_task_control.specs.Parts.{CatchesNothing, IsCaught, IsAccessed, gone_to}

@@ -8,7 +8,7 @@ use Rattle.lio_syntax_lines.specs.declared.line.Line.TheVariants as line
 use Rattle.lio_syntax.specs.Statements as statement
 use Rattle.lio_syntax.specs.OpenBlocks.{accepts}
 use Rattle.lio_syntax.specs.Places.{block_of_else, else_at}
-use Rattle.lio_task_control.specs.Items.{Item, Do, rest_of}
+use Rattle.lio_syntax.specs.Items.{Item, Do, rest_of}
 use Rattle.lio_task_control.specs.Continuation.{items_at}
 use Rattle.lio_task_control.specs.Front.{Begins, IsMark, IsChoice, IsLoop, IsGuarded, entered, entered_other}
 use Rattle.lio_task_control.specs.Parts.{EndsAll, SettlesAt}

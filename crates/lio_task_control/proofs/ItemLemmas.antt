@@ -14,7 +14,7 @@ use Rattle.lio_syntax.specs.Places.{if_else, else_at, behind_else, block_of_else
 use Rattle.lio_syntax.proofs.GrammarLemmas.{Fits, accepted}
 use Rattle.lio_syntax.proofs.ClosingLemmas.{some_ends}
 use Rattle.lio_syntax.proofs.PlaceLemmas.{EndLine, end_line, Shape, here, get_within, drop_next, get_drop}
-use Rattle.lio_task_control.specs.Items.{Item, Do, Mark, enter, rest_of}
+use Rattle.lio_syntax.specs.Items.{Item, Do, Mark, enter, rest_of}
 use Rattle.lio_task_control.specs.Continuation.{block_of, block_at, innermost, from, marked, passed, outer_at, items_at}
 use Rattle.lio_task_control.specs.Front.{entered, entered_other}
 use Rattle.lio_task_control.proofs.BlockLemmas.{choice_at, front_block, behind_end, if_inside, while_inside, try_inside, block_at-do, block_at-while, block_at-if, block_at-try, block_at-catch}

@@ -6,5 +6,4 @@ pub mod FrontLemmas
 pub mod FrameLemmas
 pub mod EnvironmentLemmas
 pub mod ContinuationLemmas
-pub mod HidingLemmas
 pub mod OrderLemmas

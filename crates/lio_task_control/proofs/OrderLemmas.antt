@@ -13,9 +13,10 @@ use Rattle.std.proofs.lemmas.Map.Text.{is_eq-slice_cmp}
 use Rattle.std.proofs.lemmas.Slice.Eq.{bytes_eq-Decides}
 use Rattle.lio_labels.specs.declared.label.Label.{Label}
 use Rattle.lio_values.specs.declared.value.Value.{Value}
-use Rattle.lio_task_control.specs.Environment.{Environment, Binding, bind_before, bind, value_of}
+use Rattle.lio_syntax.specs.declared.binding.Binding.{Binding}
+use Rattle.lio_syntax.specs.Environment.{Environment, bind_before, bind, value_of}
 use Rattle.lio_task_control.specs.Bound.{AreInOrder, ComesBefore, IsBoundAt}
-use Rattle.lio_task_control.specs.Hiding.{hide_environment}
+use Rattle.lio_syntax.specs.Hiding.{hide_environment}
 use Rattle.lio_task_control.proofs.EnvironmentLemmas.{bind-first, get_or-other, same_name}
 
 -- a name after one that comes before it

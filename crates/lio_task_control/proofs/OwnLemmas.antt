@@ -10,10 +10,10 @@ use Rattle.lio_syntax.specs.Statements as statement
 use Rattle.lio_task_control.specs.declared.frame.Frame.{Frame}
 use Rattle.lio_task_control.specs.declared.frame.Stage.{Stage}
 use Rattle.lio_task_control.specs.declared.frame.Stage.TheVariants as stage
-use Rattle.lio_task_control.specs.Environment.{Environment}
-use Rattle.lio_task_control.specs.Items.{Item, Do, Access, Mark, Back, Fail, enter, rest_of, open_calls}
-use Rattle.lio_task_control.specs.Throwing.{returned}
-use Rattle.lio_task_control.specs.Hiding.{hide_item}
+use Rattle.lio_syntax.specs.Environment.{Environment}
+use Rattle.lio_syntax.specs.Items.{Item, Do, Access, Mark, Back, Fail, enter, rest_of, open_calls}
+use Rattle.lio_syntax.specs.Throwing.{returned}
+use Rattle.lio_syntax.specs.Hiding.{hide_item}
 use Rattle.lio_task_control.specs.Continuation.{block_at, innermost, marked, passed, outer_at, items_at, accessed, stage_items, frame_items}
 
 -- none of the items is a way back

@@ -4,8 +4,8 @@ use Rattle.std.specs.Ordering.{nat_cmp}
 use Rattle.std.specs.Cmp.Lexicographic.{slice_cmp}
 use Rattle.std.specs.declared.cmp.Ordering.TheVariants.{Less}
 use Rattle.lio_values.specs.declared.value.Value.{Value}
-use Rattle.lio_task_control.specs.declared.binding.Binding.{Binding}
-use Rattle.lio_task_control.specs.Environment.{bind, value_of}
+use Rattle.lio_syntax.specs.declared.binding.Binding.{Binding}
+use Rattle.lio_syntax.specs.Environment.{bind, value_of}
 
 -- a name comes before those of bindings
 abbrev pub ComesBefore : List ℕ → List Binding → Type 0

@@ -10,8 +10,8 @@ use Rattle.lio_task_control.specs.declared.frame.Stage.TheVariants as stage
 use Rattle.lio_task_control.specs.declared.frame.Frame.{Frame}
 use Rattle.lio_task_control.specs.declared.frame.Call.{Call}
 use Rattle.lio_task_control.specs.declared.continuation.Continuation.{Continuation}
-use Rattle.lio_task_control.specs.Items.{Item, Do, Access, Mark, Back, Fail, enter, rest_of}
-use Rattle.lio_task_control.specs.Throwing.{Place}
+use Rattle.lio_syntax.specs.Items.{Item, Do, Access, Mark, Back, Fail, enter, rest_of}
+use Rattle.lio_syntax.specs.Throwing.{Place}
 
 -- the statements of the innermost block that stand behind a place; outside of procedures there are none
 abbrev pub block_of : Behind → Statements

@@ -5,7 +5,7 @@ use Rattle.lio_syntax.specs.Statements.{Statement, If, IfElse, While, Try}
 use Rattle.lio_syntax.specs.Statements as statement
 use Rattle.lio_task_control.specs.declared.front.Front.{Front}
 use Rattle.lio_task_control.specs.declared.front.Front.TheVariants as front
-use Rattle.lio_task_control.specs.Items.{Item, Do, Access, Mark, Back, Fail, enter, rest_of}
+use Rattle.lio_syntax.specs.Items.{Item, Do, Access, Mark, Back, Fail, enter, rest_of}
 
 -- the way back to a caller comes first
 abbrev pub IsBack : List Item → Type 0

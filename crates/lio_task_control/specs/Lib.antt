@@ -1,7 +1,4 @@
-pub mod Environment
 pub mod Bound
-pub mod Items
-pub mod Throwing
 pub mod Continuation
 pub mod Front
 pub mod Parts

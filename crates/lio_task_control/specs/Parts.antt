@@ -13,9 +13,9 @@ use Rattle.lio_task_control.specs.declared.frame.Stage.{Stage}
 use Rattle.lio_task_control.specs.declared.frame.Stage.TheVariants as stage
 use Rattle.lio_task_control.specs.declared.frame.Call.{Call}
 use Rattle.lio_task_control.specs.declared.continuation.Continuation.{Continuation}
-use Rattle.lio_task_control.specs.Environment.{Environment, bind}
-use Rattle.lio_task_control.specs.Items.{Item, Do, Access, Mark, Back, Fail}
-use Rattle.lio_task_control.specs.Throwing.{code_of, payload_of, thrown}
+use Rattle.lio_syntax.specs.Environment.{Environment, bind}
+use Rattle.lio_syntax.specs.Items.{Item, Do, Access, Mark, Back, Fail}
+use Rattle.lio_syntax.specs.Throwing.{code_of, payload_of, thrown}
 use Rattle.lio_task_control.specs.Continuation.{items_at}
 
 -- nothing comes first that the running procedure itself still has to do

@@ -2,18 +2,20 @@
 ghost use Rattle.std.specs.Prelude.{◌≡◌, List, [], IfOk};
 ghost use Rattle.lio_syntax_lines.specs.declared.line.Line.{Line};
 ghost use Rattle.lio_syntax.specs.Lines.{script_lines};
-ghost use Rattle.lio_task_control.specs.Items.{enter, open_calls};
+ghost use Rattle.lio_syntax.specs.Items.{enter, open_calls};
 ghost use Rattle.lio_task_control.specs.Continuation.{body_at, place_of};
 ghost use Rattle.lio_task_control.specs.Front.{IsFront};
-ghost use Rattle.lio_task_control.specs.Hiding.{hide_place};
+ghost use Rattle.lio_syntax.specs.Hiding.{hide_place};
 
 use crate::environment::Environment;
 use crate::frame::{Call, Frame};
 use crate::front::Front;
 use crate::places::settled;
+use crate::stood::{Stood, copy_stood};
 use lio_clauses::NoMemory;
 use lio_labels::Label;
 use lio_syntax::Script;
+use lio_values::Held;
 use std::alloc::Global;
 
 /// Where a task stands: the running procedure's frame, and the calls that it goes back to, the
@@ -22,6 +24,8 @@ use std::alloc::Global;
 pub struct Continuation {
     pub(crate) calls: Vec<Call>,
     pub(crate) frame: Frame,
+    /// Where it stood when it threw a fault that nothing caught, if it did.
+    pub(crate) stood: Option<Held<Stood>>,
 }
 
 impl Continuation {
@@ -40,6 +44,7 @@ impl Continuation {
         Continuation {
             calls: Vec::new(alloc),
             frame: Frame::of_body(script, line, environment),
+            stood: None,
         }
     }
 
@@ -51,6 +56,7 @@ impl Continuation {
         Continuation {
             calls: Vec::new(alloc),
             frame: Frame::ended(alloc),
+            stood: None,
         }
     }
 
@@ -88,6 +94,15 @@ impl Continuation {
         settled(script, self.frame.at)
     }
 
+    /// Where it stood when it threw a fault that nothing caught, if it did. It is for messages: no
+    /// clause says where.
+    pub fn stood(&self) -> Option<&Stood> {
+        match &self.stood {
+            Some(stood) => Some(stood.get()),
+            None => None,
+        }
+    }
+
     /// An equal continuation.
     pub fn copy(&self, alloc: Global) -> Result<Continuation, NoMemory>
         ensures { IfOk result (λ continuation. (lines : List Line)
@@ -98,11 +113,16 @@ impl Continuation {
             calls.push(call.copy(alloc)?)?;
         }
         let frame = self.frame.copy(alloc)?;
-        Ok(Continuation { calls, frame })
+        let stood = copy_stood(alloc, &self.stood);
+        Ok(Continuation {
+            calls,
+            frame,
+            stood,
+        })
     }
 
-    /// The continuation as an observer sees it: each value in it is erased. Source: the erasure of
-    /// the concurrent calculus of LIO, ICFP 2012.
+    /// The continuation as an observer sees it: each value in it is erased, and where it stood at a
+    /// fault is left out. Source: the erasure of the concurrent calculus of LIO, ICFP 2012.
     pub fn erase(&self, alloc: Global, observer: &Label) -> Result<Continuation, NoMemory>
         ensures { IfOk result (λ continuation. (lines : List Line)
             → place_of lines continuation ≡ hide_place observer.now (place_of lines self.now)) }
@@ -112,6 +132,10 @@ impl Continuation {
             calls.push(call.erase(alloc, observer)?)?;
         }
         let frame = self.frame.erase(alloc, observer)?;
-        Ok(Continuation { calls, frame })
+        Ok(Continuation {
+            calls,
+            frame,
+            stood: None,
+        })
     }
 }

@@ -10,10 +10,10 @@ ghost use Rattle.lio_values.specs.declared.value.Plain.TheVariants.{Unit as unit
 ghost use Rattle.lio_values.specs.Small.{plain_of};
 ghost use Rattle.lio_syntax.specs.Lines.{script_lines};
 ghost use Rattle.lio_syntax.specs.Statements.{Do as Simple};
-ghost use Rattle.lio_task_control.specs.Environment as spec;
+ghost use Rattle.lio_syntax.specs.Environment as spec;
 ghost use Rattle.lio_task_control.specs.declared.frame.Call.{Call as Caller};
-ghost use Rattle.lio_task_control.specs.Items.{Back, Access, Fail, enter, rest_of};
-ghost use Rattle.lio_task_control.specs.Throwing.{returned, thrown};
+ghost use Rattle.lio_syntax.specs.Items.{Back, Access, Fail, enter, rest_of};
+ghost use Rattle.lio_syntax.specs.Throwing.{returned, thrown};
 ghost use Rattle.lio_task_control.specs.Continuation.{body_at, place_of};
 ghost use Rattle.lio_task_control.specs.Front.{AtStatement, Begins, IsBack, IsOwn, entered};
 ghost use Rattle.lio_task_control.specs.Front.{entered_other};
@@ -22,6 +22,7 @@ ghost use Rattle.lio_task_control.specs.Parts.{SameCalls, outermost};
 use crate::continuation::Continuation;
 use crate::environment::Environment;
 use crate::frame::{Call, Frame};
+use crate::stood::Stood;
 use lio_clauses::NoMemory;
 use lio_syntax::Script;
 use lio_values::{Fault, Held, Name, Plain, Small, Value};
@@ -208,7 +209,7 @@ impl Continuation {
     }
 
     /// Leaves nothing but a fault that nothing catches, in the environment of the outermost
-    /// procedure.
+    /// procedure. Where it stood is kept for messages.
     fn fail(&mut self, alloc: Global, fault: Fault) -> Result<(), NoMemory>
         ensures err { OnErr result (self.new ≡ self.old) }
         ensures ok { OnOk result ((lines : List Line)
@@ -217,10 +218,12 @@ impl Continuation {
               items = Fail fault ∷ [];
             }) }
     {
+        let stood = Stood::of(alloc, &self.frame, &fault).ok();
         let fault = Held::new(alloc, fault)?;
         self.calls.truncate(1);
         self.resume_caller();
         self.frame.fail(fault);
+        self.stood = stood;
         Ok(())
     }
 

@@ -3,13 +3,13 @@ ghost use Rattle.std.specs.Prelude.{◌≡◌, [], length, IfOk, IsOk, OnOk, OnE
 ghost use Rattle.std.specs.Option.{option_copied};
 ghost use Rattle.lio_values.specs.declared.value.Value.TheVariants.{Bare};
 ghost use Rattle.lio_values.specs.Small.{plain_of};
-ghost use Rattle.lio_task_control.specs.Environment.{bind, bind_all, value_of};
+ghost use Rattle.lio_syntax.specs.Environment.{bind, bind_all, value_of};
 ghost use Rattle.lio_task_control.specs.Bound.{IsBoundAt, IsBoundBefore};
-ghost use Rattle.lio_task_control.specs.Hiding.{hide_environment};
+ghost use Rattle.lio_syntax.specs.Hiding.{hide_environment};
 
-use crate::binding::Binding;
 use lio_clauses::{NoMemory, assign, beside};
 use lio_labels::Label;
+use lio_syntax::Binding;
 use lio_values::{Name, Plain, Small, Value};
 use std::alloc::Global;
 use std::cmp::Ordering;
@@ -23,9 +23,9 @@ pub struct Environment {
 
 impl Model for Environment {
     ghost use Rattle.std.specs.Prelude.{List};
-    ghost use Rattle.lio_task_control.specs.declared.binding.Binding.{Binding};
+    ghost use Rattle.lio_syntax.specs.declared.binding.Binding.{Binding};
     ghost use Rattle.lio_task_control.specs.Bound.{AreInOrder};
-    ghost use Rattle.lio_task_control.specs.contracts.binding.Binding as binding;
+    ghost use Rattle.lio_syntax.specs.contracts.binding.Binding as binding;
     ghost use Rattle.std.specs.Coded.{coded_list};
 
     ghost Value = { List Binding };

@@ -1,6 +1,6 @@
 //! What a handler sees of a fault.
 ghost use Rattle.std.specs.Prelude.{◌≡◌, pos, IfOk};
-ghost use Rattle.lio_task_control.specs.Throwing as spec;
+ghost use Rattle.lio_syntax.specs.Throwing as spec;
 
 use lio_clauses::NoMemory;
 use lio_values::{FaultKind, Plain};

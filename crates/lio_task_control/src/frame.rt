@@ -3,13 +3,14 @@ ghost use Rattle.std.specs.Prelude.{◌≡◌, ◌++◌, List, [], ◌∷◌, ma
 ghost use Rattle.std.specs.Prelude.{MatchOption, MatchBool, IfOk, OnErr};
 ghost use Rattle.lio_syntax_lines.specs.declared.line.Line.{Line};
 ghost use Rattle.lio_syntax.specs.Lines.{script_lines};
-ghost use Rattle.lio_task_control.specs.Environment.{Environment as Bindings};
-ghost use Rattle.lio_task_control.specs.Items.{Item, Fail, enter, rest_of};
-ghost use Rattle.lio_task_control.specs.Throwing.{thrown};
+ghost use Rattle.lio_syntax.specs.Environment.{Environment as Bindings};
+ghost use Rattle.lio_syntax.specs.Items.{Item, Fail, enter, rest_of};
+ghost use Rattle.lio_syntax.specs.Throwing.{thrown};
 ghost use Rattle.lio_task_control.specs.Continuation.{body_at, call_over, frame_items};
 ghost use Rattle.lio_task_control.specs.Continuation.{frame_over, items_at};
 ghost use Rattle.lio_task_control.specs.Front.{IsFront, entered, entered_other};
-ghost use Rattle.lio_task_control.specs.Hiding.{HidesFrame, hide_item};
+ghost use Rattle.lio_task_control.specs.Hiding.{HidesFrame};
+ghost use Rattle.lio_syntax.specs.Hiding.{hide_item};
 ghost use Rattle.lio_task_control.specs.Parts.{CatchesNothing, IsAccessed, IsCaught, SameFrame};
 ghost use Rattle.lio_task_control.specs.Parts.{gone_to};
 

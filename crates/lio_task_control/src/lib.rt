@@ -2,7 +2,6 @@
 //! frames of places in the script's lines.
 #![tactic(auto)]
 
-mod binding;
 mod continuation;
 mod effects;
 mod environment;
@@ -10,8 +9,9 @@ mod faults;
 mod frame;
 mod front;
 mod places;
+mod stood;
 
-pub use binding::Binding;
 pub use continuation::Continuation;
 pub use environment::Environment;
 pub use front::Front;
+pub use stood::Stood;

@@ -8,7 +8,7 @@ ghost use Rattle.std.specs.Option.{option_copied};
 ghost use Rattle.lio_syntax.specs.Closing.{end_of};
 ghost use Rattle.lio_syntax.specs.Lines.{script_lines};
 ghost use Rattle.lio_syntax.specs.Places.{else_at, place_at};
-ghost use Rattle.lio_task_control.specs.Items.{Item, enter, rest_of};
+ghost use Rattle.lio_syntax.specs.Items.{Item, enter, rest_of};
 ghost use Rattle.lio_task_control.specs.Continuation.{accessed, body_at, items_at};
 ghost use Rattle.lio_task_control.specs.Front.{IsFront, entered, entered_other};
 ghost use Rattle.lio_task_control.specs.Parts.{CatchesNothing, IsCaught, SettlesAt};

@@ -7,7 +7,7 @@ use Rattle.lio_syntax_lines.specs.declared.line.Operand.{Operand}
 use Rattle.lio_syntax_lines.specs.declared.line.Simple.{Simple}
 use Rattle.lio_syntax.specs.Statements.{Nothing}
 use Rattle.lio_syntax.specs.Statements as statement
-use Rattle.lio_task_control.specs.Items.{Item, Do, Access, Mark, Back, Fail, rest_of}
+use Rattle.lio_syntax.specs.Items.{Item, Do, Access, Mark, Back, Fail, rest_of}
 use Rattle.lio_task_control.specs.Front.{IsBack, IsMark, IsChoice, IsLoop, Begins, IsGuarded}
 use Rattle.lio_calculus.specs.Operands.{flag_of, seen_as}
 use Rattle.lio_calculus.specs.Plan.{Program, choosing, looping, with_seen}

@@ -4,7 +4,7 @@ use Rattle.lio_syntax_lines.specs.declared.line.Operand.{Operand}
 use Rattle.lio_syntax_lines.specs.declared.line.Simple.{Simple}
 use Rattle.lio_syntax.specs.Statements.{Statement, Statements, If, IfElse, While, Try}
 use Rattle.lio_syntax.specs.Statements as statement
-use Rattle.lio_task_control.specs.Items.{Item, Do, Access, Mark, Back, Fail, rest_of}
+use Rattle.lio_syntax.specs.Items.{Item, Do, Access, Mark, Back, Fail, rest_of}
 use Rattle.lio_task_control.specs.Front.{AtStatement, Begins, IsChoice, IsGuarded, IsLoop, IsMark, IsOwn}
 use Rattle.lio_task_plan.specs.declared.plan.Full.{Full}
 use Rattle.lio_task_plan.specs.declared.plan.Full.TheVariants as full

@@ -14,7 +14,7 @@ use Rattle.lio_syntax_lines.specs.declared.line.Simple.TheVariants as line
 use Rattle.lio_syntax.specs.Lines.{script_lines}
 use Rattle.lio_operators.specs.Operators.{operate2, on_bare_and_sealed}
 use Rattle.lio_operators.specs.Answers.{Answers}
-use Rattle.lio_task_control.specs.Environment.{Environment}
+use Rattle.lio_syntax.specs.Environment.{Environment}
 use Rattle.lio_operators.specs.declared.faults.OpFault.{OpFault}
 use Rattle.lio_calculus.specs.Operands.{bare_of, bound, seen_as}
 use Rattle.lio_calculus.specs.Task.{TaskState}

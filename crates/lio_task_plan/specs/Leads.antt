@@ -2,7 +2,7 @@
 use Rattle.std.specs.Prelude.{◌≡◌, List, ◌∷◌}
 use Rattle.lio_syntax_lines.specs.declared.line.Simple.{Simple}
 use Rattle.lio_syntax.specs.Statements as statement
-use Rattle.lio_task_control.specs.Items.{Item, Access, rest_of}
+use Rattle.lio_syntax.specs.Items.{Item, Access, rest_of}
 use Rattle.lio_task_control.specs.Front.{AtStatement, Begins, IsBack, IsOwn}
 use Rattle.lio_task_plan.specs.declared.plan.Plan.{Plan}
 use Rattle.lio_task_plan.specs.declared.plan.Plan.TheVariants as planned

@@ -19,7 +19,7 @@ use Rattle.lio_syntax_lines.specs.declared.line.Simple.TheVariants as line
 use Rattle.lio_syntax.specs.Statements.{Nothing}
 use Rattle.lio_syntax.specs.Lines.{script_lines}
 use Rattle.lio_syntax.specs.Statements as statement
-use Rattle.lio_task_control.specs.Items.{Item, Do, Access, Back, Fail}
+use Rattle.lio_syntax.specs.Items.{Item, Do, Access, Back, Fail}
 use Rattle.lio_calculus.specs.Going as going
 use Rattle.lio_calculus.specs.Plan as plan
 use Rattle.lio_calculus.specs.Plan.{Program}

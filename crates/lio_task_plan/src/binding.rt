@@ -11,7 +11,7 @@ ghost use Rattle.lio_values.specs.declared.value.Value.{Value};
 ghost use Rattle.lio_operators.specs.Answers.{Answers};
 ghost use Rattle.lio_syntax_lines.specs.declared.line.Simple.{Simple};
 ghost use Rattle.lio_calculus.specs.Task.{TaskState};
-ghost use Rattle.lio_task_control.specs.Items.{open_calls};
+ghost use Rattle.lio_syntax.specs.Items.{open_calls};
 ghost use Rattle.lio_calculus.specs.Operands.{bare_of, pure_of};
 ghost use Rattle.lio_calculus.specs.Plan as plan;
 ghost use Rattle.lio_values.specs.declared.act.Act.TheVariants as act;

@@ -3,7 +3,7 @@
 
 ghost use Rattle.std.specs.Prelude.{◌≡◌, List};
 ghost use Rattle.lio_syntax_lines.specs.declared.line.Line.{Line};
-ghost use Rattle.lio_task_control.specs.Items.{Item};
+ghost use Rattle.lio_syntax.specs.Items.{Item};
 ghost use Rattle.lio_task_control.specs.Front.{AtStatement, IsChoice, IsFront, IsLoop};
 ghost use Rattle.lio_calculus.specs.Plan.{Program};
 ghost use Rattle.lio_task_plan.specs.Leads.{LeadsOn};

@@ -1,7 +1,7 @@
 //! The turns that are planned in full, and the contents with which tasks end.
 ghost use Rattle.std.specs.Prelude.{◌≡◌, IfOk, List};
 ghost use Rattle.lio_syntax.specs.Lines.{script_lines};
-ghost use Rattle.lio_task_control.specs.Items.{Item};
+ghost use Rattle.lio_syntax.specs.Items.{Item};
 ghost use Rattle.lio_task_control.specs.Front.{IsFront};
 ghost use Rattle.lio_task_plan.specs.Planned.{PlansFull, content_by, left_of};
 ghost use Rattle.lio_task_turns.specs.StateOf.{program_of, state_of};

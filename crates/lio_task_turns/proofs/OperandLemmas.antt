@@ -8,7 +8,7 @@ use Rattle.lio_values.specs.declared.value.Plain.{Plain}
 use Rattle.lio_values.specs.declared.value.Value.{Value}
 use Rattle.lio_values.specs.declared.value.Value.TheVariants.{Bare, Sealed}
 use Rattle.lio_syntax_lines.specs.declared.line.Operand.{Operand}
-use Rattle.lio_task_control.specs.Environment.{Environment}
+use Rattle.lio_syntax.specs.Environment.{Environment}
 use Rattle.lio_calculus.specs.Operands.{bound, all_bound, bare_of}
 
 -- the values so far, before those of the operands from a place on

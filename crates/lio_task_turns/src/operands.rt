@@ -1,7 +1,7 @@
 //! What operands stand for, and views of it by kind.
 ghost use Rattle.std.specs.Prelude.{◌≡◌, IfOk, Some, is_some, option_and_then};
 ghost use Rattle.std.specs.Option.{option_copied};
-ghost use Rattle.lio_task_control.specs.Environment.{Environment};
+ghost use Rattle.lio_syntax.specs.Environment.{Environment};
 ghost use Rattle.lio_calculus.specs.Operands.{bound, all_bound, bare_of, pure_of, seen_as};
 ghost use Rattle.lio_calculus.specs.Operands.{flag_of};
 ghost use Rattle.lio_calculus.specs.Operands.{label_of, power_of, text_of, count_of, reference_of};

@@ -1,7 +1,7 @@
 //! Procedures of a script.
 ghost use Rattle.std.specs.Prelude.{◌≡◌, ◌<◌, [], IfOk, MatchOption, None, length};
 ghost use Rattle.lio_syntax.specs.Beginnings.{number_of};
-ghost use Rattle.lio_task_control.specs.Environment.{bind_all};
+ghost use Rattle.lio_syntax.specs.Environment.{bind_all};
 ghost use Rattle.lio_task_turns.specs.Procedure.{IsNamed, IsNumbered};
 
 use lio_clauses::NoMemory;

@@ -29,7 +29,7 @@ pub struct Standing<'t> {
 impl<'t> Standing<'t> {
     ghost use Rattle.std.specs.Prelude.{◌≡◌, List};
     ghost use Rattle.lio_syntax_lines.specs.declared.line.Line.{Line};
-    ghost use Rattle.lio_task_control.specs.Items.{open_calls};
+    ghost use Rattle.lio_syntax.specs.Items.{open_calls};
     ghost use Rattle.lio_task_turns.specs.StateOf.{state_of};
 
     /// What its names are bound to.

@@ -1,10 +1,10 @@
 //! What each worker does.
 ghost use Rattle.std.specs.Prelude.{◌≡◌, ◌+◌, ◌<◌, ◌≤◌, [], false, IfOk, IsTrue, if◌then◌else◌};
-ghost use Rattle.lio_runq.specs.Passes.{IsPassOf, left_of, popped_of};
+ghost use Rattle.lio_runq.specs.Passes.{IsPassOf, left_of, popped_of, pushed_of};
 ghost use Rattle.lio_table.specs.Tables.{first_of, view_of};
 ghost use Rattle.lio_table.specs.Turns.{TurnSays};
 ghost use Rattle.lio_workers.specs.Ends.{has_to_end};
-ghost use Rattle.lio_workers.specs.Looks.{IsLastOf};
+ghost use Rattle.lio_workers.specs.Looks.{IsLastOf, MayCome};
 ghost use Rattle.lio_workers.specs.Seated.{IsWorkerAt};
 
 use crate::gate::Gate;
@@ -107,6 +107,7 @@ pub(crate) fn push<R: Wait, B: Bound>(rt: &R, numbers: &RunQueue<B>, pass: &mut 
     requires below { k < B.bound }
     ensures pass { IsPassOf numbers.now.numbers pass.new.seat }
     ensures left { left_of pass.old.seat ≤ left_of pass.new.seat + 1 }
+    ensures pushed { MayCome k (pushed_of pass.old.seat) (pushed_of pass.new.seat) }
     ensures popped { popped_of pass.new.seat ≡ popped_of pass.old.seat }
 {
     if pass.pushes_left() > 0 {

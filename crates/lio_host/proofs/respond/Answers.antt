@@ -1,30 +1,12 @@
-use Rattle.std.proofs.Common.{List, refl}
-use Rattle.lio_values.specs.declared.entry.Entry.{Entry}
-use Rattle.lio_outside.specs.Call.{outside}
-use Rattle.lio_front.specs.Sorted.{bytes_of_words}
-use Rattle.lio_host_main.specs.Answers.{Call, Says}
-use Rattle.lio_host_main.proofs.Says.{completes_verdict, follows_verdict, later, says-later}
 use Rattle.lio_host.proofs.respond.Goals as goal
 
 pub returns : goal.returns
-returns g c =
-    let journal : List Entry = c.host_main-status.result.journal in
-    let call : Call = record {
-      words = bytes_of_words c.args.words.now;
-      before = outside g.S.Store.holds g.S.Store.faults g.W.Say.said g.W.Say.faults c.args.store.now c.args.say.now;
-      after = outside g.S.Store.holds g.S.Store.faults g.W.Say.said g.W.Say.faults c.host_main-status.new.store c.host_main-status.new.say;
-      journal = journal;
-    } in
-    let status = c.host_main-status.result.status in
-    let whole : Call = later call (g.S.Store.holds c.report.new.store) in
-    let says : Says whole status = says-later call status (g.S.Store.holds c.report.new.store) c.report.ensures.files c.host_main-status.ensures.says in
-    record {
-      journal = journal;
-      faults = call.after.faults;
-      says = says;
-      follows = follows_verdict whole status whole.before.told refl says;
-      completes = completes_verdict whole status whole.before.told refl says;
-      bad_words = c.host_main-status.ensures.bad_words;
-      no_fewer = c.report.ensures.count;
-      exit_is = c.exit_code-exit.ensures;
-    }
+returns g c = record {
+  journal = c.host_main-outcome.result.journal;
+  says = c.host_main-outcome.ensures.says;
+  follows = c.host_main-outcome.ensures.follows;
+  completes = c.host_main-outcome.ensures.completes;
+  bad_words = c.host_main-outcome.ensures.bad_words;
+  count = c.host_main-outcome.ensures.count;
+  exit_is = c.exit_code-exit.ensures;
+}

@@ -12,6 +12,8 @@ use std::alloc::Global;
 /// What a word of a form is.
 #[derive(Clone, Copy)]
 enum Part {
+    /// The name that is bound to what the statement gives.
+    Bound,
     /// A name.
     Name(&'static str),
     /// A name or a value.
@@ -35,7 +37,7 @@ const VALUE: Part = Part::Operand("a value");
 
 const LABEL: Part = Part::Operand("a label");
 
-const RESULT: Part = Part::Name("the name that is bound");
+const RESULT: Part = Part::Bound;
 
 const SEALED: Part = Part::Operand("a sealed value");
 
@@ -118,6 +120,19 @@ fn form_of(keyword: Keyword) -> Form {
     }
 }
 
+/// How the form that begins with a first word is written.
+pub(crate) fn form_text(keyword: Keyword) -> &'static str {
+    form_of(keyword).text
+}
+
+/// Whether so many words behind a first word are those of its form, the first of them the name that
+/// it binds.
+pub(crate) fn binds_and_fits(keyword: Keyword, count: usize) -> bool {
+    let form = form_of(keyword);
+    let is_whole = count == form.parts.len() || (form.more && count > form.parts.len());
+    matches!(form.parts.first(), Some(Part::Bound)) && is_whole
+}
+
 /// The form of an `unlabel` with a privilege.
 const USING: Form = Form {
     text: "unlabel X A using P",
@@ -184,7 +199,7 @@ fn parts_mistake(
 /// What is wrong with a word of a form.
 fn part_mistake(alloc: Global, names: &Names, part: Part, word: Word<'_>) -> Found {
     match part {
-        Part::Name(_) => name_mistake(alloc, word),
+        Part::Bound | Part::Name(_) => name_mistake(alloc, word),
         Part::Operand(_) => operand_mistake(alloc, names, word),
         Part::Word(_) => Ok(None),
     }
@@ -206,6 +221,7 @@ fn operands_mistake(alloc: Global, names: &Names, words: &[Word<'_>]) -> Found {
 /// A word of a form that isn't there.
 fn missing(alloc: Global, form: &Form, part: Part, end: usize) -> Found {
     let what = match part {
+        Part::Bound => Piece::Words("the name that is bound"),
         Part::Name(what) | Part::Operand(what) | Part::Word(what) => Piece::Words(what),
     };
     told_two(

@@ -2,8 +2,9 @@
 use crate::message::Piece;
 use crate::mistake::{Found, Mistake, told_one};
 use crate::script::first::first_mistake;
-use crate::script::form::form_mistake;
-use crate::script::words::words_of;
+use crate::script::form::{form_mistake, late_comment};
+use crate::script::operand::without_parentheses;
+use crate::script::words::{comment_before, words_of};
 use lio_clauses::{Names, NoMemory};
 use lio_syntax_lines::{Keyword, without_return};
 use std::alloc::Global;
@@ -26,12 +27,18 @@ pub fn line_mistake(
     }
     for (place, byte) in line.iter().enumerate() {
         if !is_plain(*byte) {
-            return strange(alloc, line, place);
+            return match comment_before(words.as_slice(), place) {
+                Some(comment) => late_comment(alloc, comment),
+                None => strange(alloc, line, place),
+            };
         }
     }
     match Keyword::find(first.text) {
         Some(keyword) => form_mistake(alloc, names, keyword, *first, behind, line.len()),
-        None => first_mistake(alloc, *first, behind),
+        None => match without_parentheses(alloc, *first)? {
+            Some(mistake) => Ok(Some(mistake)),
+            None => first_mistake(alloc, *first, behind),
+        },
     }
 }
 
@@ -54,9 +61,20 @@ fn character(bytes: &[u8]) -> &[u8] {
     }
 }
 
+/// Whether a text in quotes is open behind so many bytes.
+fn is_in_text(before: &[u8]) -> bool {
+    let mut is_open = false;
+    for byte in before {
+        if *byte == b'"' {
+            is_open = !is_open;
+        }
+    }
+    is_open
+}
+
 /// A character that may stand in comments alone.
 fn strange(alloc: Global, line: &[u8], place: usize) -> Found {
-    let Some(rest) = line.get(place..) else {
+    let (Some(before), Some(rest)) = (line.get(..place), line.get(place..)) else {
         return Ok(None);
     };
     let shown = character(rest);
@@ -66,7 +84,13 @@ fn strange(alloc: Global, line: &[u8], place: usize) -> Found {
         }
         [0xe2, 0x80, 0x98..=0x9f] => "{} stands here; a text stands in plain double quotes",
         [0xc2, 0xa0] => "{}, a no-break space, stands here; write a plain one",
-        _ => "{} stands here; a text has its bytes as \\xhh, and only comments have others",
+        [b'\r'] =>
+            "{} stands here; a line ends with a line feed, behind at most one carriage return",
+        _ if is_in_text(before) => {
+            "{} stands here; a text has its bytes as \\xhh, and only comments have others"
+        }
+        _ =>
+            "{} stands here; a name has letters of a to z, digits and \"_\", and only comments have other signs",
     };
     told_one(alloc, place, template, Piece::Shown(shown))
 }

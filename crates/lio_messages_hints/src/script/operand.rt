@@ -1,11 +1,12 @@
 //! What is wrong with names and values.
 use crate::message::Piece;
 use crate::mistake::{Found, told, told_one};
+use crate::script::form::form_text;
 use crate::script::label::label_mistake;
 use crate::script::text::text_mistake;
 use crate::script::words::Word;
-use lio_clauses::{Names, name_fault};
-use lio_syntax_lines::{One, Two, is_name, read_literal, read_whole};
+use lio_clauses::{Names, NoMemory, name_fault};
+use lio_syntax_lines::{Keyword, One, Two, is_name, read_literal, read_whole};
 use std::alloc::Global;
 use std::str;
 
@@ -63,11 +64,14 @@ fn wrong_byte(alloc: Global, word: Word<'_>, text: &[u8], at: usize) -> Found {
 
 /// What is wrong with a word that is to be a name or a value.
 pub(crate) fn operand_mistake(alloc: Global, names: &Names, word: Word<'_>) -> Found {
-    if is_name(word.text) || read_literal(alloc, names, word.text)?.is_some() {
+    if is_operand(alloc, names, word.text)? {
         return Ok(None);
     }
     if let Some(text) = constant_meant(word) {
         return told(alloc, word.place, text);
+    }
+    if let Some(mistake) = last_sign_mistake(alloc, names, word)? {
+        return Ok(Some(mistake));
     }
     let template = match word.text {
         [b'"', ..] => return text_mistake(alloc, word),
@@ -84,6 +88,46 @@ pub(crate) fn operand_mistake(alloc: Global, names: &Names, word: Word<'_>) -> F
         _ => return name_mistake(alloc, word),
     };
     told_one(alloc, word.place, template, Piece::Shown(word.text))
+}
+
+/// A sign of other languages behind a name or a value that is right without it.
+fn last_sign_mistake(alloc: Global, names: &Names, word: Word<'_>) -> Found {
+    let [before @ .., sign @ (b';' | b',')] = word.text else {
+        return Ok(None);
+    };
+    if !is_operand(alloc, names, before)? {
+        return Ok(None);
+    }
+    let text = match sign {
+        b';' => "no \";\" ends a line",
+        _ => "words stand apart by blanks, without commas",
+    };
+    told(alloc, word.inside(before.len()), text)
+}
+
+/// Whether a word is a name or a value.
+pub(crate) fn is_operand(alloc: Global, names: &Names, word: &[u8]) -> Result<bool, NoMemory> {
+    Ok(is_name(word) || read_literal(alloc, names, word)?.is_some())
+}
+
+/// A statement or an operator whose operands stand in parentheses: its form.
+pub(crate) fn without_parentheses(alloc: Global, first: Word<'_>) -> Found {
+    let Some(at) = first.text.iter().position(|byte| *byte == b'(') else {
+        return Ok(None);
+    };
+    let (name, _) = first.text.split_at(at);
+    let (template, piece) = match Keyword::find(name) {
+        Some(keyword) => {
+            let form = Piece::Words(form_text(keyword));
+            ("there are no parentheses: {}", form)
+        }
+        None if One::find(name).is_some() => {
+            let template = "there are no parentheses: let X = {} A, with one operator on a line";
+            (template, Piece::Shown(name))
+        }
+        None => return Ok(None),
+    };
+    told_one(alloc, first.inside(at), template, piece)
 }
 
 /// What to write for a flag or unit that was meant by a word of another language.

@@ -2,10 +2,11 @@
 
 use crate::message::{Message, Piece};
 use crate::mistake::{Found, Mistake, told, told_one, told_two};
+use crate::script::hints::{Hint, OpenAt, TakesAt, hint_at, line_at};
 use crate::script::line::line_mistake;
 use crate::script::words::{Word, words_of};
 use lio_clauses::{Names, NoMemory};
-use lio_syntax::{Hint, OpenAt, TakesAt, hint_at, line_at, parameter_count};
+use lio_syntax::parameter_count;
 use lio_syntax_lines::{Keyword, read_header};
 use lio_values::Text;
 use std::alloc::Global;

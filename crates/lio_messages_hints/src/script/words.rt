@@ -1,5 +1,6 @@
 //! The words of a line, each with its place.
 
+use crate::message::Message;
 use lio_clauses::NoMemory;
 use lio_syntax_lines::split_word;
 use std::alloc::Global;
@@ -39,4 +40,22 @@ pub(crate) fn words_of(alloc: Global, line: &[u8]) -> Result<Vec<Word<'_>>, NoMe
         rest = behind;
     }
     Ok(words)
+}
+
+/// Writes words behind a message, a blank before each.
+pub(crate) fn append_words(message: &mut Message, words: &[Word<'_>]) {
+    for word in words {
+        message.words(" ");
+        message.bytes(word.text);
+    }
+}
+
+/// The first word behind others, and before a place of the line, with which a comment begins.
+pub(crate) fn comment_before<'l>(words: &[Word<'l>], place: usize) -> Option<Word<'l>> {
+    for word in words.iter().skip(1) {
+        if word.place < place && word.text.starts_with(b"#") {
+            return Some(*word);
+        }
+    }
+    None
 }

@@ -30,8 +30,8 @@ returns-in-None-clause-ok g c =
 pub returns-in-None-clause-over : goal.returns-in-None-clause-over
 returns-in-None-clause-over g c = subst (λ (p : Policy). IsOver p.names c.in_ok-script.script) c.policy.view_is c.in_ok-script.ensures.over
 
-pub returns-clause-err : goal.returns-clause-err
-returns-clause-err g c =
+pub returns-in-Some-clause-err : goal.returns-in-Some-clause-err
+returns-in-Some-clause-err g c =
     let is : IsScript c.args.policy.now.names c.in_ok-text.text.items c.in_ok-script.script =
     subst (λ (text : List ℕ). IsScript c.args.policy.now.names text c.in_ok-script.script) c.as_slice.ensures.value
     (subst (λ (p : Policy). IsScript p.names c.as_slice.result.now c.in_ok-script.script) c.policy.view_is c.in_ok-script.ensures.script) in

@@ -1,7 +1,7 @@
 use Rattle.std.proofs.Common.{◌∙◌, ap}
 use Rattle.lio_syntax.specs.Lines.{script_lines}
 use Rattle.lio_syntax.proofs.GrammarLemmas.{accepts-script_lines}
-use Rattle.lio_task_control.specs.Items.{rest_of}
+use Rattle.lio_syntax.specs.Items.{rest_of}
 use Rattle.lio_task_control.specs.Continuation.{items_at}
 use Rattle.lio_task_control.proofs.ExitLemmas.{goes_behind}
 use Rattle.lio_task_control.proofs.places.next_place.Goals as goal

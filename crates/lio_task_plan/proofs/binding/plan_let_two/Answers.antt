@@ -2,7 +2,7 @@ use Rattle.std.proofs.Common.{◌∙◌, sym, ap, Some}
 use Rattle.std.specs.Prelude.{option_and_then}
 use Rattle.std.specs.Option.{option_copied}
 use Rattle.lio_syntax.specs.Lines.{script_lines}
-use Rattle.lio_task_control.specs.Environment.{Environment}
+use Rattle.lio_syntax.specs.Environment.{Environment}
 use Rattle.lio_calculus.specs.Operands.{bound, seen_as}
 use Rattle.lio_task_turns.specs.Operands.{sealed_value_of}
 use Rattle.lio_task_turns.specs.StateOf.{program_of}

@@ -2,7 +2,7 @@ use Rattle.std.proofs.Common.{◌≡◌, ◌∙◌, sym, ap, Bool, not, false, t
 use Rattle.std.specs.Prelude.{◌||◌}
 use Rattle.lio_cells.specs.declared.wish.Wish.TheVariants as wish
 use Rattle.lio_syntax_lines.specs.declared.line.Simple.{Simple}
-use Rattle.lio_task_control.specs.Environment.{Environment}
+use Rattle.lio_syntax.specs.Environment.{Environment}
 use Rattle.lio_calculus.specs.Operands.{bound, seen_as, reference_of, variable_of, result_of}
 use Rattle.lio_calculus.specs.Plan.{plan_access}
 use Rattle.lio_erasure.specs.Low.{low_configuration_of}

@@ -1,6 +1,6 @@
 use Rattle.std.proofs.Common.{◌∙◌, sym, ap, false, true, List}
 use Rattle.lio_syntax.specs.Lines.{script_lines}
-use Rattle.lio_task_control.specs.Items.{Item}
+use Rattle.lio_syntax.specs.Items.{Item}
 use Rattle.lio_calculus.specs.Plan.{plan_items}
 use Rattle.lio_task.specs.StateOf.{state_in}
 use Rattle.lio_task_turns.specs.StateOf.{program_of}

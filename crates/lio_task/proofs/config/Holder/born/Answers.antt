@@ -1,4 +1,4 @@
-use Rattle.std.proofs.Common.{◌≡◌, ◌∙◌, sym, ap, subst, ℕ, Option, []}
+use Rattle.std.proofs.Common.{◌≡◌, ◌∙◌, sym, ap, subst, ℕ, Option}
 use Rattle.std.specs.Option.{option_map}
 use Rattle.std.proofs.lemmas.Result.{IfOk-weaker}
 use Rattle.lio_labels.specs.declared.label.Label.{Label}
@@ -11,15 +11,15 @@ use Rattle.lio_task.specs.Turns.{IsChild}
 use Rattle.lio_task.proofs.LentLemmas.{found-same}
 use Rattle.lio_task.proofs.config.Holder.born.Goals as goal
 
-pub born_by-requires : goal.born_by-requires
-born_by-requires c =
-    subst (λ (label : Label). CanBear c.args.script.now label c.args.act.now) (sym (c.label.ensures [] ∙ ap (λ (t : Task). t.label) (found-same (sym c.in-Some.is) c.requires.is))) c.requires.bears
+pub bear-requires : goal.bear-requires
+bear-requires c =
+    subst (λ (label : Label). CanBear c.args.script.now label c.args.act.now) (sym (ap (λ (t : Task). t.label) (found-same (sym c.in-Some.is) c.requires.is))) c.requires.bears
 
 pub returns : goal.returns
 returns c =
     let script = c.args.script.now in
-    IfOk-weaker c.born_by.result (λ (child : Option Task). (longest : ℕ) → option_map (state_in script) child ≡ born (program_of script longest) c.label.result.now c.args.act.now)
+    IfOk-weaker c.bear.result (λ (child : Option Task). (longest : ℕ) → option_map (state_in script) child ≡ born (program_of script longest) c.in-Some.task.label c.args.act.now)
     (IsChild script c.args.self.now c.args.act.now)
     (λ child bears task is longest.
-    bears longest ∙ ap (λ (l : Label). born (program_of script longest) l c.args.act.now) (c.label.ensures [] ∙ ap (λ (t : Task). t.label) (found-same (sym c.in-Some.is) is)))
-    c.born_by.ensures
+    bears longest ∙ ap (λ (l : Label). born (program_of script longest) l c.args.act.now) (ap (λ (t : Task). t.label) (found-same (sym c.in-Some.is) is)))
+    c.bear.ensures

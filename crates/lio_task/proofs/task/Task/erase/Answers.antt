@@ -4,7 +4,7 @@ use Rattle.lio_syntax_lines.specs.declared.line.Line.{Line}
 use Rattle.lio_syntax.specs.Statements.{Procedure}
 use Rattle.lio_syntax.specs.Lines.{script_lines}
 use Rattle.lio_task_control.specs.Continuation.{place_of}
-use Rattle.lio_task_control.specs.Hiding.{hide_place}
+use Rattle.lio_syntax.specs.Hiding.{hide_place}
 use Rattle.lio_calculus.specs.Going.{at}
 use Rattle.lio_calculus.specs.Hiding.{hide_task}
 use Rattle.lio_task.specs.declared.task.Task.{Task}

@@ -1,7 +1,7 @@
 use Rattle.std.proofs.Common.{◌≡◌, ◌∙◌, ◌-◌, sym, subst}
 use Rattle.lio_values.specs.declared.value.Value.TheVariants.{Bare}
 use Rattle.lio_values.specs.declared.value.Plain.TheVariants.{Unit as unit}
-use Rattle.lio_task_control.specs.Throwing.{returned}
+use Rattle.lio_syntax.specs.Throwing.{returned}
 use Rattle.lio_calculus.specs.Going.{at}
 use Rattle.lio_task_plan.specs.Leads.{Leads}
 use Rattle.lio_task.specs.Goes.{Steps}

@@ -2,7 +2,7 @@ use Rattle.std.proofs.Common.{◌≡◌, ◌∙◌, ap, refl, [], ◌∷◌, ◌
 use Rattle.lio_syntax.specs.Lines.{script_lines}
 use Rattle.lio_task_control.specs.declared.frame.Frame.{Frame}
 use Rattle.lio_task_control.specs.declared.frame.Call.{Call}
-use Rattle.lio_task_control.specs.Items.{enter}
+use Rattle.lio_syntax.specs.Items.{enter}
 use Rattle.lio_task_control.specs.Continuation.{body_at, frame_over, place_of}
 use Rattle.lio_task_control.proofs.ContinuationLemmas.{at_own, below, place_eq, moved, body_over, on_err, called_back}
 use Rattle.lio_task_control.proofs.continuation.Continuation.call.Goals as goal

@@ -2,14 +2,14 @@ use Rattle.std.proofs.Common.{◌-◌, ◌+◌, ◌<◌, length, take, ◌≡◌
 use Rattle.lio_syntax.specs.Lines.{script_lines}
 use Rattle.lio_task_control.specs.declared.frame.Frame.{Frame}
 use Rattle.lio_task_control.specs.declared.frame.Call.{Call}
-use Rattle.lio_task_control.specs.Environment.{Environment}
+use Rattle.lio_syntax.specs.Environment.{Environment}
 use Rattle.lio_task_control.specs.Continuation.{frame_over, place_of}
 use Rattle.lio_task_control.proofs.ContinuationLemmas.{below, place_eq, on_err, set_same, above, above-all, above-at, above-none, thrown-call, thrown-none, take_all}
 use Rattle.std.proofs.Common.{rules}
 use Rattle.std.proofs.Math.ListN.{set}
 use Rattle.std.proofs.lemmas.List.{take_more_set}
-use Rattle.lio_task_control.specs.Items.{Fail}
-use Rattle.lio_task_control.specs.Throwing.{Place, thrown}
+use Rattle.lio_syntax.specs.Items.{Fail}
+use Rattle.lio_syntax.specs.Throwing.{Place, thrown}
 use Rattle.lio_task_control.specs.Parts.{outermost}
 use Rattle.lio_task_control.proofs.continuation.Continuation.catch.Goals as goal
 

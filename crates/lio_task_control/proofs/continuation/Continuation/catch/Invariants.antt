@@ -1,6 +1,6 @@
 use Rattle.std.proofs.Common.{◌≡◌, ◌≤◌, length, take}
 use Rattle.lio_syntax.specs.Lines.{script_lines}
-use Rattle.lio_task_control.specs.Throwing.{thrown}
+use Rattle.lio_syntax.specs.Throwing.{thrown}
 use Rattle.lio_task_control.specs.Continuation.{place_of}
 use Rattle.lio_task_control.proofs.ContinuationLemmas.{above, below}
 use Rattle.lio_task_control.proofs.continuation.Continuation.catch.Given as goal

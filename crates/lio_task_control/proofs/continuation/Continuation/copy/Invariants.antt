@@ -1,6 +1,6 @@
 use Rattle.std.proofs.Common.{◌≡◌, List, take}
 use Rattle.lio_syntax_lines.specs.declared.line.Line.{Line}
-use Rattle.lio_task_control.specs.Items.{Item}
+use Rattle.lio_syntax.specs.Items.{Item}
 use Rattle.lio_task_control.specs.Continuation.{calls_over}
 use Rattle.lio_task_control.proofs.continuation.Continuation.copy.Given as goal
 

@@ -2,7 +2,7 @@ use Rattle.lio_task_control.specs.declared.frame.Stage.{Stage}
 use Rattle.std.proofs.Common.{ℕ, ◌++◌, length, take, ◌≡◌, ◌∙◌, sym, ap, [], List, map, arith}
 use Rattle.lio_task_control.specs.declared.frame.Call.{Call}
 use Rattle.lio_task_control.specs.Continuation.{call_over, calls_over, frame_over, place_of, stage_items, frame_items}
-use Rattle.lio_task_control.specs.Hiding.{hide_item, hide_place}
+use Rattle.lio_syntax.specs.Hiding.{hide_item, hide_place}
 use Rattle.lio_task_control.proofs.ContinuationLemmas.{below, place_eq, take_all, calls_over-push, calls_over-take}
 use Rattle.lio_task_control.proofs.OwnLemmas.{frame-no_back, hidden-over}
 use Rattle.lio_task_control.proofs.continuation.Continuation.erase.Goals as goal

@@ -1,8 +1,8 @@
 use Rattle.std.proofs.Common.{◌≡◌, List, map, take}
 use Rattle.lio_syntax_lines.specs.declared.line.Line.{Line}
-use Rattle.lio_task_control.specs.Items.{Item}
+use Rattle.lio_syntax.specs.Items.{Item}
 use Rattle.lio_task_control.specs.Continuation.{calls_over}
-use Rattle.lio_task_control.specs.Hiding.{hide_item}
+use Rattle.lio_syntax.specs.Hiding.{hide_item}
 use Rattle.lio_task_control.proofs.continuation.Continuation.erase.Given as goal
 
 -- the calls so far are those that are there, erased

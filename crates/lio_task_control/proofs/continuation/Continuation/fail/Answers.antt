@@ -1,5 +1,5 @@
 use Rattle.std.proofs.Common.{◌∙◌, ap, [], ◌∷◌}
-use Rattle.lio_task_control.specs.Items.{Fail}
+use Rattle.lio_syntax.specs.Items.{Fail}
 use Rattle.lio_task_control.specs.Continuation.{place_of}
 use Rattle.lio_task_control.proofs.ContinuationLemmas.{below, place_eq, items_over, no_calls, resumed_outermost}
 use Rattle.lio_task_control.proofs.continuation.Continuation.fail.Goals as goal

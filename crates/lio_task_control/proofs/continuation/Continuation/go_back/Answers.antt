@@ -1,7 +1,7 @@
 use Rattle.std.proofs.Common.{◌-◌, ◌+◌, length, take, ◌≡◌, ◌∙◌, sym, ap, refl, [], arith}
 use Rattle.lio_task_control.specs.declared.frame.Frame.{Frame}
 use Rattle.lio_task_control.specs.declared.frame.Call.{Call}
-use Rattle.lio_task_control.specs.Environment.{Environment}
+use Rattle.lio_syntax.specs.Environment.{Environment}
 use Rattle.lio_task_control.specs.Continuation.{frame_over, place_of}
 use Rattle.lio_task_control.proofs.ContinuationLemmas.{below, place_eq, items_over, no_calls, went_back, went_nowhere, on_err, none_left, last_set, last_get, set_same}
 use Rattle.lio_task_control.proofs.continuation.Continuation.go_back.Goals as goal

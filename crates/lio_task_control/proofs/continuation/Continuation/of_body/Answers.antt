@@ -1,6 +1,6 @@
 use Rattle.std.proofs.Common.{◌∙◌, ap}
 use Rattle.lio_syntax.specs.Lines.{script_lines}
-use Rattle.lio_task_control.specs.Items.{enter}
+use Rattle.lio_syntax.specs.Items.{enter}
 use Rattle.lio_task_control.specs.Continuation.{body_at, place_of}
 use Rattle.lio_task_control.proofs.ContinuationLemmas.{place_eq, body_over, no_calls}
 use Rattle.lio_task_control.proofs.continuation.Continuation.of_body.Goals as goal

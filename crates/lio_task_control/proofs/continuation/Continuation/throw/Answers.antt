@@ -2,12 +2,12 @@ use Rattle.std.proofs.Common.{◌∙◌, sym, ap, List, [], ◌∷◌}
 use Rattle.lio_syntax.specs.Lines.{script_lines}
 use Rattle.lio_task_control.specs.declared.frame.Frame.{Frame}
 use Rattle.lio_task_control.specs.declared.frame.Call.{Call}
-use Rattle.lio_task_control.specs.Environment.{Environment}
+use Rattle.lio_syntax.specs.Environment.{Environment}
 use Rattle.lio_task_control.specs.Continuation.{place_of}
 use Rattle.lio_task_control.proofs.ContinuationLemmas.{thrown-own, same_place}
 use Rattle.std.proofs.lemmas.Result.{on_err_weaker, on_ok_weaker}
-use Rattle.lio_task_control.specs.Items.{Fail}
-use Rattle.lio_task_control.specs.Throwing.{Place}
+use Rattle.lio_syntax.specs.Items.{Fail}
+use Rattle.lio_syntax.specs.Throwing.{Place}
 use Rattle.lio_task_control.specs.Parts.{outermost}
 use Rattle.lio_task_control.proofs.continuation.Continuation.throw.Goals as goal
 

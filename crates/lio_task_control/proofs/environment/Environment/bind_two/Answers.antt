@@ -1,5 +1,5 @@
 use Rattle.std.proofs.Common.{◌∙◌, ap}
-use Rattle.lio_task_control.specs.Environment.{bind}
+use Rattle.lio_syntax.specs.Environment.{bind}
 use Rattle.lio_task_control.proofs.OrderLemmas.{bound_twice, bound_twice_in_order}
 use Rattle.lio_task_control.proofs.environment.Environment.bind_two.Goals as goal
 

@@ -1,5 +1,5 @@
 use Rattle.std.proofs.Common.{◌≡◌, take}
-use Rattle.lio_task_control.specs.Hiding.{hide_environment}
+use Rattle.lio_syntax.specs.Hiding.{hide_environment}
 use Rattle.lio_task_control.proofs.environment.Environment.erase.Given as goal
 
 -- the bindings so far are those that are there, erased

@@ -1,5 +1,5 @@
 use Rattle.std.proofs.Common.{◌∙◌, ◌+◌, drop, sym, ap, arith}
-use Rattle.lio_task_control.specs.Environment.{bind, bind_all}
+use Rattle.lio_syntax.specs.Environment.{bind, bind_all}
 use Rattle.lio_task_control.proofs.EnvironmentLemmas.{bind_all-next, bind_all-end}
 use Rattle.lio_task_control.proofs.environment.Environment.of.Goals as goal
 

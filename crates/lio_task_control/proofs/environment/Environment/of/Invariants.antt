@@ -1,5 +1,5 @@
 use Rattle.std.proofs.Common.{◌≡◌, [], drop}
-use Rattle.lio_task_control.specs.Environment.{bind_all}
+use Rattle.lio_syntax.specs.Environment.{bind_all}
 use Rattle.lio_task_control.proofs.environment.Environment.of.Given as goal
 
 -- the names before the place are bound

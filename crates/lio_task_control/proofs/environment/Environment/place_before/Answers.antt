@@ -1,5 +1,5 @@
 use Rattle.std.proofs.Common.{◌≡◌, ◌<◌, ◌∙◌, subst, ap, arith, length}
-use Rattle.lio_task_control.specs.Environment.{Environment, value_of}
+use Rattle.lio_syntax.specs.Environment.{Environment, value_of}
 use Rattle.lio_task_control.specs.Bound.{IsBoundBefore}
 use Rattle.lio_task_control.proofs.EnvironmentLemmas.{not_bound, bound_before, bound_last, comes_behind, compared, item_of}
 use Rattle.lio_task_control.proofs.environment.Environment.place_before.Goals as goal

@@ -1,6 +1,6 @@
 use Rattle.std.proofs.Common.{◌≡◌, ◌++◌, take, drop}
 use Rattle.lio_values.specs.declared.value.Value.{Value}
-use Rattle.lio_task_control.specs.Environment.{bind}
+use Rattle.lio_syntax.specs.Environment.{bind}
 use Rattle.lio_task_control.proofs.environment.Environment.place_before.Given as goal
 
 -- the name comes behind the bindings before the place

@@ -1,6 +1,6 @@
 use Rattle.std.proofs.Common.{◌∙◌, sym, ap, subst, arith}
 use Rattle.lio_task_control.specs.Bound.{AreInOrder}
-use Rattle.lio_task_control.specs.Environment.{value_of}
+use Rattle.lio_syntax.specs.Environment.{value_of}
 use Rattle.lio_task_control.proofs.EnvironmentLemmas.{value_of-behind, value_of-end}
 use Rattle.lio_task_control.proofs.OrderLemmas.{found_at}
 use Rattle.lio_task_control.proofs.environment.Environment.search.Goals as goal

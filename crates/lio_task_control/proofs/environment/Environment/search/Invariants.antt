@@ -1,5 +1,5 @@
 use Rattle.std.proofs.Common.{◌≡◌, drop}
-use Rattle.lio_task_control.specs.Environment.{value_of}
+use Rattle.lio_syntax.specs.Environment.{value_of}
 use Rattle.lio_task_control.proofs.environment.Environment.search.Given as goal
 
 -- the name is none of those before the place

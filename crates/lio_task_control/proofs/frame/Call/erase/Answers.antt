@@ -1,9 +1,9 @@
 use Rattle.std.proofs.Common.{ℕ, ◌∙◌, ap, List, ◌∷◌, ◌++◌, map}
-use Rattle.lio_task_control.specs.Environment.{Environment}
-use Rattle.lio_task_control.specs.Items.{Back, Item}
+use Rattle.lio_syntax.specs.Environment.{Environment}
+use Rattle.lio_syntax.specs.Items.{Back, Item}
 use Rattle.lio_task_control.specs.Continuation.{frame_items, stage_items}
 use Rattle.lio_task_control.specs.declared.frame.Stage.{Stage}
-use Rattle.lio_task_control.specs.Hiding.{hide_environment, hide_item}
+use Rattle.lio_syntax.specs.Hiding.{hide_environment, hide_item}
 use Rattle.lio_task_control.proofs.OwnLemmas.{frame-no_back, hidden-over}
 use Rattle.lio_task_control.proofs.frame.Call.erase.Goals as goal
 

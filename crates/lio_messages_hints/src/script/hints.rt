@@ -1,15 +1,15 @@
 //! What helps to mend a line of a script that breaks a rule. What a hint says has no contract; rows
 //! show it.
 
-use crate::read::read_headers;
 use lio_clauses::NoMemory;
+use lio_syntax::parameter_count;
 use lio_syntax_lines::{Keyword, split_word, without_return};
 use lio_values::Text;
 use std::alloc::Global;
 
 /// What helps to mend a line.
 #[derive(Drop)]
-pub enum Hint {
+pub(crate) enum Hint {
     Nothing,
     NothingOpen,
     /// The innermost block or procedure that is open before the line.
@@ -23,14 +23,14 @@ pub enum Hint {
 /// A block or a procedure: the first word of the line that begins it or its last part, and how many
 /// lines stand before that one.
 #[derive(Drop)]
-pub struct OpenAt {
+pub(crate) struct OpenAt {
     pub word: Keyword,
     pub line: usize,
 }
 
 /// A procedure, the number of its parameters, and how many arguments it is given.
 #[derive(Drop)]
-pub struct TakesAt {
+pub(crate) struct TakesAt {
     pub name: Text,
     pub wanted: usize,
     pub given: usize,
@@ -123,15 +123,6 @@ fn callee(line: &[u8]) -> Option<(&[u8], usize)> {
     Some((name, word_count(rest)))
 }
 
-/// How many parameters the first procedure of a script with a name has, if there is one.
-pub fn parameter_count(
-    alloc: Global,
-    script: &[u8],
-    name: &[u8],
-) -> Result<Option<usize>, NoMemory> {
-    Ok(read_headers(alloc, script)?.find(name))
-}
-
 /// What helps to mend a line that calls, forks or spawns a procedure which isn't there or takes
 /// another number of arguments.
 fn callee_hint(alloc: Global, script: &[u8], line: &[u8]) -> Result<Hint, NoMemory> {
@@ -151,7 +142,12 @@ fn callee_hint(alloc: Global, script: &[u8], line: &[u8]) -> Result<Hint, NoMemo
 }
 
 /// What helps to mend the line with a number that breaks a rule.
-pub fn hint_at(alloc: Global, script: &[u8], number: u32, rule: u32) -> Result<Hint, NoMemory> {
+pub(crate) fn hint_at(
+    alloc: Global,
+    script: &[u8],
+    number: u32,
+    rule: u32,
+) -> Result<Hint, NoMemory> {
     match rule {
         2 => open_before(alloc, script, number),
         3 | 4 => callee_hint(alloc, script, line_at(script, number)),

@@ -14,10 +14,10 @@ pub struct Binding {
 }
 
 impl Binding {
-    ghost use Rattle.lio_task_control.specs.Hiding.{hide_binding};
+    ghost use Rattle.lio_syntax.specs.Hiding.{hide_binding};
 
     /// An equal binding.
-    pub(crate) fn copy(&self, alloc: Global) -> Result<Binding, NoMemory>
+    pub fn copy(&self, alloc: Global) -> Result<Binding, NoMemory>
         ensures { IfOk result (λ binding. binding ≡ self.now) }
     {
         let name = self.name.copy(alloc)?;
@@ -26,7 +26,7 @@ impl Binding {
     }
 
     /// The binding as an observer sees it.
-    pub(crate) fn erase(&self, alloc: Global, observer: &Label) -> Result<Binding, NoMemory>
+    pub fn erase(&self, alloc: Global, observer: &Label) -> Result<Binding, NoMemory>
         ensures { IfOk result (λ binding. binding ≡ hide_binding observer.now self.now) }
     {
         let name = self.name.copy(alloc)?;

@@ -3,7 +3,7 @@ use Rattle.std.specs.Prelude.{ℕ, ◌+◌, List, [], ◌∷◌}
 use Rattle.lio_values.specs.declared.fault.Fault.{Fault}
 use Rattle.lio_syntax_lines.specs.declared.line.Simple.{Simple}
 use Rattle.lio_syntax.specs.Statements.{Statement, Statements, Nothing, Then}
-use Rattle.lio_task_control.specs.Environment.{Environment}
+use Rattle.lio_syntax.specs.Environment.{Environment}
 
 -- what a task still has to do
 pub data Item : Type 0 where

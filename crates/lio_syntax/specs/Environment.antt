@@ -7,7 +7,7 @@ use Rattle.std.specs.declared.cmp.Ordering.{Ordering}
 use Rattle.std.specs.declared.cmp.Ordering.TheVariants.{Less, Equal, Greater}
 use Rattle.lio_values.specs.declared.value.Value.{Value}
 -- a name with its value
-pub use Rattle.lio_task_control.specs.declared.binding.Binding.{Binding}
+pub use Rattle.lio_syntax.specs.declared.binding.Binding.{Binding}
 
 abbrev pub Environment : Type 0
 Environment = List Binding

@@ -2,8 +2,8 @@
 use Rattle.std.proofs.Common.{◌≡◌, refl, ap, List, ◌∷◌, map}
 use Rattle.lio_labels.specs.declared.label.Label.{Label}
 use Rattle.lio_syntax.specs.Statements.{Statements, Nothing, Then}
-use Rattle.lio_task_control.specs.Items.{Item, Do, enter}
-use Rattle.lio_task_control.specs.Hiding.{hide_item}
+use Rattle.lio_syntax.specs.Items.{Item, Do, enter}
+use Rattle.lio_syntax.specs.Hiding.{hide_item}
 
 -- a block holds no values
 pub enter-hidden : (observer : Label) (block : Statements) (items : List Item) → enter block (map (hide_item observer) items) ≡ map (hide_item observer) (enter block items)

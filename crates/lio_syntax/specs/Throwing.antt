@@ -8,8 +8,8 @@ use Rattle.lio_values.specs.declared.value.Plain.TheVariants.{Unit as unit, Whol
 use Rattle.lio_values.specs.declared.value.Value.{Value}
 use Rattle.lio_values.specs.declared.value.Value.TheVariants.{Bare}
 use Rattle.lio_syntax.specs.Statements.{Statements}
-use Rattle.lio_task_control.specs.Environment.{Environment, bind}
-use Rattle.lio_task_control.specs.Items.{Item, Do, Access, Mark, Back, Fail, enter}
+use Rattle.lio_syntax.specs.Environment.{Environment, bind}
+use Rattle.lio_syntax.specs.Items.{Item, Do, Access, Mark, Back, Fail, enter}
 
 -- the number of a kind of fault, as handlers see it
 abbrev pub code_of : FaultKind → ℕ
