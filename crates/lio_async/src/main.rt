@@ -14,6 +14,7 @@ ghost use Rattle.lio_async_main.specs.Words.{host_words};
 use lio_async_main::{CoopOutcome, CoopStatus, coop_main};
 use lio_clauses::NoMemory;
 use lio_host_main::HostStatus;
+use lio_messages_notes::{Source, print_notes};
 use lio_messages_refusals::{Program, print_refusal};
 use lio_outside::{Say, Store};
 use lio_system::{RealSay, RealStore};
@@ -40,8 +41,39 @@ fn exit_code(status: &CoopStatus) -> ExitCode
     ExitCode::from(status.number())
 }
 
-/// Runs the script that the words name, says on standard error what was refused, if anything was,
-/// and gives the answer and its exit status.
+/// The bytes, where they were read; else none.
+fn bytes_of(bytes: &Option<Vec<u8>>) -> &[u8] {
+    match bytes {
+        Some(bytes) => bytes.as_slice(),
+        None => &[],
+    }
+}
+
+/// Says on standard error what was refused, or what went wrong in the run, if anything was or did.
+fn report<R: AllocGlobal + Eprint, S: Store, W: Say>(
+    rt: &R,
+    words: &[String],
+    store: &S,
+    say: &W,
+    outcome: &CoopOutcome,
+) {
+    let CoopOutcome {
+        status,
+        journal,
+        job,
+        config,
+        texts,
+    } = outcome;
+    if let (Some(job), Some(config), [_, script, ..]) = (job, config, words) {
+        let text = bytes_of(&texts.script);
+        let name = script.as_str();
+        print_notes(rt, job, journal, config, Source { name, text });
+    }
+    print_refusal(rt, Program::Futures, words, store, say, status, texts, None);
+}
+
+/// Runs the script that the words name, says on standard error what was refused or went wrong, if
+/// anything was or did, and gives the answer and its exit status.
 fn respond<R, S: Store, W: Say>(
     rt: &R,
     words: &[String],
@@ -57,15 +89,19 @@ where
       journal = journal;
     }) result.0 (exit_status result.1) }
 {
+    let outcome = coop_main(rt, rt.alloc(), words, store, say);
+    report(rt, words, store, say, &outcome);
     let CoopOutcome {
         status,
         journal,
-        texts,
-    } = coop_main(rt, rt.alloc(), words, store, say);
-    // Giving back a long journal piece by piece would take a good part of the run.
+        config,
+        ..
+    } = outcome;
+    // Giving back a long journal and the logs of nodes piece by piece would take a good part of the
+    // run.
     mem::forget(journal);
+    mem::forget(config);
     let exit = exit_code(&status);
-    print_refusal(rt, Program::Futures, words, store, &status, &texts, None);
     (status, exit)
 }
 

@@ -6,9 +6,10 @@ use Rattle.lio_calculus.specs.Run.{Ran, run}
 use Rattle.lio_start.specs.Job.{IsJob, JobParts, first_of}
 use Rattle.lio_rounds.specs.Headline.{IsRunOf}
 use Rattle.lio_rounds.specs.Runs.{IsByRounds, RunsRounds}
+use Rattle.lio_rounds.proofs.FlowLemmas.{job_goes_by_flows}
 use Rattle.lio_rounds.proofs.RunLemmas.{run-by_rounds, run-of_job}
 use Rattle.lio_front.specs.Command.{Command, Mode, Rounds, command_by, command_of, is_name}
-use Rattle.lio_host_main.specs.Answers.{Call, Ends, RanAs, RanBy, Says, StopsBy}
+use Rattle.lio_host_main.specs.Answers.{Call, Ends, FlowsAs, FlowsBy, RanAs, RanBy, Says, StopsBy}
 use Rattle.lio_host_main.specs.Order.{InRounds, Order, Way}
 use Rattle.lio_host_main.specs.Verdict.{AreGiven, ordering}
 use Rattle.lio_host_main.proofs.Says.{bad_words}
@@ -29,6 +30,12 @@ way-in_rounds told order given rounds =
 pub ran-as : (told : Option FileMap) (order : Order) (ran : Ran) → AreGiven told order → order.command.mode ≡ Rounds → RunsRounds (first_of order.job) ran → RanAs order ran
 ran-as told order ran given rounds runs =
     subst (λ (way : Way). RanBy way order ran) (sym (way-in_rounds told order given rounds)) (run-by_rounds (first_of order.job) ran runs)
+
+-- and no input that never flows to a channel changes a byte of it
+pub flows-as : (told : Option FileMap) (order : Order) (ran : Ran) → AreGiven told order → order.command.mode ≡ Rounds → IsJob order.job → RunsRounds (first_of order.job) ran → FlowsAs order ran
+flows-as told order ran given rounds is runs =
+    subst (λ (way : Way). FlowsBy way order.job ran) (sym (way-in_rounds told order given rounds))
+    (job_goes_by_flows order.job ran is (run-of_job order.job ran is runs).is_run (run-by_rounds (first_of order.job) ran runs))
 
 pub run-of : (job : JobParts) (ran : Ran) → IsJob job → RunsRounds (first_of job) ran → IsRunOf job ran
 run-of job ran is runs = run-of_job job ran is runs

@@ -22,6 +22,7 @@ use lio_labels::Label;
 use lio_outside::{Say, Store};
 use lio_rounds::Ran;
 use lio_start::Job;
+use lio_task::Config;
 use std::alloc::{AllocGlobal, Global};
 use std::random::RandomSource;
 use std::sync::Wait;
@@ -32,6 +33,10 @@ use std::thread::Threads;
 pub struct CoopOutcome {
     pub status: CoopStatus,
     pub journal: Journal,
+    /// What was run, where the answer is Done. No clause speaks of it.
+    pub job: Option<Job>,
+    /// The last configuration of the run, where the answer is Done. No clause speaks of it.
+    pub config: Option<Config>,
     /// The bytes of the policy and of the script, as far as they were read.
     pub texts: Texts,
 }
@@ -44,6 +49,8 @@ fn refused(alloc: Global, status: CoopStatus, texts: Texts) -> CoopOutcome
     CoopOutcome {
         status,
         journal: Journal::new(alloc),
+        job: None,
+        config: None,
         texts,
     }
 }
@@ -58,6 +65,8 @@ fn unfinished(alloc: Global, status: CoopStatus, journal: Journal, texts: Texts)
         status => CoopOutcome {
             status,
             journal,
+            job: None,
+            config: None,
             texts,
         },
     }
@@ -119,17 +128,29 @@ fn answer<R: Wait + RandomSource + AllocGlobal, S: Store, W: Say>(
     };
     journal_fits(&ran.journal);
     let finished = finish_seen(alloc, store, say, &order, &ran, &seen);
-    give_up(order);
+    let Order {
+        job,
+        observer,
+        way,
+        ..
+    } = order;
+    drop(observer);
+    drop(way);
     drop(seen);
     let Ran { journal, config } = ran;
-    drop(config);
     match finished {
         Ok(()) => CoopOutcome {
             status: CoopStatus::Done,
             journal,
+            job: Some(job),
+            config: Some(config),
             texts,
         },
-        Err(status) => unfinished(alloc, status, journal, texts),
+        Err(status) => {
+            drop(config);
+            drop(job);
+            unfinished(alloc, status, journal, texts)
+        }
     }
 }
 

@@ -18,7 +18,7 @@ use Rattle.lio_cells.specs.State.{Kind, Reference, Variable, Result as result, a
 use Rattle.lio_task_control.specs.declared.front.Front.{Front}
 use Rattle.lio_task_control.specs.declared.front.Front.TheVariants as front
 use Rattle.lio_task_control.specs.Front.{IsBack, IsChoice, IsFront, IsGuarded, IsLoop, IsMark}
-use Rattle.lio_syntax.specs.Items.{Item, Do, Access, Mark, Back, Fail}
+use Rattle.lio_syntax.specs.Items.{Item, Do, Access}
 use Rattle.lio_calculus.specs.Afforded.{kind_met}
 use Rattle.lio_calculus.specs.Operands.{bound, seen_as, reference_of, variable_of, result_of as result_handle}
 use Rattle.lio_calculus.specs.Task.{TaskState}

@@ -11,15 +11,13 @@ ghost use Rattle.lio_host_main.specs.Answers.{EndsWith};
 ghost use Rattle.lio_front.specs.Sorted.{bytes_of_words};
 
 use lio_clauses::NoMemory;
-use lio_events::Journal;
 use lio_front::Texts;
 use lio_host_main::{HostStatus, Outcome, expected_line, host_main};
-use lio_messages_notes::{Source, notes_text, troubles_of};
+use lio_messages_notes::{Source, print_notes};
 use lio_messages_refusals::{Program, Stop, print_refusal, script_name, stop_at};
 use lio_outside::{Say, Store};
 use lio_start::Job;
 use lio_system::{RealSay, RealStore};
-use lio_task::Config;
 use lio_workers::{Gate, OpenGate};
 use std::alloc::Global;
 use std::process::ExitCode;
@@ -52,26 +50,8 @@ fn bytes_of(bytes: &Option<Vec<u8>>) -> &[u8] {
     }
 }
 
-/// The notes on a run whose script's file has this name and this text.
-fn notes(
-    alloc: Global,
-    name: &str,
-    text: &[u8],
-    job: &Job,
-    journal: &Journal,
-    config: &Config,
-) -> Result<String, NoMemory> {
-    let troubles = troubles_of(alloc, job, journal, config)?;
-    if troubles.is_empty() {
-        return Ok(String::new(alloc));
-    }
-    let source = Source { name, text };
-    notes_text(alloc, job, journal, config, &troubles, source)
-}
-
-/// Says on standard error what went wrong in a run of files, if anything did; nothing where no
-/// memory is left for it.
-fn print_notes<R: AllocGlobal + Eprint>(rt: &R, words: &[String], outcome: &Outcome) {
+/// Says on standard error what went wrong in a run of files, if anything did.
+fn note<R: AllocGlobal + Eprint>(rt: &R, words: &[String], outcome: &Outcome) {
     let Outcome {
         journal,
         job: Some(job),
@@ -86,9 +66,7 @@ fn print_notes<R: AllocGlobal + Eprint>(rt: &R, words: &[String], outcome: &Outc
         return;
     };
     let text = bytes_of(&texts.script);
-    if let Ok(notes) = notes(rt.alloc(), name, text, job, journal, config) {
-        let _ = eprint!(rt; "{notes}");
-    }
+    print_notes(rt, job, journal, config, Source { name, text });
 }
 
 /// The line at which a history stops, with what should stand there.
@@ -113,10 +91,11 @@ fn stop_of(
 }
 
 /// Says on standard error what was refused, or what went wrong in the run, if anything was or did.
-fn report<R: AllocGlobal + Eprint, S: Store>(
+fn report<R: AllocGlobal + Eprint, S: Store, W: Say>(
     rt: &R,
     words: &[String],
     store: &S,
+    say: &W,
     outcome: &Outcome,
 ) {
     let Outcome {
@@ -127,11 +106,11 @@ fn report<R: AllocGlobal + Eprint, S: Store>(
         ..
     } = outcome;
     if let HostStatus::Done = status {
-        print_notes(rt, words, outcome);
+        note(rt, words, outcome);
         return;
     }
     let stop = stop_of(rt.alloc(), status, job, history);
-    print_refusal(rt, Program::Host, words, store, status, texts, stop);
+    print_refusal(rt, Program::Host, words, store, say, status, texts, stop);
 }
 
 /// Runs the script that the words name, says on standard error what was refused or went wrong, if
@@ -153,7 +132,7 @@ where
     }) result.0 (exit_status result.1) }
 {
     let outcome = host_main(rt, rt.alloc(), words, store, say, gate);
-    report(rt, words, store, &outcome);
+    report(rt, words, store, say, &outcome);
     let Outcome {
         status,
         journal,

@@ -22,7 +22,7 @@ use Rattle.lio_host_main.specs.declared.order.Loaded.{Loaded}
 use Rattle.lio_host_main.specs.Order.{Order, Way, AsTold, names_read, seen_by, view_file, written}
 use Rattle.lio_host_main.specs.Workload.{made_files}
 use Rattle.lio_host_main.specs.Verdict.{AreGiven, IsRefusedBy, IsVerdict, cause_of, files_of, loading, of_source, order_by, ordering, told_of, verdict, verdict_by}
-use Rattle.lio_host_main.specs.Answers.{Call, CanBeRun, Completes, IsFault, NothingDone, RanAs, Refused, RunsOrder, Finishes, Ends, SaysBadWords, SaysDone, SaysNoMemory, StopsBy, StopsTheRun, Says, Follows, journal_with}
+use Rattle.lio_host_main.specs.Answers.{Call, CanBeRun, Completes, FlowsAs, IsFault, NothingDone, RanAs, Refused, RunsOrder, Finishes, Ends, SaysBadWords, SaysDone, SaysNoMemory, StopsBy, StopsTheRun, Says, Follows, journal_with}
 use Rattle.lio_host_main.proofs.ObservedLemmas.{rerun-by-each, seen-by-each}
 use Rattle.lio_host_main.proofs.Prepares.{none-taken}
 
@@ -222,13 +222,15 @@ says-stopped call command order (NotARun line) named is nothing stops = record {
 says-stopped call command order other named is nothing stops = absurd stops
 
 -- a run was made of what the command gives
-pub runs-order : (call : Call) (order : Order) (ran : Ran) (command : Command) → command_of call.words ≡ Some command → order.command ≡ command → AreGiven call.before.told order → IsRunOf order.job ran → RanAs order ran → All EntryFits ran.entries → RunsOrder call order ran
-runs-order call order ran command named same given is_run ran_as fits = record {
+pub runs-order : (call : Call) (order : Order) (ran : Ran) (command : Command) → command_of call.words ≡ Some command → order.command ≡ command → AreGiven call.before.told order → IsRunOf order.job ran → RanAs order ran → FlowsAs order ran → All EntryFits ran.entries
+    → RunsOrder call order ran
+runs-order call order ran command named same given is_run ran_as flows fits = record {
   verdict = record { command = named ∙ ap Some (sym same); given = given };
   is_run = is_run;
   ran_as = ran_as;
   seen = seen-by-each order.job ran is_run fits;
   rerun = rerun-by-each order ran order.way is_run ran_as;
+  flows = flows;
 }
 
 -- its files are written, and its summary was said

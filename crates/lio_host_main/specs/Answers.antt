@@ -10,7 +10,8 @@ use Rattle.lio_front.specs.Laws.{HoldsEachFile}
 use Rattle.lio_front.specs.Summary.{summary_text}
 use Rattle.lio_calculus.specs.Run.{Ran}
 use Rattle.lio_calculus.specs.Step.{Configuration}
-use Rattle.lio_start.specs.Job.{first_of}
+use Rattle.lio_start.specs.Job.{JobParts, first_of}
+use Rattle.lio_rounds.specs.FlowLaws.{GoesByFlows}
 use Rattle.lio_rounds.specs.Headline.{IsRunOf}
 use Rattle.lio_rounds.specs.Runs.{IsByRounds, IsMergeOfLogs}
 use Rattle.lio_front.specs.Command.{Command, command_of}
@@ -57,13 +58,23 @@ RanBy (AsTold bytes) order ran = IsHistoryOf order.job.policy.names (first_of or
 abbrev pub RanAs : Order → Ran → Type 0
 RanAs order ran = RanBy order.way order ran
 
--- the journal is a complete run of what the verdict says, of which each observer sees what the erased calculus gives; how it was made; and what each observer can check and compute of it by what it holds
+-- what a run leaves in the channels, whatever the script is: in rounds no input that never flows to a channel by the policy changes a byte of it; of another order of turns this isn't said
+abbrev pub FlowsBy : Way → JobParts → Ran → Type 0
+FlowsBy InRounds job ran = GoesByFlows job ran
+FlowsBy (ByWorkers count) job ran = Unit {0}
+FlowsBy (AsTold bytes) job ran = Unit {0}
+
+abbrev pub FlowsAs : Order → Ran → Type 0
+FlowsAs order ran = FlowsBy order.way order.job ran
+
+-- the journal is a complete run of what the verdict says, of which each observer sees what the erased calculus gives; how it was made; what each observer can check and compute of it by what it holds; and what may have come to each channel
 pub record RunsOrder (call : Call) (order : Order) (ran : Ran) : Type 0 where
   pub verdict : IsVerdict call.before.told call.words order
   pub is_run : IsRunOf order.job ran
   pub ran_as : RanAs order ran
   pub seen : IsSeenByEach order.job.policy.names (first_of order.job) ran
   pub rerun : IsRerunByEach order.way (first_of order.job) ran
+  pub flows : FlowsAs order ran
 
 -- bytes aren't the history of a complete run from a configuration, from a line on: they are that of no run, and stop at no other line
 abbrev pub StopsAtLine : List (List ℕ) → Configuration → List ℕ → ℕ → Type 0

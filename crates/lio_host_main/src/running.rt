@@ -10,7 +10,7 @@ ghost use Rattle.lio_calculus_runs.specs.WellFormed.{IsWellFormed};
 ghost use Rattle.lio_task.specs.Configuration.{configuration_of};
 ghost use Rattle.lio_task.specs.Logs.{AreFresh};
 ghost use Rattle.lio_start.specs.Job.{IsJob, first_of};
-ghost use Rattle.lio_host_main.specs.Answers.{HasNoLine, RanAs, StopsTheRun};
+ghost use Rattle.lio_host_main.specs.Answers.{FlowsAs, HasNoLine, RanAs, StopsTheRun};
 ghost use Rattle.lio_host_main.specs.Order.{IsCountedWay, order_of};
 
 use crate::order::{Order, Way};
@@ -85,6 +85,8 @@ pub(crate) fn run_order<R: Threads + Wait + Sync, G: Gate + Sync>(
     ensures run { IfOk result (λ ran. IsRunOf order.now.job (ran_of order.now.job.script ran)) }
     ensures ran_as { IfOk result
         (λ ran. RanAs (order_of order.now) (ran_of order.now.job.script ran)) }
+    ensures flows { IfOk result
+        (λ ran. FlowsAs (order_of order.now) (ran_of order.now.job.script ran)) }
     ensures err { IfErr result (StopsTheRun (order_of order.now)) }
 {
     match &order.way {

@@ -1,5 +1,6 @@
 //! What the last configuration tells of a trouble: where its task stood, and why it ended.
 
+use crate::help::help_of;
 use crate::printer::Printer;
 use crate::reason::{kind_word, print_reason};
 use crate::trace::{fault_of, told_fault};
@@ -22,6 +23,10 @@ pub(crate) struct Found {
     pub born: Option<usize>,
     /// Why it ended so, in words, where there is something to say.
     pub reason: String,
+    /// The line at which the task stood whose fault it was told, where it waited for one.
+    pub waited: Option<usize>,
+    /// What helps, where there is something to say.
+    pub help: &'static str,
 }
 
 /// The fault that a task was told in its turn before its end, if it was told one.
@@ -64,10 +69,24 @@ fn reason(
 }
 
 /// The line at which a task stands, or stood when it threw a fault that nothing caught.
-fn line_of(job: &Job, task: &Task) -> usize {
+pub(crate) fn line_of(job: &Job, task: &Task) -> usize {
     match task.stood() {
         Some(stood) => stood.line(job.script()),
         None => task.line(job.script()),
+    }
+}
+
+/// The line at which the task stood whose fault a task was told, where it waited for one.
+fn waited_line(job: &Job, config: &Config, ending: Ending) -> Option<usize> {
+    let source = config.task(ending.source?)?;
+    Some(line_of(job, source))
+}
+
+/// What helps where a task ended by a fault of a kind that it threw itself.
+fn help(job: &Job, task: &Task, ending: Ending, kind: &FaultKind) -> &'static str {
+    match (ending.source, kind, task.stood()) {
+        (Some(_), _, _) | (_, FaultKind::NoTurns, _) | (_, _, None) => "",
+        (None, _, Some(stood)) => help_of(job, stood),
     }
 }
 
@@ -85,6 +104,8 @@ impl Found {
             line: None,
             born: None,
             reason: String::new(alloc),
+            waited: None,
+            help: "",
         };
         match trouble {
             Trouble::Ended(ending) => found.look_at_end(alloc, job, config, ending, entries)?,
@@ -114,6 +135,8 @@ impl Found {
             self.line = Some(line_of(job, task));
             self.born = task.born();
             self.reason = reason(alloc, job, task, ending, &fault.kind, entries)?;
+            self.waited = waited_line(job, config, ending);
+            self.help = help(job, task, ending, &fault.kind);
         }
         Ok(())
     }

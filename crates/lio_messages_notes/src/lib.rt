@@ -3,7 +3,9 @@
 #![tactic(auto)]
 
 mod found;
+mod help;
 mod notes;
+mod print;
 mod printer;
 mod reason;
 mod seen;
@@ -12,6 +14,5 @@ mod trace;
 mod troubles;
 mod wrong;
 
-pub use notes::notes_text;
+pub use print::{notes_of, print_notes};
 pub use source::Source;
-pub use troubles::{Troubles, troubles_of};

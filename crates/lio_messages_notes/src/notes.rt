@@ -137,16 +137,41 @@ impl<'r> About<'r> {
         printer.fill("{}", turns_word(given), Piece::Nothing);
     }
 
-    /// Writes the line of the script at which a task ended, and why, where there is something to
-    /// say.
-    fn print_detail(&self, printer: &mut Printer<'_>, line: Option<SourceLine<'_>>, reason: &str) {
+    /// Writes the line of the script at which a task ended, why, and what helps, where there is
+    /// something to say.
+    fn print_detail(
+        &self,
+        printer: &mut Printer<'_>,
+        line: Option<SourceLine<'_>>,
+        found: &Found,
+    ) {
         if let Some(line) = line {
             let number = Piece::Number(line.number as u64);
             printer.fill("\n  {} | {}", number, Piece::Shown(line.bytes));
         }
-        if !reason.is_empty() {
+        if !found.reason.is_empty() {
             printer.words("\n  ");
-            printer.words(reason);
+            printer.words(found.reason.as_str());
+        }
+        if let Some(line) = self.line(found.waited) {
+            printer.words(" at ");
+            self.print_place(printer, line);
+        }
+        if !found.help.is_empty() {
+            printer.words("\n  help: ");
+            printer.words(found.help);
+        }
+    }
+
+    /// Writes how many tasks more ended so, where some did.
+    fn print_more(&self, printer: &mut Printer<'_>, more: usize) {
+        if more > 0 {
+            let tasks = if more == 1 { " task" } else { " tasks" };
+            printer.fill(
+                "\n  {}{} more ended with it there",
+                Piece::Number(more as u64),
+                Piece::Words(tasks),
+            );
         }
     }
 
@@ -168,7 +193,8 @@ impl<'r> About<'r> {
             FaultKind::NoTurns if ending.source.is_none() => self.print_given(printer, ending),
             _ => self.print_taken(printer, ending),
         }
-        self.print_detail(printer, line, found.reason.as_str());
+        self.print_detail(printer, line, found);
+        self.print_more(printer, ending.more);
     }
 
     /// Writes the note on a task that stands still for ever.

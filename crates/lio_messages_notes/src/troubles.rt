@@ -1,5 +1,6 @@
 //! What went wrong in a run, by its last configuration, and by its journal where a task failed.
 
+use crate::found::line_of;
 use crate::trace::{Trace, fault_of, fault_source, traces_of};
 use lio_cells::State;
 use lio_clauses::NoMemory;
@@ -28,6 +29,8 @@ pub(crate) struct Ending {
     pub turns: usize,
     /// The task whose fault it was told in its turn before, where it waited for one.
     pub source: Option<u32>,
+    /// How many tasks more ended so at the same line.
+    pub more: usize,
 }
 
 /// What went wrong.
@@ -39,6 +42,38 @@ pub(crate) enum Trouble {
     Waits(u32),
     /// The channel with this number received nothing.
     Silent(u32),
+}
+
+/// The end of a run.
+#[derive(Clone, Copy)]
+struct End<'r> {
+    job: &'r Job,
+    config: &'r Config,
+    entries: &'r [Entry],
+}
+
+impl End<'_> {
+    /// The line at which a task stood.
+    fn line(self, task: u32) -> Option<usize> {
+        Some(line_of(self.job, self.config.task(task)?))
+    }
+
+    /// Whether two tasks ended by the same kind of fault at the same line, and neither waited for
+    /// another.
+    fn is_alike(self, one: Ending, other: Ending) -> bool {
+        let (Some(first), Some(second)) = (self.entries.get(one.end), self.entries.get(other.end)) else {
+            return false;
+        };
+        match (fault_of(first), fault_of(second)) {
+            (Some(first), Some(second)) => {
+                one.source.is_none()
+                    && other.source.is_none()
+                    && first.kind == second.kind
+                    && self.line(one.task) == self.line(other.task)
+            }
+            _ => false,
+        }
+    }
 }
 
 /// What went wrong in a run: the first of it, and how much more there is.
@@ -64,14 +99,28 @@ impl Troubles {
         Ok(())
     }
 
+    /// Adds a task that ended by a fault, to the first that ended so at the same line, if one did.
+    fn add_ending(&mut self, end: &End<'_>, ending: Ending) -> Result<(), NoMemory> {
+        for trouble in &mut self.first {
+            if let Trouble::Ended(first) = trouble
+                && end.is_alike(*first, ending)
+            {
+                first.more = first.more.saturating_add(1);
+                return Ok(());
+            }
+        }
+        self.add(Trouble::Ended(ending))
+    }
+
     /// Adds the tasks that ended by a fault which nobody caught, in the order of their ends.
-    fn add_endings(&mut self, traces: &[Trace], entries: &[Entry]) -> Result<(), NoMemory> {
+    fn add_endings(&mut self, traces: &[Trace], end: &End<'_>) -> Result<(), NoMemory> {
+        let entries = end.entries;
         for (place, entry) in entries.iter().enumerate() {
             if fault_of(entry).is_some()
                 && let Some(trace) = traces.get(entry.actor as usize)
                 && trace.handlers == 0
             {
-                self.add(Trouble::Ended(ending_of(trace, entries, place, entry.actor)))?;
+                self.add_ending(end, ending_of(trace, entries, place, entry.actor))?;
             }
         }
         Ok(())
@@ -117,6 +166,7 @@ fn ending_of(trace: &Trace, entries: &[Entry], place: usize, task: u32) -> Endin
             Some(entry) => fault_source(entry),
             None => None,
         },
+        more: 0,
     }
 }
 
@@ -159,7 +209,12 @@ pub fn troubles_of(
     if has_any_failed(config) {
         let entries = journal.entries();
         let traces = traces_of(alloc, policy, entries)?;
-        troubles.add_endings(traces.as_slice(), entries)?;
+        let end = End {
+            job,
+            config,
+            entries,
+        };
+        troubles.add_endings(traces.as_slice(), &end)?;
     }
     troubles.add_waiting(config)?;
     troubles.add_silent(policy, config)?;

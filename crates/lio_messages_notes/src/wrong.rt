@@ -54,7 +54,7 @@ fn want_like(names: &Environment, operand: &Operand) -> Want {
 }
 
 /// The first of two operands that isn't what it is to be, where both are to be of one kind: that of
-/// a literal, if one is there.
+/// a name, where the other is a literal.
 fn check_alike<'a>(
     names: &'a Environment,
     first: &'a Operand,
@@ -62,7 +62,7 @@ fn check_alike<'a>(
     want: Want,
 ) -> Option<Wrong<'a>> {
     let (model, other) = match (first, second) {
-        (Operand::Name(_), Operand::Literal(_)) => (second, first),
+        (Operand::Literal(_), Operand::Name(_)) => (second, first),
         _ => (first, second),
     };
     check_two(names, (model, want), (other, want_like(names, model)))

@@ -9,7 +9,7 @@ use crate::task::{WrongTask, wrong_task};
 use lio_clauses::NoMemory;
 use lio_front::{Status, Texts};
 use lio_messages_hints::{Piece, filled};
-use lio_outside::{Store, Trouble};
+use lio_outside::{Say, Store, Trouble};
 use lio_policy::{Policy, read_policy};
 use lio_policy_draft::PolicyFault;
 use lio_values::Text;
@@ -26,7 +26,7 @@ pub enum Detail {
     Task(WrongTask),
     /// The line of the script that breaks a rule.
     Line(WrongLine),
-    /// What stood in the way of a file.
+    /// What stood in the way of a file or of the output.
     Fault(FileFault),
     /// The line at which a history or a view stops.
     Stop(Stop),
@@ -109,7 +109,7 @@ pub fn detail_of(
     stop: Option<Stop>,
 ) -> Result<Detail, NoMemory> {
     match (status, &texts.policy, &texts.script) {
-        (Status::ReadFault(_), _, _) => {
+        (Status::ReadFault(_) | Status::SayFault, _, _) => {
             let channels = None;
             Ok(Detail::Fault(FileFault { why, channels }))
         }
@@ -132,31 +132,33 @@ pub fn detail_of(
     }
 }
 
-/// What stood in the way of a file, where the answer is that something did.
-fn trouble_of<S: Store>(
+/// What stood in the way of a file or of the output, where the answer is that something did.
+fn trouble_of<S: Store, W: Say>(
     alloc: Global,
     program: Program,
     store: &S,
+    say: &W,
     status: &Status,
 ) -> Option<String> {
-    match (status, store.trouble()) {
-        (Status::ReadFault(_) | Status::WriteFault(_), Some(trouble)) => {
-            trouble_text(alloc, program, trouble).ok()
-        }
+    let trouble = match status {
+        Status::ReadFault(_) | Status::WriteFault(_) => store.trouble(),
+        Status::SayFault => say.trouble(),
         _ => None,
-    }
+    };
+    trouble_text(alloc, program, trouble?).ok()
 }
 
-/// What helps to mend what was refused, by the trouble of the store, the texts that were read, and
-/// the line at which a history or a view stops.
-pub(crate) fn refusal_detail<S: Store>(
+/// What helps to mend what was refused, by the trouble of the store and of the output, the texts
+/// that were read, and the line at which a history or a view stops.
+pub(crate) fn refusal_detail<S: Store, W: Say>(
     alloc: Global,
     program: Program,
     store: &S,
+    say: &W,
     status: &Status,
     texts: &Texts,
     stop: Option<Stop>,
 ) -> Detail {
-    let why = trouble_of(alloc, program, store, status);
+    let why = trouble_of(alloc, program, store, say, status);
     detail_of(alloc, status, why, texts, stop).unwrap_or(Detail::Nothing)
 }

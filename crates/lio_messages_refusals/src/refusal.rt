@@ -11,7 +11,7 @@ use crate::words::{FileNames, file_names, tell_words};
 use lio_clauses::NoMemory;
 use lio_front::{Shown, Status, Texts};
 use lio_messages_hints::Message;
-use lio_outside::Store;
+use lio_outside::{Say, Store};
 use lio_values::Text;
 use std::alloc::Global;
 
@@ -71,7 +71,7 @@ fn tell_clash(message: &mut Message, names: FileNames<'_>, name: &Text) {
     message.words("; give the channel or the option another file");
 }
 
-/// What stood in the way of a file, where that is known.
+/// What stood in the way of a file or of the output, where that is known.
 fn fault_in(detail: &Detail) -> Option<&FileFault> {
     match detail {
         Detail::Fault(fault) => Some(fault),
@@ -79,7 +79,16 @@ fn fault_in(detail: &Detail) -> Option<&FileFault> {
     }
 }
 
-/// Tells of a summary that couldn't be said.
+/// Tells of a summary that couldn't be said, and why, where that is known.
+fn tell_unsaid(message: &mut Message, program: Program, fault: Option<&FileFault>) {
+    message.words(unsaid(program));
+    if let Some(FileFault { why: Some(why), .. }) = fault {
+        message.words(": ");
+        message.words(why.as_str());
+    }
+}
+
+/// The words for a summary that couldn't be said.
 fn unsaid(program: Program) -> &'static str {
     match program {
         Program::Observer => {
@@ -162,7 +171,7 @@ fn tell(
         }
         (Status::BadStart(_, _), _) => tell_some_task(message, program, policy),
         (Status::WriteFault(_), _) => tell_unwritten(message, fault_in(detail)),
-        (Status::SayFault, _) => message.words(unsaid(program)),
+        (Status::SayFault, _) => tell_unsaid(message, program, fault_in(detail)),
         (Status::NoMemory, _) => message.words(without_memory(program)),
         (Status::NotARun(line) | Status::NotAView(line), _) => {
             tell_record(message, program, names, *line, detail);
@@ -197,13 +206,14 @@ pub fn refusal_text(
 }
 
 /// Prints a refusal on standard error, if there was one; without memory for its words, the answer
-/// alone. It is told by the texts that were read, the store's trouble, and the line at which a
-/// history or a view stops.
-pub fn print_refusal<R: AllocGlobal + Eprint, S: Store>(
+/// alone. It is told by the texts that were read, the trouble of the store and of the output, and
+/// the line at which a history or a view stops.
+pub fn print_refusal<R: AllocGlobal + Eprint, S: Store, W: Say>(
     rt: &R,
     program: Program,
     words: &[String],
     store: &S,
+    say: &W,
     status: &Status,
     texts: &Texts,
     stop: Option<Stop>,
@@ -212,7 +222,7 @@ pub fn print_refusal<R: AllocGlobal + Eprint, S: Store>(
         return;
     }
     let alloc = rt.alloc();
-    let detail = refusal_detail(alloc, program, store, status, texts, stop);
+    let detail = refusal_detail(alloc, program, store, say, status, texts, stop);
     let text = refusal_text(alloc, program, status, words, &detail);
     // A refusal that can't be printed still has its exit status.
     let _ = match text {

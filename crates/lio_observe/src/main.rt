@@ -59,6 +59,7 @@ fn respond<R: AllocGlobal + Eprint, S: Store, W: Say>(
         Program::Observer,
         words,
         store,
+        say,
         &status,
         &read.texts,
         stop,

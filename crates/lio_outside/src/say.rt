@@ -3,6 +3,7 @@ ghost use Rattle.std.specs.Prelude.{◌≡◌, ℕ, List, ◌≤◌, Option, OnO
 ghost use Rattle.lio_outside.specs.Count.{Rose};
 ghost use Rattle.lio_outside.specs.Said.{said_with, SaidPartly};
 
+use crate::store::Trouble;
 use std::alloc::Global;
 use thiserror::Error;
 
@@ -38,4 +39,9 @@ pub trait Say {
         ensures no_memory { IsErrOf result SayFault.NoMemory → said self.new ≡ said self.old }
         ensures no_memory_count { IsErrOf result SayFault.NoMemory
             → faults self.new ≡ faults self.old };
+
+    /// Why the last call failed, where that is known: for messages.
+    fn trouble(&self) -> Option<Trouble<'_>> {
+        None
+    }
 }

@@ -6,3 +6,4 @@ pub mod NestedLemmas
 pub mod SingleLemmas
 pub mod PolicyLemmas
 pub mod VerdictLemmas
+pub mod FlowLemmas

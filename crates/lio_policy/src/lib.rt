@@ -5,6 +5,7 @@
 mod arguments;
 mod copies;
 mod files;
+mod flows;
 mod keys;
 mod labelled;
 mod labels;
@@ -16,6 +17,7 @@ mod policy;
 mod read;
 mod table;
 
+pub use flows::{MayFlow, may_flow, what_may_flow};
 pub use lio_policy_draft::PolicyFault;
 pub use policy::{Arg, Args, FileEntries, FileEntry, Policy, TaskEntries, TaskEntry};
 pub use read::read_policy;

@@ -6,6 +6,7 @@ pub mod SeenLemmas
 pub mod RunLemmas
 pub mod ScheduleLemmas
 pub mod InputLemmas
+pub mod FlowLemmas
 pub mod WordLemmas
 pub mod ListLemmas
 pub mod SleepLemmas

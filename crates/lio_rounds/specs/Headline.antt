@@ -6,7 +6,7 @@ use Rattle.lio_calculus.specs.Enabled.{EnabledBelow}
 use Rattle.lio_calculus.specs.Laws.{RunSeenAs}
 use Rattle.lio_calculus.specs.Run.{Ran}
 use Rattle.lio_start.specs.Job.{JobParts, first_of}
-use Rattle.lio_start.specs.Powers.{powers_of}
+use Rattle.lio_policy.specs.Powers.{powers_of}
 use Rattle.lio_calculus_runs.specs.PowerLaws.{ReleasesByPowers}
 use Rattle.lio_rounds.specs.Runs.{IsCompleteRun, SeesChannels}
 

@@ -9,4 +9,5 @@ pub mod Runs
 pub mod Schedule
 pub mod Headline
 pub mod Laws
+pub mod FlowLaws
 pub mod Acted

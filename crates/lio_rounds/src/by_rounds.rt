@@ -1,6 +1,7 @@
 //! A run by rounds.
 ghost use Rattle.std.specs.Prelude.{IfOk};
 ghost use Rattle.lio_start.specs.Job.{IsJob, first_of};
+ghost use Rattle.lio_rounds.specs.FlowLaws.{GoesByFlows};
 ghost use Rattle.lio_rounds.specs.Headline.{IsRunOf};
 ghost use Rattle.lio_rounds.specs.Runs.{HasItsLogs, IsByRounds, RunsRounds, ran_of};
 
@@ -36,6 +37,7 @@ fn run_to_the_end(alloc: Global, job: &Job) -> Result<Ran, NoMemory>
 pub fn run(alloc: Global, job: &Job) -> Result<Ran, NoMemory>
     ensures run { IfOk result (λ it. IsRunOf job.now (ran_of job.now.script it)) }
     ensures rounds { IfOk result (λ it. IsByRounds (first_of job.now) (ran_of job.now.script it)) }
+    ensures flows { IfOk result (λ it. GoesByFlows job.now (ran_of job.now.script it)) }
     ensures logs { IfOk result HasItsLogs }
 {
     run_to_the_end(alloc, job)

@@ -3,12 +3,12 @@
 
 use crate::cases::{Case, Setting};
 use crate::found::Found;
-use crate::says::says;
+use crate::says::{notes, says};
 use crate::store::{say_of, store_of};
 use lio_async_main::{CoopOutcome, coop_main};
 use lio_clauses::NoMemory;
 use lio_events::Journal;
-use lio_front::{Status, Texts};
+use lio_front::Status;
 use lio_host_main::{Outcome, host_main};
 use lio_messages_refusals::{Program, futures_words};
 use lio_outside::{MemSay, MemStore};
@@ -73,21 +73,25 @@ fn add_host<R: AllocGlobal + Threads + Wait + Sync>(
     Ok(())
 }
 
-/// What an answer and a journal come to, beside what was said.
+/// What an outcome comes to, beside what was said.
 fn found_of(
     alloc: Global,
     case: &Case<'_>,
-    status: &Status,
-    journal: &Journal,
+    setting: Setting<'_>,
+    outcome: &CoopOutcome,
     words: &[String],
-    texts: &Texts,
     say: &MemSay,
 ) -> Result<Found, NoMemory> {
+    let status = &outcome.status;
     let mut found = Found::new(alloc, format!(in alloc; "{status}")?, status.number());
+    let texts = &outcome.texts;
     found.says = says(alloc, case, Program::Futures, status, words, texts, None)?;
     found.said = Vec::from_slice(alloc, say.said())?;
     found.may_say = matches!(status, Status::Done);
-    found.entries = journal.entries().len() as u64;
+    found.entries = outcome.journal.entries().len() as u64;
+    if let (Some(job), Some(config)) = (&outcome.job, &outcome.config) {
+        found.notes = notes(alloc, case, setting, job, &outcome.journal, config)?;
+    }
     Ok(found)
 }
 
@@ -104,17 +108,16 @@ where
 {
     let alloc = rt.alloc();
     let mut say = say_of(alloc, case)?;
+    let outcome = coop_main(rt, alloc, words, store, &mut say);
+    let mut found = found_of(alloc, case, setting, &outcome, words, &say);
     let CoopOutcome {
-        status,
-        journal,
-        texts,
-    } = coop_main(rt, alloc, words, store, &mut say);
-    let mut found = found_of(alloc, case, &status, &journal, words, &texts, &say);
+        status, journal, ..
+    } = &outcome;
     let added = match &mut found {
-        Ok(found) => add_host(rt, case, setting, words, &status, &journal, found),
+        Ok(found) => add_host(rt, case, setting, words, status, journal, found),
         Err(NoMemory) => Err(NoMemory),
     };
-    drop(status);
+    drop(outcome);
     added?;
     found
 }

@@ -3,37 +3,18 @@
 use crate::cases::{Case, Setting};
 use crate::found::{Found, GateTold};
 use crate::gate::NotingGate;
-use crate::says::says;
+use crate::says::{notes, says};
 use crate::store::{lines_of, say_of};
 use lio_clauses::NoMemory;
-use lio_events::Journal;
 use lio_front::Status;
 use lio_host_main::{Outcome, expected_line, host_main};
-use lio_messages_notes::{Source, notes_text, troubles_of};
 use lio_messages_refusals::{Program, Stop, stop_at};
 use lio_outside::{MemSay, MemStore};
 use lio_start::Job;
-use lio_task::Config;
 use lio_workers::OpenGate;
 use std::alloc::Global;
 use std::sync::Wait;
 use std::thread::Threads;
-
-/// The notes on a run.
-fn notes(
-    alloc: Global,
-    job: &Job,
-    journal: &Journal,
-    config: &Config,
-    script: &str,
-) -> Result<String, NoMemory> {
-    let troubles = troubles_of(alloc, job, journal, config)?;
-    let source = Source {
-        name: "s.lio",
-        text: script.as_bytes(),
-    };
-    notes_text(alloc, job, journal, config, &troubles, source)
-}
 
 /// The line at which a history stops, where the answer is that it does.
 fn stop_of(
@@ -69,10 +50,8 @@ fn found_of(
     found.entries = outcome.journal.entries().len() as u64;
     if let Status::Done = status {
         found.may_say = true;
-        if case.part("notes").is_some()
-            && let (Some(job), Some(config)) = (&outcome.job, &outcome.config)
-        {
-            found.notes = notes(alloc, job, &outcome.journal, config, setting.script)?;
+        if let (Some(job), Some(config)) = (&outcome.job, &outcome.config) {
+            found.notes = notes(alloc, case, setting, job, &outcome.journal, config)?;
         }
     }
     Ok(found)

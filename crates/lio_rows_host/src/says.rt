@@ -1,10 +1,14 @@
 //! What is printed of an answer.
 
-use crate::cases::Case;
+use crate::cases::{Case, Setting};
 use lio_clauses::NoMemory;
+use lio_events::Journal;
 use lio_front::{Status, Texts};
+use lio_messages_notes::{Source, notes_of};
 use lio_messages_refusals::{Program, Stop, detail_of, refusal_text, trouble_text};
 use lio_outside::Trouble;
+use lio_start::Job;
+use lio_task::Config;
 use std::alloc::Global;
 use std::io;
 
@@ -34,4 +38,23 @@ pub(crate) fn says(
     let why = why(alloc, case, program);
     let detail = detail_of(alloc, status, why, texts, stop)?;
     refusal_text(alloc, program, status, words, &detail)
+}
+
+/// The notes on a run, where a case says them.
+pub(crate) fn notes(
+    alloc: Global,
+    case: &Case<'_>,
+    setting: Setting<'_>,
+    job: &Job,
+    journal: &Journal,
+    config: &Config,
+) -> Result<String, NoMemory> {
+    if case.part("notes").is_none() {
+        return Ok(String::new(alloc));
+    }
+    let source = Source {
+        name: "s.lio",
+        text: setting.script.as_bytes(),
+    };
+    notes_of(alloc, job, journal, config, source)
 }

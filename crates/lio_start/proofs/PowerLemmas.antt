@@ -30,7 +30,7 @@ use Rattle.lio_start.proofs.PlaceLemmas.{Stands, Channel as channel, Task as job
 use Rattle.lio_calculus_runs.proofs.PowerLaws.{run_releases_by_powers}
 use Rattle.lio_start.specs.Laws.{ReleasesAreOfPolicy}
 use Rattle.lio_start.proofs.ArgumentLemmas.{arguments-have}
-use Rattle.lio_start.specs.Powers.{power_of, power_in, task_powers, powers_of}
+use Rattle.lio_policy.specs.Powers.{power_of, power_in, task_powers, powers_of}
 use Rattle.lio_start.proofs.LawLemmas.{start_is_sound}
 
 -- what one element of a list gives is among what all of them give

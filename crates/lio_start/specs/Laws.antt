@@ -28,7 +28,7 @@ use Rattle.lio_policy.specs.declared.policy.FileEntry.{FileEntry}
 use Rattle.lio_policy.specs.declared.policy.TaskEntry.{TaskEntry}
 use Rattle.lio_start.specs.declared.fault.StartFault.{StartFault}
 use Rattle.lio_start.specs.Fits.{Fits, fault_of, fits, procedure_of}
-use Rattle.lio_start.specs.Powers.{powers_of}
+use Rattle.lio_policy.specs.Powers.{powers_of}
 use Rattle.lio_start.specs.Start.{inputs_of, argument_of, channel_cell, job_cell, cells_in_all, ranges_from, start_of}
 
 -- nothing is wrong exactly where each task fits

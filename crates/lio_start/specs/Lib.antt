@@ -1,6 +1,5 @@
 pub mod Fits
 pub mod Start
-pub mod Powers
 pub mod Making
 pub mod Laws
 pub mod Job

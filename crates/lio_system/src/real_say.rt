@@ -3,7 +3,7 @@ ghost use Rattle.std.specs.Prelude.{◌≡◌, ◌≢◌, ◌≤◌, None, IsErr
 ghost use Rattle.lio_outside.specs.Count.{counted};
 
 use crate::pieces::write_whole;
-use lio_outside::{Say, SayFault};
+use lio_outside::{Say, SayFault, Trouble};
 use std::alloc::Global;
 use std::io;
 use std::marker::Model;
@@ -14,6 +14,7 @@ use std::marker::Model;
 pub struct RealSay<R> {
     rt: R,
     faults: u64,
+    error: Option<io::Error>,
 }
 
 impl<R> Model for RealSay<R> {
@@ -29,7 +30,11 @@ impl<R> RealSay<R> {
     pub fn new(rt: R) -> Self
         ensures { result ≡ 0 }
     {
-        RealSay { rt, faults: 0 }
+        RealSay {
+            rt,
+            faults: 0,
+            error: None,
+        }
     }
 
     /// How many faults were counted. It stands still at the greatest number.
@@ -39,12 +44,13 @@ impl<R> RealSay<R> {
         self.faults
     }
 
-    /// Counts a fault.
-    fn count_fault(&mut self)
+    /// Counts a fault, and keeps its error.
+    fn count_fault(&mut self, error: io::Error)
         ensures counted { self.new ≡ counted self.old }
         ensures never_falls { self.old ≤ self.new }
     {
         self.faults = self.faults.saturating_add(1);
+        self.error = Some(error);
     }
 }
 
@@ -60,10 +66,17 @@ impl<R: Print> Say for RealSay<R> {
         ensures count_never_falls { self.old ≤ self.new }
     {
         let written = write_whole(&mut io::writer(&self.rt), bytes);
-        if written.is_err() {
-            self.count_fault();
+        if let Err(error) = written {
+            self.count_fault(error);
             return Err(SayFault::Failed);
         }
         Ok(())
+    }
+
+    fn trouble(&self) -> Option<Trouble<'_>> {
+        match &self.error {
+            Some(error) => Some(Trouble::System(error)),
+            None => None,
+        }
     }
 }

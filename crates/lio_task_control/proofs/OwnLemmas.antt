@@ -1,5 +1,5 @@
 -- What a procedure still has to do holds no way back to a caller. So throwing, returning, counting calls and hiding pass over it.
-use Rattle.std.proofs.Common.{◌≡◌, ℕ, zero, suc, ◌+◌, List, [], ◌∷◌, ◌++◌, drop, map, refl, ap}
+use Rattle.std.proofs.Common.{◌≡◌, ℕ, zero, suc, List, [], ◌∷◌, ◌++◌, drop, map, refl, ap}
 use Rattle.std.specs.Prelude.{slice_get, Option, Some, None}
 use Rattle.lio_labels.specs.declared.label.Label.{Label}
 use Rattle.lio_values.specs.declared.value.Value.{Value}

@@ -9,19 +9,19 @@ use Rattle.lio_async.proofs.respond.Goals as goal
 
 pub returns : goal.returns
 returns g c =
-    let journal : List Entry = c.coop_main-status.result.journal in
+    let journal : List Entry = c.coop_main-outcome.result.journal in
     let call : Call = record {
       words = host_words (bytes_of_words c.args.words.now);
       before = outside g.S.Store.holds g.S.Store.faults g.W.Say.said g.W.Say.faults c.args.store.now c.args.say.now;
-      after = outside g.S.Store.holds g.S.Store.faults g.W.Say.said g.W.Say.faults c.coop_main-status.new.store c.coop_main-status.new.say;
+      after = outside g.S.Store.holds g.S.Store.faults g.W.Say.said g.W.Say.faults c.coop_main-outcome.new.store c.coop_main-outcome.new.say;
       journal = journal;
     } in
     record {
       journal = journal;
-      says = c.coop_main-status.ensures.says;
-      follows = c.coop_main-status.ensures.follows;
-      completes = c.coop_main-status.ensures.completes;
-      bad_words = bad_words call c.coop_main-status.result.status c.coop_main-status.ensures.says;
-      count = c.coop_main-status.ensures.count;
+      says = c.coop_main-outcome.ensures.says;
+      follows = c.coop_main-outcome.ensures.follows;
+      completes = c.coop_main-outcome.ensures.completes;
+      bad_words = bad_words call c.coop_main-outcome.result.status c.coop_main-outcome.ensures.says;
+      count = c.coop_main-outcome.ensures.count;
       exit_is = c.exit_code-exit.ensures;
     }

@@ -9,7 +9,7 @@ use Rattle.lio_host_main.specs.Answers.{Call}
 use Rattle.lio_host_main.proofs.Finishes.{finishes-from}
 use Rattle.lio_host_main.proofs.Says.{runs-order, says-done, says-refused, says-same, says-stopped, says-unfinished}
 use Rattle.lio_async_main.specs.Words.{host_words}
-use Rattle.lio_async_main.proofs.CoopLemmas.{none-commanded, ran-as, run-of}
+use Rattle.lio_async_main.proofs.CoopLemmas.{flows-as, none-commanded, ran-as, run-of}
 use Rattle.lio_async_main.proofs.coop.answer.Goals as goal
 
 pub returns-in_default-clause-says : goal.returns-in_default-clause-says
@@ -33,7 +33,8 @@ returns-in-Ok-finished-clause-says g c =
     let rounds = ap (λ command. command.mode) c.in-Ok.ensures.command ∙ c.in-Some.ensures.rounds in
     says-done call order ran.last
     (runs-order call order ran _ c.in-Some.ensures.command c.in-Ok.ensures.command c.in-Ok.ensures.ok (run-of order.job ran c.in-Ok-run_seen.ensures.job c.in-Ok-run_seen.ensures.rounds)
-    (ran-as before.told order ran c.in-Ok.ensures.ok rounds c.in-Ok-run_seen.ensures.rounds) c.journal_fits.ensures)
+    (ran-as before.told order ran c.in-Ok.ensures.ok rounds c.in-Ok-run_seen.ensures.rounds)
+    (flows-as before.told order ran c.in-Ok.ensures.ok rounds c.in-Ok-run_seen.ensures.job c.in-Ok-run_seen.ensures.rounds) c.journal_fits.ensures)
     (finishes-from order ran before after (g.S.Store.holds c.prepare_order.new.store) (g.S.Store.faults c.prepare_order.new.store) Done c.in-Ok.ensures.files c.in-Ok.ensures.count c.in-Ok-finished.ensures.ok)
 
 pub returns-in-Err-finished-clause-says : goal.returns-in-Err-finished-clause-says
@@ -48,7 +49,8 @@ returns-in-Err-finished-clause-says g c =
     says-same call status c.unfinished.result.status c.unfinished.ensures.status
     (says-unfinished call order ran status
     (runs-order call order ran _ c.in-Some.ensures.command c.in-Ok.ensures.command c.in-Ok.ensures.ok (run-of order.job ran c.in-Ok-run_seen.ensures.job c.in-Ok-run_seen.ensures.rounds)
-    (ran-as before.told order ran c.in-Ok.ensures.ok rounds c.in-Ok-run_seen.ensures.rounds) c.journal_fits.ensures)
+    (ran-as before.told order ran c.in-Ok.ensures.ok rounds c.in-Ok-run_seen.ensures.rounds)
+    (flows-as before.told order ran c.in-Ok.ensures.ok rounds c.in-Ok-run_seen.ensures.job c.in-Ok-run_seen.ensures.rounds) c.journal_fits.ensures)
     c.unfinished.ensures.journal
     (finishes-from order ran before after (g.S.Store.holds c.prepare_order.new.store) (g.S.Store.faults c.prepare_order.new.store) status c.in-Ok.ensures.files c.in-Ok.ensures.count c.in-Err-finished.ensures.err))
 

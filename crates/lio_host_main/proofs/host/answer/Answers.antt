@@ -21,7 +21,7 @@ returns-in-Ok-finished-clause-says g c =
     let order : Order = order_of c.in-Ok.order in
     let ran : Ran = ran_of c.in-Ok.order.job.script c.in-Ok-run_order.ran in
     says-done call order ran.last
-    (runs-order call order ran _ c.in-Some.ensures.command c.in-Ok.ensures.command c.in-Ok.ensures.ok c.in-Ok-run_order.ensures.run c.in-Ok-run_order.ensures.ran_as c.journal_fits.ensures)
+    (runs-order call order ran _ c.in-Some.ensures.command c.in-Ok.ensures.command c.in-Ok.ensures.ok c.in-Ok-run_order.ensures.run c.in-Ok-run_order.ensures.ran_as c.in-Ok-run_order.ensures.flows c.journal_fits.ensures)
     (finishes-from order ran before after (g.S.Store.holds c.prepare_order.new.store) (g.S.Store.faults c.prepare_order.new.store) Done c.in-Ok.ensures.files c.in-Ok.ensures.count c.in-Ok-finished.ensures.ok)
 
 pub returns-in-Err-finished-clause-says : goal.returns-in-Err-finished-clause-says
@@ -34,7 +34,7 @@ returns-in-Err-finished-clause-says g c =
     let status = c.in-Err-finished.status in
     says-same call status c.unfinished.result.status c.unfinished.ensures.status
     (says-unfinished call order ran status
-    (runs-order call order ran _ c.in-Some.ensures.command c.in-Ok.ensures.command c.in-Ok.ensures.ok c.in-Ok-run_order.ensures.run c.in-Ok-run_order.ensures.ran_as c.journal_fits.ensures) c.unfinished.ensures.journal
+    (runs-order call order ran _ c.in-Some.ensures.command c.in-Ok.ensures.command c.in-Ok.ensures.ok c.in-Ok-run_order.ensures.run c.in-Ok-run_order.ensures.ran_as c.in-Ok-run_order.ensures.flows c.journal_fits.ensures) c.unfinished.ensures.journal
     (finishes-from order ran before after (g.S.Store.holds c.prepare_order.new.store) (g.S.Store.faults c.prepare_order.new.store) status c.in-Ok.ensures.files c.in-Ok.ensures.count c.in-Err-finished.ensures.err))
 
 pub returns-in-Err-clause-says : goal.returns-in-Err-clause-says

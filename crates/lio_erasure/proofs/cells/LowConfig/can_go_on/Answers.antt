@@ -1,4 +1,4 @@
-use Rattle.std.proofs.Common.{◌∙◌, sym, ap, false, true, List}
+use Rattle.std.proofs.Common.{◌∙◌, sym, ap, List}
 use Rattle.lio_syntax.specs.Lines.{script_lines}
 use Rattle.lio_syntax.specs.Items.{Item}
 use Rattle.lio_calculus.specs.Plan.{plan_items}

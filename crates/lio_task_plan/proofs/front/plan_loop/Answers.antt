@@ -1,1 +1,0 @@
-use Rattle.lio_task_plan.proofs.front.plan_loop.Goals as goal
