@@ -41,7 +41,7 @@ pub fn trouble_text(
     let (template, name) = match (trouble, program) {
         (Trouble::System(error), _) => return Ok(format!(in alloc; "{error}")?),
         (Trouble::NotText, _) => ("its name isn't UTF-8", Piece::Nothing),
-        (Trouble::SameFile(name), Program::Observer) => {
+        (Trouble::SameFile(name), Program::Observer | Program::Questions) => {
             (
                 "it is the same file as {}, which was read before",
                 Piece::Shown(name),

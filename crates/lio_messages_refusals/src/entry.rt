@@ -61,7 +61,9 @@ fn tell_entry(message: &mut Message, found: &Option<EntryAt>, number: u32) {
 /// Tells which rule of policies is broken.
 fn tell_rule(message: &mut Message, program: Program, rule: u32) {
     match program {
-        Program::Host | Program::Futures => message.words(policy_rule(rule)),
+        Program::Host | Program::Futures | Program::Questions => {
+            message.words(policy_rule(rule));
+        }
         Program::Observer => message.fill(
             "it breaks rule {} of policies, which docs/FORMATS.md tells",
             Piece::Number(u64::from(rule)),
@@ -113,7 +115,7 @@ pub(crate) fn tell_policy_rule(
 ) {
     message.words(policy);
     match program {
-        Program::Host | Program::Futures => {
+        Program::Host | Program::Futures | Program::Questions => {
             message.words(": ");
             message.words(policy_rule(rule));
         }

@@ -59,7 +59,9 @@ fn mark(alloc: Global, message: &mut Message, line: &[u8], number: u32, place: u
 /// Tells which rule of scripts is broken.
 fn tell_rule(message: &mut Message, program: Program, rule: u32) {
     match program {
-        Program::Host | Program::Futures => message.words(script_rule(rule)),
+        Program::Host | Program::Futures | Program::Questions => {
+            message.words(script_rule(rule));
+        }
         Program::Observer => message.fill(
             "it breaks rule {} of scripts, which docs/SCRIPTS.md tells",
             Piece::Number(u64::from(rule)),

@@ -9,6 +9,8 @@ pub enum Program {
     Futures,
     /// The observer's check.
     Observer,
+    /// The answers to questions.
+    Questions,
 }
 
 impl Program {
@@ -18,6 +20,7 @@ impl Program {
             Program::Host => "lio_host",
             Program::Futures => "lio_async",
             Program::Observer => "lio_observe",
+            Program::Questions => "lio_ask",
         }
     }
 
@@ -32,6 +35,9 @@ impl Program {
             }
             Program::Observer => {
                 "usage: lio_observe POLICY SCRIPT VIEW LABEL\n  POLICY, SCRIPT and VIEW are names of files, LABEL is the observer's label over the policy's principals; no word is empty or begins with `-`"
+            }
+            Program::Questions => {
+                "usage: lio_ask check POLICY SCRIPT\n       lio_ask audit POLICY SCRIPT HISTORY\n       lio_ask lines POLICY SCRIPT HISTORY\n       lio_ask help\n       lio_ask version\n  POLICY, SCRIPT and HISTORY are names of files; no name is empty or begins with `-`"
             }
         }
     }

@@ -94,6 +94,8 @@ fn unsaid(program: Program) -> &'static str {
         Program::Observer => {
             "the view is that of a run, and that couldn't be written to standard output"
         }
+        Program::Questions =>
+            "the answer couldn't be written to standard output; no file was to be",
         _ => "the files are written, and the summary couldn't be written to standard output",
     }
 }
@@ -103,6 +105,9 @@ fn without_memory(program: Program) -> &'static str {
     match program {
         Program::Observer => {
             "no memory was left, and nothing is known of the view; give the process more memory"
+        }
+        Program::Questions => {
+            "no memory was left, and the question isn't answered; give the process more memory"
         }
         _ => {
             "no memory was left; a first part of the files may be written; give the process more memory, or the policy's tasks fewer turns"

@@ -3,12 +3,14 @@
 mod futures;
 mod host;
 mod observer;
+mod questions;
 
 use crate::program::Program;
 pub use crate::words::futures::futures_words;
 use crate::words::futures::tell_futures_words;
 use crate::words::host::tell_host_words;
 use crate::words::observer::tell_observer_words;
+use crate::words::questions::tell_question_words;
 use lio_front::{Command, Mode, Source, read_command};
 use lio_messages_hints::Message;
 use std::str;
@@ -72,6 +74,18 @@ pub(crate) fn file_names(program: Program, words: &[String]) -> FileNames<'_> {
             script: script.as_str(),
             record: Some(view.as_str()),
         },
+        (Program::Questions, [_, policy, script]) => FileNames {
+            are_given: true,
+            policy: policy.as_str(),
+            script: script.as_str(),
+            record: None,
+        },
+        (Program::Questions, [_, policy, script, history]) => FileNames {
+            are_given: true,
+            policy: policy.as_str(),
+            script: script.as_str(),
+            record: Some(history.as_str()),
+        },
         _ => no_names("policy", "script"),
     }
 }
@@ -101,5 +115,6 @@ pub(crate) fn tell_words(message: &mut Message, program: Program, words: &[Strin
         Program::Host => tell_host_words(message, words),
         Program::Futures => tell_futures_words(message, words),
         Program::Observer => tell_observer_words(message, words),
+        Program::Questions => tell_question_words(message, words),
     }
 }

@@ -65,6 +65,8 @@ pub(crate) enum Kind {
     Futures,
     /// The observer's check.
     Observer,
+    /// The answers to questions.
+    Questions,
     /// The future of rounds, or the stream of a view, polled by hand.
     Polls,
     /// A table of nodes with two seats.
@@ -124,6 +126,7 @@ pub(crate) fn kind_named(name: &str) -> Option<Kind> {
         "host" => Some(Kind::Host),
         "futures" => Some(Kind::Futures),
         "observer" => Some(Kind::Observer),
+        "questions" => Some(Kind::Questions),
         "polls" => Some(Kind::Polls),
         "seats" => Some(Kind::Seats),
         "table" => Some(Kind::Table),

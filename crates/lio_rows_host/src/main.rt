@@ -1,4 +1,4 @@
-//! Runs worked cases of the three programs, each over a store in memory, and prints one line a
+//! Runs worked cases of the programs, each over a store in memory, and prints one line a
 //! case: its name, and behind it each part that doesn't hold, with what was found in its place.
 #![tactic(auto)]
 
@@ -13,6 +13,7 @@ mod jobs;
 mod line;
 mod observer;
 mod polls;
+mod questions;
 mod running;
 mod says;
 mod seats;

@@ -4,7 +4,7 @@ use crate::cases::{Case, Kind, Setting};
 use crate::compare::compare;
 use crate::found::Found;
 use crate::store::{store_of, words_of};
-use crate::{coop, host, observer, polls, seats, tables};
+use crate::{coop, host, observer, polls, questions, seats, tables};
 use lio_clauses::NoMemory;
 use lio_outside::MemStore;
 use std::alloc::AllocGlobal;
@@ -28,6 +28,7 @@ where
         Kind::Host => host::run(rt, case, setting, words, store),
         Kind::Futures => coop::run(rt, case, setting, words, store),
         Kind::Observer => observer::run(rt.alloc(), case, words, store),
+        Kind::Questions => questions::run(rt.alloc(), case, words, store),
         Kind::Polls => polls::run(rt, case, words, store),
         Kind::Seats => seats::run(rt.alloc(), words, store),
         Kind::Table => tables::run(rt, words, store),

@@ -1,0 +1,4 @@
+mod PastLemmas
+mod CountLemmas
+mod TurnLemmas
+pub mod Says

@@ -1,0 +1,6 @@
+pub mod Words
+pub mod Past
+pub mod Troubles
+pub mod Turns
+pub mod Telling
+pub mod Answers
