@@ -221,6 +221,20 @@ export class Drawing {
     });
     for (let place = first; place < last; place += 1) this.name(view, view.lanes[place], place);
     this.axis(view);
+    this.scrollbar(view);
+  }
+
+  // How much of the lanes is in sight, at the right edge, where not all are.
+  scrollbar(view) {
+    const { pen } = this;
+    const room = this.height - AXIS_HEIGHT;
+    const beyond = view.lanes.length * LANE_HEIGHT + 4 - room;
+    if (beyond <= 4) return;
+    const thumb = Math.max((room * room) / (room + beyond), 12);
+    pen.fillStyle = '#e3e7ee';
+    pen.fillRect(this.width - 6, AXIS_HEIGHT, 5, room);
+    pen.fillStyle = FAINT;
+    pen.fillRect(this.width - 6, AXIS_HEIGHT + ((room - thumb) * view.scrolled) / beyond, 5, thumb);
   }
 
   // Draws within the plot alone.
@@ -310,10 +324,10 @@ export class Drawing {
     polygon(this.pen, [[x, middle - 9], [x + 9, middle], [x, middle + 9]], FAINT);
   }
 
-  // Lines from a birth to the lane of the child.
+  // Lines from a birth to the lane of the child, where that lane is in sight: those of hundreds of others would cover what is.
   lines(view, first, last) {
     for (const { from, to, turn } of view.births) {
-      const outside = Math.max(from, to) < first || Math.min(from, to) >= last || turn + 1 < view.stretch.from || turn > view.stretch.to;
+      const outside = to < first || to >= last || turn + 1 < view.stretch.from || turn > view.stretch.to;
       if (!outside) this.birthLine(view, from, to, turn);
     }
   }

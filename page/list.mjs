@@ -30,8 +30,9 @@ export class TurnList {
   }
 
   draw() {
-    const { inner, first, last, shift } = this.sight();
-    this.filler.style.height = `${inner}px`;
+    this.filler.style.height = `${this.sight().inner}px`;
+    // on a narrow page the box is as high as its rows
+    const { first, last, shift } = this.sight();
     this.rows.style.transform = `translateY(${this.box.scrollTop + shift}px)`;
     const rows = [];
     for (let place = first; place < last; place += 1) rows.push(this.row(this.page.shown[place]));

@@ -1,5 +1,5 @@
 -- How the steps before a run is taken again stand together.
-use Rattle.std.proofs.Common.{◌≡◌, refl, ℕ, ◌≤◌, List, Option, None, Ok}
+use Rattle.std.proofs.Common.{refl, ℕ, ◌≤◌, List, Option, None, Ok}
 use Rattle.lio_outside.specs.FileMap.{FileMap}
 use Rattle.lio_outside.specs.Count.{Faults}
 use Rattle.lio_outside.specs.Steps.{Steps, Over, ◌>>=◌, asked}

@@ -27,19 +27,6 @@ pub struct Asked {
     pub past: Option<Past>,
 }
 
-/// The end of a call.
-fn ended(answer: Answer, texts: Texts, past: Option<Past>) -> Asked
-    ensures answer { result.answer ≡ answer }
-    ensures texts { result.texts ≡ texts }
-    ensures past { result.past ≡ past }
-{
-    Asked {
-        answer,
-        texts,
-        past,
-    }
-}
-
 /// What is told with this text, which tells of no trouble.
 fn told_with(text: Result<Vec<u8>, NoMemory>) -> Result<Told, Status>
     ensures ok { IfOk result (λ told. told.troubled ≡ false) }
@@ -164,10 +151,22 @@ pub fn ask<S: Store, W: Say>(alloc: Global, words: &[String], store: &mut S, say
     let mut texts = Texts::none();
     let mut past = None;
     let Some(question) = read_question(words) else {
-        return ended(Answer::Plain(Status::BadWords), texts, past);
+        return Asked {
+            answer: Answer::Plain(Status::BadWords),
+            texts,
+            past,
+        };
     };
     match tell(alloc, store, question, &mut texts, &mut past) {
-        Ok(told) => ended(say_told(alloc, say, told), texts, past),
-        Err(status) => ended(Answer::Plain(status), texts, past),
+        Ok(told) => Asked {
+            answer: say_told(alloc, say, told),
+            texts,
+            past,
+        },
+        Err(status) => Asked {
+            answer: Answer::Plain(status),
+            texts,
+            past,
+        },
     }
 }

@@ -27,10 +27,8 @@ fn help_kind(kind: Kind, want: Kind) -> &'static str {
         (Kind::Sealed, _) => "unlabel it first",
         (Kind::Whole | Kind::Flag | Kind::Unit, Kind::Text) => "let X = str A makes a text of it",
         (Kind::Text, Kind::Whole) => "let X = num A reads a whole from a text",
-        (
-            Kind::Whole | Kind::Flag | Kind::Unit | Kind::Text | Kind::List,
-            Kind::Sealed,
-        ) => "what isn't sealed is learned already",
+        (Kind::Whole | Kind::Flag | Kind::Unit | Kind::Text | Kind::List, Kind::Sealed) =>
+            "what isn't sealed is learned already",
         (
             Kind::Reference | Kind::Variable | Kind::TaskResult,
             Kind::Reference | Kind::Variable | Kind::TaskResult,
@@ -54,7 +52,8 @@ fn help_want(kind: Kind, want: Want) -> &'static str {
 /// What helps where an operand isn't what it is to be.
 fn help_operand(wrong: Wrong<'_>) -> &'static str {
     match wrong.seen {
-        Seen::Unbound => "a procedure knows its own names alone: its parameters, and what was bound in it before",
+        Seen::Unbound =>
+            "a procedure knows its own names alone: its parameters, and what was bound in it before",
         Seen::Sealed => help_want(Kind::Sealed, wrong.want),
         Seen::Plain(plain) => help_want(kind_of(plain), wrong.want),
     }
@@ -78,7 +77,8 @@ pub(crate) fn help_of(job: &Job, stood: &Stood) -> &'static str {
         FaultKind::NoCells(_, _) => {
             "a reference or a variable takes one cell, a child one and those that it is given"
         }
-        FaultKind::ChildTurns(_, _) => "a child's turns are taken from those that its parent has left",
+        FaultKind::ChildTurns(_, _) =>
+            "a child's turns are taken from those that its parent has left",
         _ => "",
     }
 }

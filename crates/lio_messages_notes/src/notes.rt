@@ -139,12 +139,7 @@ impl<'r> About<'r> {
 
     /// Writes the line of the script at which a task ended, why, and what helps, where there is
     /// something to say.
-    fn print_detail(
-        &self,
-        printer: &mut Printer<'_>,
-        line: Option<SourceLine<'_>>,
-        found: &Found,
-    ) {
+    fn print_detail(&self, printer: &mut Printer<'_>, line: Option<SourceLine<'_>>, found: &Found) {
         if let Some(line) = line {
             let number = Piece::Number(line.number as u64);
             printer.fill("\n  {} | {}", number, Piece::Shown(line.bytes));

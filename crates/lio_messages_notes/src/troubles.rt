@@ -61,7 +61,8 @@ impl End<'_> {
     /// Whether two tasks ended by the same kind of fault at the same line, and neither waited for
     /// another.
     fn is_alike(self, one: Ending, other: Ending) -> bool {
-        let (Some(first), Some(second)) = (self.entries.get(one.end), self.entries.get(other.end)) else {
+        let (Some(first), Some(second)) = (self.entries.get(one.end), self.entries.get(other.end))
+        else {
             return false;
         };
         match (fault_of(first), fault_of(second)) {

@@ -111,7 +111,9 @@ where
     let outcome = coop_main(rt, alloc, words, store, &mut say);
     let mut found = found_of(alloc, case, setting, &outcome, words, &say);
     let CoopOutcome {
-        status, journal, ..
+        status,
+        journal,
+        ..
     } = &outcome;
     let added = match &mut found {
         Ok(found) => add_host(rt, case, setting, words, status, journal, found),

@@ -74,9 +74,6 @@ impl<R: Print> Say for RealSay<R> {
     }
 
     fn trouble(&self) -> Option<Trouble<'_>> {
-        match &self.error {
-            Some(error) => Some(Trouble::System(error)),
-            None => None,
-        }
+        Some(Trouble::System(self.error?))
     }
 }

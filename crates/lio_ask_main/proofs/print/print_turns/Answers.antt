@@ -1,8 +1,7 @@
-use Rattle.std.proofs.Common.{◌≡◌, ◌∙◌, ap, subst, arith, ◌<◌, ◌≤◌, ◌++◌, List, ℕ, length, get_or}
-use Rattle.std.proofs.lemmas.Grind.{get_or_default_zero}
+use Rattle.std.proofs.Common.{◌≡◌, ◌∙◌, ap, subst, arith, ◌<◌, ◌≤◌, List, length, get_or}
 use Rattle.std.proofs.lemmas.List.{take_all}
 use Rattle.lio_values.specs.declared.entry.Entry.{Entry}
-use Rattle.lio_ask_main.specs.Turns.{turn_line, turn_lines}
+use Rattle.lio_ask_main.specs.Turns.{turn_lines}
 use Rattle.lio_ask_main.proofs.TurnLemmas.{lines-next}
 use Rattle.lio_ask_main.proofs.print.print_turns.Goals as goal
 
@@ -18,10 +17,7 @@ loop-place-preserved c =
     let items_are : c.entries-entries.result.now ≡ entries = c.entries-entries.ensures.entries in
     let below : i < length entries = subst (λ (xs : List Entry). i < length xs) items_are c.loop-place-test.true in
     let at : entry ≡ get_or entries i entry = subst (λ (xs : List Entry). entry ≡ get_or xs i entry) items_are c.index-entries-place.is in
-    let inside : i < length numbers = omega (arith, below, c.requires) in
-    let number : c.index-numbers-place.result ≡ get_or numbers i 0 = c.index-numbers-place.is ∙ get_or_default_zero numbers i c.index-numbers-place.result inside in
-    lines-next numbers entries i entry c.loop-place.out.items c.print_turn.new.out.items below at c.loop-place.invariant
-    (c.in_ok-print_turn.ensures ∙ ap (λ (n : ℕ). c.loop-place.out.items ++ turn_line n entry) number)
+    lines-next numbers entries i entry c.loop-place.out.items c.print_turn.new.out.items below at c.loop-place.invariant c.in_ok-print_turn.ensures
 
 pub returns : goal.returns
 returns c =

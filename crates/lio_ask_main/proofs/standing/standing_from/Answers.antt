@@ -1,4 +1,4 @@
-use Rattle.std.proofs.Common.{◌≡◌, ◌∙◌, ap, arith, length, List, ℕ}
+use Rattle.std.proofs.Common.{ap, arith, length, List, ℕ}
 use Rattle.lio_values.specs.declared.entry.Entry.{Entry}
 use Rattle.lio_task.proofs.LogLemmas.{fresh-later}
 use Rattle.lio_ask_main.proofs.standing.standing_from.Goals as goal

@@ -8,7 +8,7 @@ use Rattle.lio_ask_main.proofs.standing.take_turn.Goals as goal
 pub returns-in-Ok-clause-later : goal.returns-in-Ok-clause-later
 returns-in-Ok-clause-later c =
     let script = c.args.script.now in
-    later-next (configuration_of script c.args.config.now) (configuration_of script c.step.new.self) c.args.config.now c.step.new.self c.args.k c.args.ticket c.in-Ok.entry c.in-Ok.ensures.ok c.requires.later c.in-Ok.ensures.logs
+    later-next (configuration_of script c.args.config.now) (configuration_of script c.step.new.self) c.args.config.now c.step.new.self c.args.k c.args.ticket c.in-Ok._entry c.in-Ok.ensures.ok c.requires.later c.in-Ok.ensures.logs
 
 pub returns-in-Err-Still-clause-sound : goal.returns-in-Err-Still-clause-sound
 returns-in-Err-Still-clause-sound c = subst IsSound (sym c.in-Err-Still.ensures.err) c.requires.sound

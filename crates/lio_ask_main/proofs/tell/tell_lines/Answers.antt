@@ -1,4 +1,4 @@
-use Rattle.std.proofs.Common.{◌≡◌, ◌∙◌, ap, refl, subst, length, List, ℕ}
+use Rattle.std.proofs.Common.{◌∙◌, ap, refl, length, List, ℕ}
 use Rattle.lio_calculus.specs.Run.{Ran}
 use Rattle.lio_task.specs.Configuration.{configuration_of}
 use Rattle.lio_ask_main.proofs.tell.tell_lines.Goals as goal

@@ -1,4 +1,4 @@
-use Rattle.std.proofs.Common.{◌∙◌, sym, ap, false, not, Bool, Option, []}
+use Rattle.std.proofs.Common.{◌∙◌, sym, ap, false, not, Option, []}
 use Rattle.std.specs.Option.{option_map, option_map_or}
 use Rattle.lio_calculus.specs.Task.{TaskState}
 use Rattle.lio_task.specs.declared.task.Task.{Task}
