@@ -1,4 +1,5 @@
 mod PastLemmas
 mod CountLemmas
 mod TurnLemmas
+mod ExplainedLemmas
 pub mod Says

@@ -11,7 +11,7 @@ use Rattle.lio_ask_main.specs.declared.answer.Answer.{Answer}
 use Rattle.lio_ask_main.specs.declared.answer.Answer.TheVariants.{Plain}
 use Rattle.lio_ask_main.specs.Past.{Past, StopsThePast, recalling}
 use Rattle.lio_ask_main.specs.Telling.{TellsCounts, TellsLines}
-use Rattle.lio_ask_main.specs.Words.{Files, Question, Help, Version, Check, Audit, Lines, question_of}
+use Rattle.lio_ask_main.specs.Words.{Files, Question, Help, Version, Explain, Table, Check, Audit, Lines, question_of}
 use Rattle.lio_ask_main.specs.Answers.{AreTextsOf, IsAnswered, IsNotTaken, IsRefused, IsSaid, Says, Tells, answer_by}
 use Rattle.lio_front.specs.Texts.{AreTexts}
 use Rattle.lio_front.specs.declared.texts.Texts.{Texts}
@@ -39,6 +39,8 @@ not-read told files before after status refuses = refuses
 wants-memory : (told : Option FileMap) (question : Question) (before after : Faults) → IsRefused told question before after NoMemory
 wants-memory told Help before after = refl
 wants-memory told Version before after = refl
+wants-memory told (Explain file) before after = tt
+wants-memory told (Table file) before after = tt
 wants-memory told (Check policy script) before after = tt
 wants-memory told (Audit files) before after = tt
 wants-memory told (Lines files) before after = tt
@@ -47,6 +49,8 @@ wants-memory told (Lines files) before after = tt
 never-done : (told : Option FileMap) (question : Question) (before after : Faults) → IsRefused told question before after Done → ⊥
 never-done told Help before after refused = absurd (cc)
 never-done told Version before after refused = absurd (cc)
+never-done told (Explain file) before after refused = refused
+never-done told (Table file) before after refused = refused
 never-done told (Check policy script) before after refused = refused
 never-done told (Audit files) before after refused = refused
 never-done told (Lines files) before after refused = refused
@@ -54,6 +58,8 @@ never-done told (Lines files) before after refused = refused
 never-unsaid : (told : Option FileMap) (question : Question) (before after : Faults) → IsRefused told question before after SayFault → ⊥
 never-unsaid told Help before after refused = absurd (cc)
 never-unsaid told Version before after refused = absurd (cc)
+never-unsaid told (Explain file) before after refused = refused
+never-unsaid told (Table file) before after refused = refused
 never-unsaid told (Check policy script) before after refused = refused
 never-unsaid told (Audit files) before after refused = refused
 never-unsaid told (Lines files) before after refused = refused
@@ -99,6 +105,8 @@ none-read told policy script texts first second = record {
 pub none-of : (told : Option FileMap) (question : Question) (texts : Texts) → texts.policy ≡ None → texts.script ≡ None → AreTextsOf told question texts
 none-of told Help texts first second = tt
 none-of told Version texts first second = tt
+none-of told (Explain file) texts first second = rw first tt
+none-of told (Table file) texts first second = rw first tt
 none-of told (Check policy script) texts first second = none-read told policy script texts first second
 none-of told (Audit files) texts first second = none-read told files.policy files.script texts first second
 none-of told (Lines files) texts first second = none-read told files.policy files.script texts first second

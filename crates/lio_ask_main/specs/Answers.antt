@@ -10,13 +10,16 @@ use Rattle.lio_front.specs.declared.loading.Front.{Front}
 use Rattle.lio_front.specs.declared.status.Status.{Status}
 use Rattle.lio_front.specs.declared.status.Status.TheVariants.{Done, BadWords, SayFault, NoMemory, NotARun}
 use Rattle.lio_front.specs.Status.{Says as Refuses, exit_status}
-use Rattle.lio_front.specs.Texts.{AreTexts}
+use Rattle.lio_front.specs.Texts.{AreFetched, AreTexts}
+use Rattle.lio_front.specs.Loading.{most_policy_bytes}
 use Rattle.lio_front.specs.declared.texts.Texts.{Texts}
 use Rattle.lio_ask_main.specs.declared.answer.Answer.{Answer}
 use Rattle.lio_ask_main.specs.declared.answer.Answer.TheVariants.{Plain, Troubled}
-use Rattle.lio_ask_main.specs.Past.{IsNoRun, IsTakenAgain, checking, recalling}
+use Rattle.lio_policy.specs.declared.policy.Policy.{Policy}
+use Rattle.lio_ask_main.specs.Explained.{begins_with}
+use Rattle.lio_ask_main.specs.Past.{IsNoRun, IsTakenAgain, checking, explaining, recalling}
 use Rattle.lio_ask_main.specs.Telling.{IsCounted, IsListed}
-use Rattle.lio_ask_main.specs.Words.{Files, Question, Help, Version, Check, Audit, Lines, question_of}
+use Rattle.lio_ask_main.specs.Words.{Files, Question, Help, Version, Explain, Table, Check, Audit, Lines, question_of}
 
 -- the number with which the program ends: the host's, and one more where a task failed or waits for ever
 abbrev pub exit_number : Answer → ℕ
@@ -32,11 +35,13 @@ answer_by true = Troubled
 abbrev pub check_text : List ℕ
 check_text = codes "check ok\n"
 
--- What is said of a question, and whether it tells of a task that failed or waits for ever. Check: the script fits the policy. Audit: the history is that of one complete run, with so many turns, and so many
+-- What is said of a question, and whether it tells of a task that failed or waits for ever. Explain: the policy is read; Table: it is, and the text begins with its channels, its inputs and the table of what it lets flow. Check: the script fits the policy. Audit: the history is that of one complete run, with so many turns, and so many
 -- tasks failed and wait for ever after it. Lines: the history is, and each of its turns has a line.
 abbrev pub IsAnswered : Option FileMap → Question → List ℕ → Bool → Type 0
 IsAnswered told Help text troubled = troubled ≡ false
 IsAnswered told Version text troubled = troubled ≡ false
+IsAnswered told (Explain file) text troubled = ((policy : Policy) × Give told (explaining file) (Ok policy)) × (troubled ≡ false)
+IsAnswered told (Table file) text troubled = ((policy : Policy) × Give told (explaining file) (Ok policy) × begins_with text policy) × (troubled ≡ false)
 IsAnswered told (Check policy script) text troubled = ((front : Front) × Give told (checking policy script) (Ok front)) × (text ≡ check_text) × (troubled ≡ false)
 IsAnswered told (Audit files) text troubled = (ran : Ran) × IsTakenAgain told files ran × IsCounted ran text troubled
 IsAnswered told (Lines files) text troubled = (ran : Ran) × IsTakenAgain told files ran × IsListed ran text troubled
@@ -50,6 +55,8 @@ IsNotTaken told files before after status = Refuses told (recalling files) befor
 abbrev pub IsRefused : Option FileMap → Question → Faults → Faults → Status → Type 0
 IsRefused told Help before after status = status ≡ NoMemory
 IsRefused told Version before after status = status ≡ NoMemory
+IsRefused told (Explain file) before after status = Refuses told (explaining file) before after status
+IsRefused told (Table file) before after status = Refuses told (explaining file) before after status
 IsRefused told (Check policy script) before after status = Refuses told (checking policy script) before after status
 IsRefused told (Audit files) before after status = IsNotTaken told files before after status
 IsRefused told (Lines files) before after status = IsNotTaken told files before after status
@@ -110,6 +117,8 @@ pub record EndsWith (call : Call) (answer : Answer) (exit : ℕ) : Type 0 where
 abbrev pub AreTextsOf : Option FileMap → Question → Texts → Type 0
 AreTextsOf told Help texts = Unit {0}
 AreTextsOf told Version texts = Unit {0}
+AreTextsOf told (Explain file) texts = AreFetched told file most_policy_bytes texts.policy
+AreTextsOf told (Table file) texts = AreFetched told file most_policy_bytes texts.policy
 AreTextsOf told (Check policy script) texts = AreTexts told policy script texts
 AreTextsOf told (Audit files) texts = AreTexts told files.policy files.script texts
 AreTextsOf told (Lines files) texts = AreTexts told files.policy files.script texts

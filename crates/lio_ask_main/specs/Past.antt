@@ -11,7 +11,7 @@ use Rattle.lio_audit.specs.declared.fault.AuditFault.TheVariants as audit_fault
 use Rattle.lio_front.specs.declared.loading.Front.{Front}
 use Rattle.lio_front.specs.declared.status.Status.{Status}
 use Rattle.lio_front.specs.declared.status.Status.TheVariants.{Missing, NotARun, NoMemory}
-use Rattle.lio_front.specs.Loading.{loading, texts}
+use Rattle.lio_front.specs.Loading.{loading, policy_steps, texts}
 use Rattle.lio_ask_main.specs.Words.{Files}
 use Rattle.lio_ask_main.specs.declared.past.Past as declared
 
@@ -23,6 +23,10 @@ pub record Past : Type 0 where
 -- what the code's stands for
 abbrev pub past_of : declared.Past → Past
 past_of past = record { job = past.job; history = past.history.items }
+
+-- the policy of a file
+abbrev pub explaining : List ℕ → Steps Policy Status
+explaining policy = policy_steps policy
 
 -- the policy and the script of two files, where each task of the policy can begin in the script
 abbrev pub checking : List ℕ → List ℕ → Steps Front Status

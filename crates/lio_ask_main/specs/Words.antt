@@ -11,10 +11,12 @@ pub record Files : Type 0 where
   pub script : List ℕ
   pub history : List ℕ
 
--- a question: what the program answers, which version it has, whether a script fits a policy, what became of the run that a history tells, and where its tasks stood in each turn
+-- a question: what the program answers, which version it has, what a policy lets flow, as a text or as a table for programs, whether a script fits a policy, what became of the run that a history tells, and where its tasks stood in each turn
 pub data Question : Type 0 where
   Help : Question
   Version : Question
+  Explain : List ℕ → Question
+  Table : List ℕ → Question
   Check : List ℕ → List ℕ → Question
   Audit : Files → Question
   Lines : Files → Question
@@ -23,9 +25,17 @@ pub data Question : Type 0 where
 abbrev pub alone : List ℕ → Option Question
 alone word = if bytes_eq word (codes "help") then Some Help else if bytes_eq word (codes "version") then Some Version else None
 
--- the question that a word asks of two files
+-- the question that a word asks of a file
+abbrev pub of_one : List ℕ → List ℕ → Option Question
+of_one word policy = if bytes_eq word (codes "explain") && is_name policy then Some (Explain policy) else None
+
+-- the question that a word asks of a file, with an option behind it
+abbrev pub of_option : List ℕ → List ℕ → List ℕ → Option Question
+of_option word policy option = if bytes_eq word (codes "explain") && is_name policy && bytes_eq option (codes "--json") then Some (Table policy) else None
+
+-- the question that a word asks of two files, or of one with an option behind it
 abbrev pub of_two : List ℕ → List ℕ → List ℕ → Option Question
-of_two word policy script = if bytes_eq word (codes "check") && is_name policy && is_name script then Some (Check policy script) else None
+of_two word policy script = if bytes_eq word (codes "check") && is_name policy && is_name script then Some (Check policy script) else of_option word policy script
 
 -- the question that a word asks of three files, which may stand
 abbrev pub of_files : List ℕ → Files → Option Question
@@ -36,9 +46,10 @@ abbrev pub of_three : List ℕ → List ℕ → List ℕ → List ℕ → Option
 of_three word policy script history =
     if is_name policy && is_name script && is_name history then of_files word (record { policy = policy; script = script; history = history }) else None
 
--- the question that words ask: `help`, `version`, `check POLICY SCRIPT`, `audit POLICY SCRIPT HISTORY` or `lines POLICY SCRIPT HISTORY`; no file's name is empty or begins with `-`
+-- the question that words ask: `help`, `version`, `explain POLICY`, `explain POLICY --json`, `check POLICY SCRIPT`, `audit POLICY SCRIPT HISTORY` or `lines POLICY SCRIPT HISTORY`; no file's name is empty or begins with `-`
 abbrev pub question_of : List (List ℕ) → Option Question
 question_of (word ∷ []) = alone word
+question_of (word ∷ policy ∷ []) = of_one word policy
 question_of (word ∷ policy ∷ script ∷ []) = of_two word policy script
 question_of (word ∷ policy ∷ script ∷ history ∷ []) = of_three word policy script history
 question_of words = None
@@ -51,6 +62,8 @@ files_named files = record { policy = files.policy.now; script = files.script.no
 abbrev pub named : declared.Question → Question
 named question.Help = Help
 named question.Version = Version
+named (question.Explain policy) = Explain policy.now
+named (question.Table policy) = Table policy.now
 named (question.Check policy script) = Check policy.now script.now
 named (question.Audit files) = Audit (files_named files)
 named (question.Lines files) = Lines (files_named files)

@@ -10,7 +10,7 @@ ghost use Rattle.lio_ask_main.specs.Words.{Question as Asks};
 use crate::answer::Answer;
 use crate::past::{Past, load_past};
 use crate::print::{print_help, print_version};
-use crate::tell::{Told, tell_audit, tell_check, tell_lines};
+use crate::tell::{Told, tell_audit, tell_check, tell_explain, tell_lines, tell_table};
 use crate::words::{Files, Question, read_question};
 use lio_clauses::NoMemory;
 use lio_front::{Status, Texts};
@@ -112,6 +112,8 @@ fn tell<S: Store>(
     match question {
         Question::Help => told_with(print_help(alloc)),
         Question::Version => told_with(print_version(alloc)),
+        Question::Explain(policy) => tell_explain(alloc, store, policy, texts),
+        Question::Table(policy) => tell_table(alloc, store, policy, texts),
         Question::Check(policy, script) => tell_check(alloc, store, policy, script, texts),
         Question::Audit(files) => answer_audit(alloc, store, files, texts, read),
         Question::Lines(files) => answer_lines(alloc, store, files, texts, read),

@@ -4,6 +4,7 @@
 
 mod answer;
 mod asking;
+mod explain;
 mod past;
 mod print;
 mod standing;

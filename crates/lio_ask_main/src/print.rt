@@ -13,7 +13,7 @@ use std::alloc::Global;
 
 /// What the program answers.
 const HELP: &[u8] =
-    b"lio_ask answers questions about a policy, a script and a history. It writes no file.\n\n  lio_ask check POLICY SCRIPT          whether the script fits the policy, and what in them looks wrong\n  lio_ask audit POLICY SCRIPT HISTORY  whether the history is that of a run, and how many tasks failed or wait for ever\n  lio_ask lines POLICY SCRIPT HISTORY  for each turn of the history its ticket, its task, and the line of the script\n  lio_ask help                         this text\n  lio_ask version                      the version\n\nPOLICY, SCRIPT and HISTORY are names of files. The exit status is 0 where all is well, 13 where a task failed or\nwaits for ever (audit), and else that of lio_host for the same refusal.\n";
+    b"lio_ask answers questions about a policy, a script and a history. It writes no file.\n\n  lio_ask explain POLICY [--json]      what the policy lets come from which input to which channel, and what no task can do\n  lio_ask check POLICY SCRIPT          whether the script fits the policy, and what in them looks wrong\n  lio_ask audit POLICY SCRIPT HISTORY  whether the history is that of a run, and how many tasks failed or wait for ever\n  lio_ask lines POLICY SCRIPT HISTORY  for each turn of the history its ticket, its task, and the line of the script\n  lio_ask help                         this text\n  lio_ask version                      the version\n\nPOLICY, SCRIPT and HISTORY are names of files. The exit status is 0 where all is well, 13 where a task failed or\nwaits for ever (audit), and else that of lio_host for the same refusal.\n";
 
 /// The version.
 const VERSION: &[u8] = b"lio_ask 2.1\n";

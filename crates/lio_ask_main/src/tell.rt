@@ -1,17 +1,19 @@
 //! What is told of each question.
 
 ghost use Rattle.std.specs.Prelude.{◌≡◌, ◌≤◌, IfOk, IfErr};
-ghost use Rattle.lio_front.specs.Texts.{AreTexts};
+ghost use Rattle.lio_front.specs.Loading.{most_policy_bytes};
+ghost use Rattle.lio_front.specs.Texts.{AreFetched, AreTexts};
 ghost use Rattle.lio_ask_main.specs.Answers.{IsAnswered, IsRefused};
 ghost use Rattle.lio_ask_main.specs.Past.{StopsThePast, past_of};
 ghost use Rattle.lio_ask_main.specs.Telling.{TellsCounts, TellsLines};
-ghost use Rattle.lio_ask_main.specs.Words.{Check};
+ghost use Rattle.lio_ask_main.specs.Words.{Check, Explain, Table};
 
+use crate::explain::{explain_text, table_text};
 use crate::past::{Past, take_again};
 use crate::print::{print_check, print_counts, print_turns};
 use crate::standing::standing;
 use crate::troubles::{are_some, failed_count, waiting_count};
-use lio_front::{Status, Texts, load};
+use lio_front::{Status, Texts, load, load_policy};
 use lio_outside::Store;
 use std::alloc::Global;
 
@@ -20,6 +22,54 @@ use std::alloc::Global;
 pub(crate) struct Told {
     pub text: Vec<u8>,
     pub troubled: bool,
+}
+
+/// Tells what a policy lets flow, as a text. The store's files stay.
+pub(crate) fn tell_explain<S: Store>(
+    alloc: Global,
+    store: &mut S,
+    policy: &[u8],
+    texts: &mut Texts,
+) -> Result<Told, Status>
+    ensures files { S.holds store.new ≡ S.holds store.old }
+    ensures count { (S.faults store.old).count ≤ (S.faults store.new).count }
+    ensures ok { IfOk result (λ told. IsAnswered (S.holds store.old) (Explain policy.now)
+        told.text.items told.troubled) }
+    ensures err { IfErr result (IsRefused (S.holds store.old) (Explain policy.now)
+        (S.faults store.old) (S.faults store.new)) }
+    ensures text { AreFetched (S.holds store.old) policy.now most_policy_bytes texts.old.policy
+        → AreFetched (S.holds store.old) policy.now most_policy_bytes texts.new.policy }
+{
+    let read = load_policy(alloc, store, policy, texts)?;
+    let text = explain_text(alloc, &read)?;
+    Ok(Told {
+        text,
+        troubled: false,
+    })
+}
+
+/// Tells what a policy lets flow, as a table for programs. The store's files stay.
+pub(crate) fn tell_table<S: Store>(
+    alloc: Global,
+    store: &mut S,
+    policy: &[u8],
+    texts: &mut Texts,
+) -> Result<Told, Status>
+    ensures files { S.holds store.new ≡ S.holds store.old }
+    ensures count { (S.faults store.old).count ≤ (S.faults store.new).count }
+    ensures ok { IfOk result (λ told. IsAnswered (S.holds store.old) (Table policy.now)
+        told.text.items told.troubled) }
+    ensures err { IfErr result (IsRefused (S.holds store.old) (Table policy.now)
+        (S.faults store.old) (S.faults store.new)) }
+    ensures text { AreFetched (S.holds store.old) policy.now most_policy_bytes texts.old.policy
+        → AreFetched (S.holds store.old) policy.now most_policy_bytes texts.new.policy }
+{
+    let read = load_policy(alloc, store, policy, texts)?;
+    let text = table_text(alloc, &read)?;
+    Ok(Told {
+        text,
+        troubled: false,
+    })
 }
 
 /// Tells that a script fits a policy, if it does. The store's files stay.

@@ -22,6 +22,10 @@ pub enum Question<'a> {
     Help,
     /// Which version it has.
     Version,
+    /// What the policy of a file lets flow.
+    Explain(&'a [u8]),
+    /// The same, as a table for programs.
+    Table(&'a [u8]),
     /// Whether the script of the second file fits the policy of the first.
     Check(&'a [u8], &'a [u8]),
     /// How many tasks failed or wait for ever in the run that a history tells.
@@ -44,7 +48,31 @@ fn alone(word: &[u8]) -> Option<Question<'_>>
     None
 }
 
-/// The question that a word asks of two files.
+/// The question that a word asks of a file.
+fn of_one<'a>(word: &[u8], policy: &'a [u8]) -> Option<Question<'a>>
+    ensures { MatchOption result (spec.of_one word.now policy.now ≡ None)
+        (λ question. spec.of_one word.now policy.now ≡ Some (named question)) }
+{
+    if word == b"explain".as_slice() && is_name(policy) {
+        Some(Question::Explain(policy))
+    } else {
+        None
+    }
+}
+
+/// The question that a word asks of a file, with an option behind it.
+fn of_option<'a>(word: &[u8], policy: &'a [u8], option: &[u8]) -> Option<Question<'a>>
+    ensures { MatchOption result (spec.of_option word.now policy.now option.now ≡ None)
+        (λ question. spec.of_option word.now policy.now option.now ≡ Some (named question)) }
+{
+    if word == b"explain".as_slice() && is_name(policy) && option == b"--json".as_slice() {
+        Some(Question::Table(policy))
+    } else {
+        None
+    }
+}
+
+/// The question that a word asks of two files, or of one with an option behind it.
 fn of_two<'a>(word: &[u8], policy: &'a [u8], script: &'a [u8]) -> Option<Question<'a>>
     ensures { MatchOption result (spec.of_two word.now policy.now script.now ≡ None)
         (λ question. spec.of_two word.now policy.now script.now ≡ Some (named question)) }
@@ -52,7 +80,7 @@ fn of_two<'a>(word: &[u8], policy: &'a [u8], script: &'a [u8]) -> Option<Questio
     if word == b"check".as_slice() && is_name(policy) && is_name(script) {
         Some(Question::Check(policy, script))
     } else {
-        None
+        of_option(word, policy, script)
     }
 }
 
@@ -93,14 +121,16 @@ fn of_three<'a>(
     }
 }
 
-/// The question that the words ask, if they ask one: `help`, `version`, `check POLICY SCRIPT`,
-/// `audit POLICY SCRIPT HISTORY` or `lines POLICY SCRIPT HISTORY`.
+/// The question that the words ask, if they ask one: `help`, `version`, `explain POLICY`,
+/// `explain POLICY --json`, `check POLICY SCRIPT`, `audit POLICY SCRIPT HISTORY` or
+/// `lines POLICY SCRIPT HISTORY`.
 pub fn read_question(words: &[String]) -> Option<Question<'_>>
     ensures { MatchOption result (question_of (bytes_of_words words.now) ≡ None)
         (λ question. question_of (bytes_of_words words.now) ≡ Some (named question)) }
 {
     match words {
         [word] => alone(word.as_str().as_bytes()),
+        [word, policy] => of_one(word.as_str().as_bytes(), policy.as_str().as_bytes()),
         [word, policy, script] => of_two(
             word.as_str().as_bytes(),
             policy.as_str().as_bytes(),

@@ -8,6 +8,7 @@ pub mod Forms
 pub mod ClauseBits
 pub mod Reduced
 pub mod Merged
+pub mod Rising
 pub mod Answered
 pub mod WithoutLemmas
 pub mod Algebra

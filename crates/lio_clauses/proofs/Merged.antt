@@ -127,10 +127,10 @@ next-right left right kept i f h l none =
 
 -- one more clause is seen
 
-covers-insert : (ks : List ℕ) (i m u : ℕ) → i ≤ length ks → covers ks u ≡ true → covers (insert ks i m) u ≡ true
+pub covers-insert : (ks : List ℕ) (i m u : ℕ) → i ≤ length ks → covers ks u ≡ true → covers (insert ks i m) u ≡ true
 covers-insert ks i m u l h = let r = covers-some ks u h in covers-from (insert ks i m) u r.0 (In-insert r.0 m ks i l (inr r.1.0)) r.1.1
 
-covers-new : (ks : List ℕ) (i m u : ℕ) → i ≤ length ks → u ≡ m → covers (insert ks i m) u ≡ true
+pub covers-new : (ks : List ℕ) (i m u : ℕ) → i ≤ length ks → u ≡ m → covers (insert ks i m) u ≡ true
 covers-new ks i m u l e = covers-from (insert ks i m) u m (In-insert m m ks i l (inl refl)) (ap (bit_and m) e ∙ and_self m)
 
 In-more : (u : ℕ) (xs : List ℕ) (i : ℕ) → i < length xs → In u (take (i + 1) xs) → In u (take i xs) ⊎ (u ≡ get_or xs i 0)

@@ -1,5 +1,5 @@
 -- Keeping the minimal ones of a list of clauses, the least first: what is kept are clauses of the canonical form.
-use Rattle.std.proofs.Common.{◌≡◌, ℕ, suc, zero, ◌+◌, ◌^◌, ◌<◌, ◌≤◌, Bool, true, false, ◌⊎◌, inl, inr, Option, Some, None, List, [], ◌∷◌, map, length, get_or, refl, sym, ◌∙◌, ap, subst, arith}
+use Rattle.std.proofs.Common.{◌≡◌, ℕ, suc, zero, ◌+◌, ◌^◌, ◌<◌, ◌≤◌, Bool, true, false, ◌⊎◌, inl, inr, Some, None, List, [], ◌∷◌, map, length, get_or, refl, sym, ◌∙◌, ap, subst, arith}
 use Rattle.std.specs.Prelude.{◌==◌, bit_and}
 use Rattle.std.specs.Int.Bits.{and_self}
 use Rattle.std.specs.List.{All, insert}
@@ -129,13 +129,6 @@ and_trans k u m e f = ap (λ v. bit_and v m) (sym e) ∙ and_assoc m k u ∙ ap 
 -- a clause that contains no kept one is none of them
 new-other : (ks : List ℕ) (m : ℕ) → covers ks m ≡ false → (k : ℕ) → In k ks → m ≡ k → ⊥
 new-other ks m c k h e = both_ways (covers ks m) c (covers-from ks m k h (ap (bit_and k) e ∙ and_self k))
-
--- what a search among the kept ones, seen as a slice, found
-pub least-seen : (us seen ks : List ℕ) (found least : Option ℕ) → seen ≡ ks → found ≡ least → IsLeastUncovered seen us found → IsLeastUncovered ks us least
-least-seen us seen ks found least e f h =
-    let P : Option ℕ → Type 0 = λ o. IsLeastUncovered ks us o in
-    let Q : List ℕ → Type 0 = λ v. IsLeastUncovered v us found in
-    subst P f (subst Q e h)
 
 -- the least clause that contains no kept one is minimal
 pub least-next : (us ks : List ℕ) (m : ℕ) → IsLeastUncovered ks us (Some m) → IsNextMinimal ks us m

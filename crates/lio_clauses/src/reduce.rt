@@ -3,6 +3,7 @@ ghost use Rattle.std.specs.Prelude.{◌≡◌, ◌≢◌, ℕ, ◌+◌, ◌^◌,
 ghost use Rattle.std.specs.Prelude.{◌++◌, length, map, insert, IsTrue, IfOk, OnOk, OnErr, bit_and};
 ghost use Rattle.std.specs.Prelude.{not, slice_index};
 ghost use Rattle.std.specs.List.{All, filter};
+ghost use Rattle.std.specs.List.Sorted.{IsNonDecreasing, IsPermutation};
 ghost use Rattle.lio_clauses.specs.Principals.{principals};
 ghost use Rattle.lio_clauses.specs.Canonical.{canonical, in_order};
 ghost use Rattle.lio_clauses.specs.Width.{IsWide};
@@ -19,6 +20,9 @@ const MAX_CLAUSES: usize = 64;
 
 /// The minimal clauses that were found so far. Up to four take no memory.
 pub(crate) type Kept = SmallVec<u64, 4>;
+
+/// The unions of a clause of each side. Up to sixteen take no memory.
+type Unions = SmallVec<u64, 16>;
 
 /// Keeps one more minimal clause of some clauses. After a fault the kept ones are as before.
 fn keep(kept: &mut Kept, clause: u64) -> Result<(), FormFault>
@@ -56,7 +60,7 @@ fn insert(kept: &mut Kept, place: usize, clause: u64) -> Result<(), NoMemory>
 }
 
 /// The minimal ones of the unions of a clause of each side, in lexicographic order: the canonical
-/// form of the disjunction. They are found in rising number.
+/// form of the disjunction.
 pub(crate) fn minimal_unions(alloc: Global, left: &[u64], right: &[u64]) -> Result<Kept, FormFault>
     ensures formula { IfOk result (λ kept. IsFormula kept.items) }
     ensures canonical { IfOk result (λ kept. map principals kept.items
@@ -64,9 +68,39 @@ pub(crate) fn minimal_unions(alloc: Global, left: &[u64], right: &[u64]) -> Resu
     ensures wide { result ≡ Err FormFault.Wide
         → IsWide (canonical (map principals (unions left.now right.now))) }
 {
+    let mut clauses = all_unions(alloc, left, right)?;
+    clauses.as_mut_slice().sort_unstable();
+    minimal_of_rising(alloc, clauses.as_slice())
+}
+
+/// The unions of a clause of each side.
+fn all_unions(alloc: Global, left: &[u64], right: &[u64]) -> Result<Unions, NoMemory>
+    ensures { IfOk result (λ clauses. clauses.items ≡ unions left.now right.now) }
+{
+    let mut clauses = Unions::new(alloc);
+    'lefts: for a in left {
+        'rights: for b in right {
+            clauses.push(*a | *b)?;
+        }
+    }
+    Ok(clauses)
+}
+
+/// The minimal ones of clauses that come in rising number, in lexicographic order. A clause that
+/// contains another one has no lesser number, so each that contains no kept one is minimal.
+fn minimal_of_rising(alloc: Global, clauses: &[u64]) -> Result<Kept, FormFault>
+    requires { IsNonDecreasing clauses.now }
+    ensures minimal { IfOk result (λ kept. KeepsMinimal clauses.now kept.items
+        × IsLeastUncovered kept.items clauses.now None) }
+    ensures wide { result ≡ Err FormFault.Wide → (others : List ℕ)
+        → IsPermutation clauses.now others → IsWide (canonical (map principals others)) }
+{
     let mut kept = Kept::new(alloc);
-    'rounds: while let Some(clause) = least_union(left, right, kept.as_slice()) {
-        keep(&mut kept, clause)?;
+    'clauses: for clause in clauses {
+        if is_covered(kept.as_slice(), *clause) {
+            continue;
+        }
+        keep(&mut kept, *clause)?;
     }
     Ok(kept)
 }
@@ -110,32 +144,6 @@ pub(crate) fn uncovered(alloc: Global, power: &[u64], clauses: &[u64]) -> Result
         }
     }
     Ok(kept)
-}
-
-/// The least union, as a number, of a clause of each side that contains no kept clause.
-fn least_union(left: &[u64], right: &[u64], kept: &[u64]) -> Option<u64>
-    ensures least { IsLeastUncovered kept.now (unions left.now right.now) result }
-    ensures fits { All (λ m. m < 2 ^ 64) (unions left.now right.now) }
-{
-    let mut least = None;
-    for a in left {
-        for b in right {
-            least = lesser_uncovered(least, *a | *b, kept);
-        }
-    }
-    least
-}
-
-/// The lesser one of the least clause so far and one more, if that one contains no kept clause.
-fn lesser_uncovered(least: Option<u64>, clause: u64, kept: &[u64]) -> Option<u64>
-    ensures { (clauses : List ℕ) → IsLeastUncovered kept.now clauses least
-        → IsLeastUncovered kept.now (clauses ++ clause ∷ []) result }
-{
-    match least {
-        Some(m) if m <= clause => least,
-        _ if is_covered(kept, clause) => least,
-        _ => Some(clause),
-    }
 }
 
 /// Where a clause has its place among kept ones in lexicographic order, where none contains

@@ -16,7 +16,7 @@ mod write;
 
 pub use clashes::clash;
 pub use inputs::load_inputs;
-pub use loading::{Front, MOST_POLICY_BYTES, MOST_SCRIPT_BYTES, fetch, load};
+pub use loading::{Front, MOST_POLICY_BYTES, MOST_SCRIPT_BYTES, fetch, load, load_policy};
 pub use shown::Shown;
 pub use status::Status;
 pub use summing::summary;

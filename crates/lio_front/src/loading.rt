@@ -63,7 +63,7 @@ pub fn fetch<S: Store>(
 }
 
 /// Fetches and reads the policy, and hands back its bytes. The store's files stay.
-fn load_policy<S: Store>(
+pub fn load_policy<S: Store>(
     alloc: Global,
     store: &mut S,
     policy: &[u8],

@@ -1,8 +1,9 @@
 //! Writing the files: the channels', the history and the view.
 
-ghost use Rattle.std.specs.Prelude.{◌≡◌, ◌≤◌, [], ◌∷◌, All, IfErr, OnOk};
+ghost use Rattle.std.specs.Prelude.{◌≡◌, ◌≤◌, [], ◌∷◌, All, IfErr, OnOk, if◌then◌else◌};
 ghost use Rattle.std.specs.Option.{option_map};
 ghost use Rattle.lio_events.specs.Printable.{IsPrintable};
+ghost use Rattle.lio_labels.specs.Flow.{flows};
 ghost use Rattle.lio_outside.specs.Outputs.{kept};
 ghost use Rattle.lio_front.specs.Outputs.{journal_output, outputs, outputs_from};
 ghost use Rattle.lio_front.specs.Outputs.{OutSays};
@@ -11,13 +12,32 @@ use crate::sends::channels_bytes;
 use crate::status::Status;
 use lio_clauses::Names;
 use lio_events::{Journal, print_journal};
-use lio_outside::{KeepFault, Store};
+use lio_labels::Label;
+use lio_outside::{KeepFault, Readers, Store};
 use lio_policy::Policy;
 use lio_values::Text;
 use std::alloc::Global;
 
+/// Who may read the new file of a channel with a label: everyone where all that flows to it is
+/// public, and else its owner alone.
+fn readers_of(label: &Label, public: &Label) -> Readers
+    ensures { result ≡ (if flows label.now public.now then Readers.Everyone else Readers.Owner) }
+{
+    if label.flows(public) {
+        Readers::Everyone
+    } else {
+        Readers::Owner
+    }
+}
+
 /// Writes a file, and names it where it can't be written.
-fn keep<S: Store>(alloc: Global, store: &mut S, file: &[u8], bytes: &[u8]) -> Result<(), Status>
+fn keep<S: Store>(
+    alloc: Global,
+    store: &mut S,
+    file: &[u8],
+    bytes: &[u8],
+    readers: Readers,
+) -> Result<(), Status>
     ensures count { (S.faults store.old).count ≤ (S.faults store.new).count }
     ensures ok { OnOk result (S.holds store.new ≡ kept (S.holds store.old)
         (record { name = file.now; bytes = bytes.now } ∷ [])) }
@@ -26,7 +46,7 @@ fn keep<S: Store>(alloc: Global, store: &mut S, file: &[u8], bytes: &[u8]) -> Re
         (S.faults store.new)) }
 {
     let name = Text::of(alloc, file)?;
-    match store.keep(alloc, file, bytes) {
+    match store.keep(alloc, file, bytes, readers) {
         Ok(()) => Ok(()),
         Err(KeepFault::Failed) => Err(Status::WriteFault(name)),
         Err(KeepFault::NoMemory) => Err(Status::NoMemory),
@@ -48,9 +68,17 @@ fn keep_channels<S: Store>(
         (S.faults store.new)) }
 {
     let channels = policy.channels.as_slice();
+    let public = Label::public(alloc)?;
     let lists = channels_bytes(alloc, journal, channels.len())?;
     for (number, channel) in channels.iter().enumerate() {
-        keep(alloc, store, channel.file.bytes(), lists[number].as_slice())?;
+        let readers = readers_of(&channel.label, &public);
+        keep(
+            alloc,
+            store,
+            channel.file.bytes(),
+            lists[number].as_slice(),
+            readers,
+        )?;
     }
     Ok(())
 }
@@ -76,12 +104,13 @@ fn keep_journal<S: Store>(
         return Ok(());
     };
     let text = print_journal(alloc, journal, ticket, names)?;
-    keep(alloc, store, file, text.as_slice())
+    keep(alloc, store, file, text.as_slice(), Readers::Owner)
 }
 
 /// Writes the channels' files in the policy's order, each with what the channel received, then the
 /// history with its tickets, and then what an observer sees without tickets, the last two where
-/// they have a file. After want of memory a first part of the files is written, none or all of them
+/// they have a file. A new file is its owner's alone, but where its channel's label flows to the
+/// public one. After want of memory a first part of the files is written, none or all of them
 /// included.
 pub fn write_out<S: Store>(
     alloc: Global,

@@ -14,6 +14,7 @@ use Rattle.lio_events_reading.specs.Fits.{EntryFits}
 use Rattle.lio_calculus.specs.Run.{Ran}
 use Rattle.lio_calculus.specs.Step.{Configuration}
 use Rattle.lio_rounds.specs.Headline.{IsRunOf}
+use Rattle.lio_rounds.proofs.FlowLemmas.{releases-nothing}
 use Rattle.lio_front.specs.Command.{Command, Source, Files, Made, command_of}
 use Rattle.lio_front.specs.declared.status.Status.{Status}
 use Rattle.lio_front.specs.declared.status.Status.TheVariants.{Done, BadWords, Missing, ReadFault, BadPolicy, BadScript, BadStart, WriteFault, SayFault, NoMemory, NotARun, Clash}
@@ -231,6 +232,7 @@ runs-order call order ran command named same given is_run ran_as flows fits = re
   seen = seen-by-each order.job ran is_run fits;
   rerun = rerun-by-each order ran order.way is_run ran_as;
   flows = flows;
+  releases = releases-nothing order.job.policy ran is_run.keeps.powers.entries;
 }
 
 -- its files are written, and its summary was said

@@ -11,7 +11,7 @@ use Rattle.lio_front.specs.Summary.{summary_text}
 use Rattle.lio_calculus.specs.Run.{Ran}
 use Rattle.lio_calculus.specs.Step.{Configuration}
 use Rattle.lio_start.specs.Job.{JobParts, first_of}
-use Rattle.lio_rounds.specs.FlowLaws.{GoesByFlows}
+use Rattle.lio_rounds.specs.FlowLaws.{GoesByFlows, ReleasesNothingTo}
 use Rattle.lio_rounds.specs.Headline.{IsRunOf}
 use Rattle.lio_rounds.specs.Runs.{IsByRounds, IsMergeOfLogs}
 use Rattle.lio_front.specs.Command.{Command, command_of}
@@ -67,7 +67,7 @@ FlowsBy (AsTold bytes) job ran = Unit {0}
 abbrev pub FlowsAs : Order → Ran → Type 0
 FlowsAs order ran = FlowsBy order.way order.job ran
 
--- the journal is a complete run of what the verdict says, of which each observer sees what the erased calculus gives; how it was made; what each observer can check and compute of it by what it holds; and what may have come to each channel
+-- the journal is a complete run of what the verdict says, of which each observer sees what the erased calculus gives; how it was made; what each observer can check and compute of it by what it holds; what may have come to each channel; and, in every order of turns, that nothing was released to one from above what may flow there
 pub record RunsOrder (call : Call) (order : Order) (ran : Ran) : Type 0 where
   pub verdict : IsVerdict call.before.told call.words order
   pub is_run : IsRunOf order.job ran
@@ -75,6 +75,7 @@ pub record RunsOrder (call : Call) (order : Order) (ran : Ran) : Type 0 where
   pub seen : IsSeenByEach order.job.policy.names (first_of order.job) ran
   pub rerun : IsRerunByEach order.way (first_of order.job) ran
   pub flows : FlowsAs order ran
+  pub releases : ReleasesNothingTo order.job.policy ran
 
 -- bytes aren't the history of a complete run from a configuration, from a line on: they are that of no run, and stop at no other line
 abbrev pub StopsAtLine : List (List ℕ) → Configuration → List ℕ → ℕ → Type 0

@@ -7,7 +7,7 @@ ghost use Rattle.lio_host_main.specs.Workload.{input_name, made_files, with_inpu
 
 use lio_clauses::NoMemory;
 use lio_gen::{Made, make};
-use lio_outside::{Store, SureStore};
+use lio_outside::{Readers, Store, SureStore};
 use lio_values::{Text, print_number};
 use std::alloc::Global;
 
@@ -21,7 +21,9 @@ pub(crate) const SCRIPT: &[u8] = b"script";
 fn put(alloc: Global, store: &mut SureStore, name: &[u8], bytes: &[u8]) -> Result<(), NoMemory>
     ensures { OnOk result (store.new ≡ with_file store.old name.now bytes.now) }
 {
-    store.keep(alloc, name, bytes).or(Err(NoMemory))
+    store
+        .keep(alloc, name, bytes, Readers::Owner)
+        .or(Err(NoMemory))
 }
 
 /// Puts the input with a number into a store.

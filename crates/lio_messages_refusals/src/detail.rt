@@ -40,7 +40,18 @@ pub fn trouble_text(
 ) -> Result<String, NoMemory> {
     let (template, name) = match (trouble, program) {
         (Trouble::System(error), _) => return Ok(format!(in alloc; "{error}")?),
+        (Trouble::Beside(error), _) => {
+            return Ok(format!(in alloc; "no new file can be made beside it: {error}")?);
+        }
         (Trouble::NotText, _) => ("its name isn't UTF-8", Piece::Nothing),
+        (Trouble::StandardOutput, _) => (
+            "standard output goes to it, and the summary would be written over it; give one of them another file",
+            Piece::Nothing,
+        ),
+        (Trouble::NamesTaken, _) => (
+            "beside it stand files whose names end in .part0 to .part7, left by runs that were cut off; remove them",
+            Piece::Nothing,
+        ),
         (Trouble::SameFile(name), Program::Observer | Program::Questions) => {
             (
                 "it is the same file as {}, which was read before",

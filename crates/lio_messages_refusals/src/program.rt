@@ -37,7 +37,7 @@ impl Program {
                 "usage: lio_observe POLICY SCRIPT VIEW LABEL\n  POLICY, SCRIPT and VIEW are names of files, LABEL is the observer's label over the policy's principals; no word is empty or begins with `-`"
             }
             Program::Questions => {
-                "usage: lio_ask check POLICY SCRIPT\n       lio_ask audit POLICY SCRIPT HISTORY\n       lio_ask lines POLICY SCRIPT HISTORY\n       lio_ask help\n       lio_ask version\n  POLICY, SCRIPT and HISTORY are names of files; no name is empty or begins with `-`"
+                "usage: lio_ask explain POLICY [--json]\n       lio_ask check POLICY SCRIPT\n       lio_ask audit POLICY SCRIPT HISTORY\n       lio_ask lines POLICY SCRIPT HISTORY\n       lio_ask help\n       lio_ask version\n  POLICY, SCRIPT and HISTORY are names of files; no name is empty or begins with `-`"
             }
         }
     }

@@ -74,6 +74,12 @@ pub(crate) fn file_names(program: Program, words: &[String]) -> FileNames<'_> {
             script: script.as_str(),
             record: Some(view.as_str()),
         },
+        (Program::Questions, [explain, policy, ..]) if explain.as_str() == "explain" => FileNames {
+            are_given: true,
+            policy: policy.as_str(),
+            script: "",
+            record: None,
+        },
         (Program::Questions, [_, policy, script]) => FileNames {
             are_given: true,
             policy: policy.as_str(),

@@ -14,6 +14,6 @@ mod sure_store;
 pub use mem_say::MemSay;
 pub use mem_store::MemStore;
 pub use say::{Say, SayFault};
-pub use store::{FetchFault, KeepFault, Store, Trouble};
+pub use store::{FetchFault, KeepFault, Readers, Store, Trouble};
 pub use sure_say::SureSay;
 pub use sure_store::SureStore;

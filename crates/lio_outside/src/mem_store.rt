@@ -10,7 +10,7 @@ ghost use Rattle.lio_outside.specs.MemState.{mem_faults};
 
 use crate::calls::CallsByList;
 use crate::files::NamedFiles;
-use crate::store::{FetchFault, KeepFault, Store};
+use crate::store::{FetchFault, KeepFault, Readers, Store};
 use std::alloc::Global;
 use std::marker::Model;
 
@@ -128,7 +128,13 @@ impl Store for MemStore {
         }
     }
 
-    fn keep(&mut self, alloc: Global, name: &[u8], bytes: &[u8]) -> Result<(), KeepFault>
+    fn keep(
+        &mut self,
+        alloc: Global,
+        name: &[u8],
+        bytes: &[u8],
+        _readers: Readers,
+    ) -> Result<(), KeepFault>
         // When it fails.
         ensures failed { IsErrOf result KeepFault.Failed → IsTrue (fails_next self.old.calls) }
         ensures fails { IsTrue (fails_next self.old.calls) → IsErrOf result KeepFault.Failed

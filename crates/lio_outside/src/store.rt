@@ -43,6 +43,21 @@ pub enum Trouble<'a> {
     NotText,
     /// The file is one that was fetched or kept under this other name.
     SameFile(&'a [u8]),
+    /// Standard output goes to the file.
+    StandardOutput,
+    /// What the system said of a new file beside it, into which the bytes were to go.
+    Beside(io::Error),
+    /// The names of new files beside it are all taken.
+    NamesTaken,
+}
+
+/// Who may read the file that bytes are kept in, where it is new.
+#[derive(Clone, Copy, Debug, PartialEq, Eq)]
+pub enum Readers {
+    /// Its owner alone.
+    Owner,
+    /// Whom the system lets read new files.
+    Everyone,
 }
 
 /// A store of named bytes. Its meanings are `holds`, the files that it tells of, or `None` where it
@@ -75,8 +90,15 @@ pub trait Store {
         ensures no_memory { IsErrOf result FetchFault.NoMemory
             → faults self.new ≡ faults self.old };
 
-    /// Puts `bytes` under `name`, in place of what was there.
-    fn keep(&mut self, alloc: Global, name: &[u8], bytes: &[u8]) -> Result<(), KeepFault>
+    /// Puts `bytes` under `name`, in place of what was there. Who may read them where nothing was
+    /// there has no meaning in a store that nobody else reads.
+    fn keep(
+        &mut self,
+        alloc: Global,
+        name: &[u8],
+        bytes: &[u8],
+        readers: Readers,
+    ) -> Result<(), KeepFault>
         // Whatever the answer.
         ensures count_never_falls { (faults self.old).count ≤ (faults self.new).count }
 

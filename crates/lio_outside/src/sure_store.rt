@@ -7,7 +7,7 @@ ghost use Rattle.lio_outside.specs.Fetch.{given};
 ghost use Rattle.lio_outside.specs.Count.{no_faults};
 
 use crate::files::NamedFiles;
-use crate::store::{FetchFault, KeepFault, Store};
+use crate::store::{FetchFault, KeepFault, Readers, Store};
 use std::alloc::Global;
 use std::marker::Model;
 
@@ -63,7 +63,13 @@ impl Store for SureStore {
         self.files.fetch(alloc, name, limit)
     }
 
-    fn keep(&mut self, alloc: Global, name: &[u8], bytes: &[u8]) -> Result<(), KeepFault>
+    fn keep(
+        &mut self,
+        alloc: Global,
+        name: &[u8],
+        bytes: &[u8],
+        _readers: Readers,
+    ) -> Result<(), KeepFault>
         ensures ok { OnOk result (self.new ≡ with_file self.old name.now bytes.now) }
         ensures no_memory { OnErr result (self.new ≡ self.old) }
         ensures never_failed { IsOkUnless result KeepFault.NoMemory }

@@ -33,7 +33,7 @@ use Rattle.lio_policy.specs.declared.policy.FileEntry.{FileEntry}
 use Rattle.lio_policy.specs.declared.flows.MayFlow.{MayFlow}
 use Rattle.lio_policy.specs.declared.flows.MayFlow.TheVariants.{May, OnlyByPrivilege, Never}
 use Rattle.lio_policy.specs.Flows.{clauses_of, together, raised, may_flow}
-use Rattle.lio_policy.specs.FlowLaws.{FlowsToRaised, FlowsToItselfRaised, RaisedIsLabel, PrivilegesCompose, Says, MayFlowIsExact, NeverIsAbove}
+use Rattle.lio_policy.specs.FlowLaws.{FlowsToRaised, FlowsToItselfRaised, RaisedIsGreatest, RaisedIsLabel, PrivilegesCompose, Says, MayFlowIsExact, NeverIsAbove}
 
 -- ---- labels as a privilege raises them
 
@@ -82,10 +82,13 @@ flows_to_raised p from to =
 pub flows_to_itself_raised : FlowsToItselfRaised
 flows_to_itself_raised p a = sym (flows_to_raised p a a) ∙ flow_is_with_privilege p a a (flow_is_reflexive a)
 
+pub raised_is_greatest : RaisedIsGreatest
+raised_is_greatest p a = (flows_to_raised p (raised p a) a ∙ flow_is_reflexive (raised p a), λ b h. sym (flows_to_raised p b a) ∙ h)
+
 pub raised_is_label : RaisedIsLabel
 unfolding raised
-raised_is_label p a c la narrow = record {
-  secrecy = conjunction_is_canonical a.secrecy p.power la.secrecy.clauses c.clauses;
+raised_is_label p a clauses la narrow = record {
+  secrecy = conjunction_is_canonical a.secrecy p.power la.secrecy.clauses clauses;
   integrity = without_is_canonical a.integrity p.power la.integrity;
   narrow = narrow;
 }

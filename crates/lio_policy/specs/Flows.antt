@@ -1,5 +1,5 @@
 -- What a policy lets flow, whatever its scripts do: by its labels alone, or by the privileges that it gives its tasks (flow and privileges of Disjunction Category
--- Labels, 2011; clearance and privileges of tasks of LIO, ICFP 2012).
+-- Labels, 2011; privileges of tasks of LIO, ICFP 2012).
 use Rattle.std.specs.Prelude.{ℕ, List, map, if◌then◌else◌}
 use Rattle.std.specs.List.{flat_map}
 use Rattle.lio_clauses.specs.Canonical.{and}
@@ -22,8 +22,7 @@ clauses_of powers = flat_map (λ power. power.power) powers
 abbrev pub together : List Priv → Priv
 together powers = record { power = clauses_of powers }
 
--- a label as a privilege raises it: its secrecy with the privilege's own, and its integrity without the clauses that the privilege implies. It is the greatest label
--- that flows to the label with the privilege
+-- a label as a privilege raises it: its secrecy with the privilege's own, and its integrity without the clauses that the privilege implies
 unfoldable pub raised : Priv → Label → Label
 raised p label = record { secrecy = and label.secrecy p.power; integrity = without label.integrity p.power }
 

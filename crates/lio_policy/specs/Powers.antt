@@ -1,4 +1,4 @@
--- The privileges that a policy gives its tasks.
+-- The privileges that a policy gives its tasks (privileges of LIO, ICFP 2012).
 use Rattle.std.specs.Prelude.{List, [], ◌∷◌}
 use Rattle.std.specs.List.{flat_map}
 use Rattle.lio_labels.specs.declared.privilege.Priv.{Priv}

@@ -1,7 +1,8 @@
 //! What is known of each policy that a program has, and the laws of what a policy lets flow.
 //! Each function but the first does nothing: its contract is the law.
 ghost use Rattle.lio_policy.specs.FlowLaws.{FlowsToItselfRaised, FlowsToRaised, MayFlowIsExact};
-ghost use Rattle.lio_policy.specs.FlowLaws.{NeverIsAbove, PrivilegesCompose, RaisedIsLabel};
+ghost use Rattle.lio_policy.specs.FlowLaws.{NeverIsAbove, PrivilegesCompose, RaisedIsGreatest};
+ghost use Rattle.lio_policy.specs.FlowLaws.{RaisedIsLabel};
 ghost use Rattle.lio_policy.specs.Policy.{IsPolicy};
 
 use crate::policy::Policy;
@@ -24,6 +25,11 @@ pub fn flows_to_raised()
 #[tactic(auto, using(crate::proofs::FlowLemmas::flows_to_itself_raised))]
 pub fn flows_to_itself_raised()
     ensures { FlowsToItselfRaised }
+{}
+
+/// A label as a privilege raises it is the greatest that flows to it with the privilege.
+pub fn raised_is_greatest()
+    ensures { RaisedIsGreatest }
 {}
 
 /// A label as a privilege raises it is a label where it is not wide.

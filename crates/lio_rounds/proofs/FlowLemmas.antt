@@ -38,7 +38,7 @@ use Rattle.lio_start.proofs.AlikeLemmas.{starts_look_alike}
 use Rattle.lio_start.proofs.LawLemmas.{start_is_sound}
 use Rattle.lio_start.proofs.PowerLemmas.{releases_are_of_policy}
 use Rattle.lio_rounds.specs.Laws.{IsRunOver}
-use Rattle.lio_rounds.specs.FlowLaws.{AgreeOnFlows, ChannelGoesByFlows, JobGoesByFlows, NothingIsReleasedBelow, NeverChangesNothing, RunsAreAlikeBelow, text_by, texts_by}
+use Rattle.lio_rounds.specs.FlowLaws.{AgreeOnFlows, ChannelGoesByFlows, JobGoesByFlows, NothingIsReleasedBelow, NeverChangesNothing, ReleasesNothingTo, RunsAreAlikeBelow, text_by, texts_by}
 use Rattle.lio_rounds.proofs.InputLemmas.{other_inputs_change_nothing}
 use Rattle.lio_rounds.proofs.RunLemmas.{channels-seen}
 
@@ -69,6 +69,10 @@ entries-release_nothing powers label (entry ∷ entries) all =
     let here = All-head (IsReleasedBy powers) entry entries all in
     ap (λ front. front ++ releases (raised (together powers) label) entries) (act-releases_nothing powers label entry.act entry.reply here.given here.flows)
     ∙ entries-release_nothing powers label entries (All-tail (IsReleasedBy powers) entry entries all)
+
+-- what releases by a policy's privileges releases nothing to its channels from above what may flow there
+pub releases-nothing : (policy : PolicyParts) (ran : Ran) → All (IsReleasedBy (powers_of policy)) ran.entries → ReleasesNothingTo policy ran
+releases-nothing policy ran all number channel at = entries-release_nothing (powers_of policy) channel.label ran.entries all
 
 pub nothing_is_released_below : NothingIsReleasedBelow
 nothing_is_released_below policy script texts ticket ks ran label is said runs =

@@ -1,4 +1,4 @@
--- What a policy lets flow, over all its runs: an input that never flows to a channel changes no byte of it, whatever the script is (the noninterference of the concurrent
+-- What a policy lets flow, over all its runs: none releases anything from above what may flow to a channel; and an input that never flows there changes in rounds no byte of it, whatever the script is (the noninterference of the concurrent
 -- calculus of LIO, ICFP 2012, at the channel's label as the policy's privileges raise it; Disjunction Category Labels, 2011).
 use Rattle.std.specs.Prelude.{◌≡◌, ◌≢◌, ℕ, List, [], ◌∷◌, length, Some, slice_get}
 use Rattle.std.specs.Option.{option_map_or}
@@ -25,6 +25,10 @@ abbrev pub NothingIsReleasedBelow : Type 0
 NothingIsReleasedBelow = (policy : PolicyParts) (script : List Procedure) (texts : List (List ℕ)) (ticket : ℕ) (ks : List ℕ) (ran : Ran) (label : Label)
     → IsPolicy policy → SaysLiterals script → run ticket (start_of policy script texts) ks ≡ Some ran
     → releases (raised (together (powers_of policy)) label) ran.entries ≡ []
+
+-- to no channel of a policy a run releases anything from above the channel's label as all the policy's privileges together raise it, to below that
+abbrev pub ReleasesNothingTo : PolicyParts → Ran → Type 0
+ReleasesNothingTo policy ran = (number : ℕ) (channel : FileEntry) → slice_get policy.channels number ≡ Some channel → releases (raised_by policy channel) ran.entries ≡ []
 
 -- texts of a policy's inputs agree at each input that may flow to a channel; of the others neither the texts nor their lengths count
 pub record AgreeOnFlows (policy : PolicyParts) (channel : FileEntry) (ones twos : List (List ℕ)) : Type 0 where

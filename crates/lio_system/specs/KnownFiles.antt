@@ -1,8 +1,9 @@
 -- Files that a store has fetched or kept, by their names and their numbers.
-use Rattle.std.specs.Prelude.{◌≡◌, ℕ, Bool, true, ◌==◌, ◌&&◌, not, List, [], ◌∷◌, ◌++◌, bytes_eq}
+use Rattle.std.specs.Prelude.{◌≡◌, ℕ, Bool, true, false, ◌==◌, ◌&&◌, ◌||◌, not, List, [], ◌∷◌, ◌++◌, Option, Some, None, bytes_eq}
 use Rattle.std.specs.List.{filter, list_any}
 use Rattle.lio_system.specs.declared.known.FileNumber.{FileNumber}
 use Rattle.lio_system.specs.declared.known.KnownFile.{KnownFile}
+use Rattle.lio_system.specs.declared.known.KnownFiles.{KnownFiles}
 
 -- whether two numbers are those of one file
 abbrev pub is_same_file : FileNumber → FileNumber → Bool
@@ -27,6 +28,15 @@ is_other number name file = is_same_file file.number number && not (bytes_eq fil
 -- whether the file with this number is known under another name
 abbrev pub is_known_elsewhere : List KnownFile → FileNumber → List ℕ → Bool
 is_known_elsewhere files number name = list_any (is_other number name) files
+
+-- whether a file is the one to which standard output goes, if that goes to one
+abbrev pub is_output : Option FileNumber → FileNumber → Bool
+is_output None number = false
+is_output (Some file) number = is_same_file file number
+
+-- whether a file may not be written under a name: standard output goes to it, or it is known under another name
+abbrev pub is_taken : KnownFiles → FileNumber → List ℕ → Bool
+is_taken known number name = is_output known.output number || is_known_elsewhere known.files.items number name
 
 -- these files but for the one with a number
 abbrev pub without : FileNumber → List KnownFile → List KnownFile

@@ -4,6 +4,7 @@ ghost use Rattle.std.specs.IoError.{error_kind};
 ghost use Rattle.lio_system.specs.Numbers.{NumberAt};
 
 use crate::known::FileNumber;
+use lio_outside::Readers;
 use std::fs::Permissions;
 use std::io;
 use std::io::{ErrorKind, Read, Write};
@@ -19,12 +20,20 @@ pub enum FileKind {
     Other,
 }
 
+/// Who may do what with a file.
+#[derive(Drop)]
+pub struct Access {
+    pub permissions: Permissions,
+    /// The number of its group.
+    pub group: u32,
+}
+
 /// What is known of a file that is there.
 #[derive(Drop)]
 pub struct About {
     pub number: FileNumber,
     pub kind: FileKind,
-    pub permissions: Permissions,
+    pub access: Access,
 }
 
 /// An open file, and what it is.
@@ -58,22 +67,19 @@ pub trait Disk {
             (λ opened. (opened.about.number ≡ number)
             × (opened.about.kind ≢ FileKind.Device))) };
 
-    /// Opens a file, to be written from its beginning. It is made where it isn't there, and is as
-    /// before where it is.
-    fn open_to_write(&mut self, path: &str) -> io::Result<Opened<Self::File>>;
+    /// Opens a file, to be written from its beginning. It is made, for these readers, where it isn't
+    /// there, and is as before where it is.
+    fn open_to_write(&mut self, path: &str, readers: Readers) -> io::Result<Opened<Self::File>>;
 
-    /// Makes a new file, where nothing is under the path, to be written.
-    fn create(&mut self, path: &str) -> io::Result<Opened<Self::File>>;
+    /// Makes a new file for these readers, where nothing is under the path, to be written.
+    fn create(&mut self, path: &str, readers: Readers) -> io::Result<Opened<Self::File>>;
 
     /// Takes all bytes from an open file.
     fn clear(&mut self, file: &mut Self::File) -> io::Result<()>;
 
-    /// Says who may do what with an open file.
-    fn set_permissions(
-        &mut self,
-        file: &mut Self::File,
-        permissions: Permissions,
-    ) -> io::Result<()>;
+    /// Says who may do what with an open file. Where it can't be given to the group, that group's
+    /// members get nothing.
+    fn set_access(&mut self, file: &mut Self::File, access: Access) -> io::Result<()>;
 
     /// Gives a file another path, in place of the file there.
     fn rename(&mut self, from: &str, to: &str) -> io::Result<()>;

@@ -2,6 +2,7 @@
 ghost use Rattle.std.specs.Prelude.{◌≡◌, ◌<◌, IfOk, IfSome, IsNone, length, vec_capacity, vec_len};
 ghost use Rattle.std.specs.Prelude.{◌↔◌, ◌++◌, ◌∷◌, [], true, false};
 ghost use Rattle.lio_system.specs.KnownFiles.{is_file, is_known, is_known_elsewhere, is_other};
+ghost use Rattle.lio_system.specs.KnownFiles.{is_output};
 ghost use Rattle.lio_system.specs.KnownFiles.{without, IsAdded};
 
 use std::alloc::{AllocError, Global};
@@ -36,19 +37,32 @@ impl KnownFile {
     }
 }
 
-/// The files that a store has fetched or kept, in order.
+/// The files that a store has fetched or kept, in order, and the file to which standard output
+/// goes, if it goes to one.
 #[derive(Debug, Drop)]
 pub(crate) struct KnownFiles {
     files: Vec<KnownFile>,
+    output: Option<FileNumber>,
 }
 
 impl KnownFiles {
     /// None so far.
-    pub(crate) fn new(alloc: Global) -> Self
+    pub(crate) fn new(alloc: Global, output: Option<FileNumber>) -> Self
         ensures { result.files.items ≡ [] }
     {
         KnownFiles {
             files: Vec::new(alloc),
+            output,
+        }
+    }
+
+    /// Whether standard output goes to the file with a number.
+    pub(crate) fn is_output(&self, number: FileNumber) -> bool
+        ensures { result ≡ is_output self.now.output number }
+    {
+        match self.output {
+            Some(output) => output == number,
+            None => false,
         }
     }
 

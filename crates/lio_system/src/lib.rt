@@ -10,7 +10,7 @@ mod real_disk;
 mod real_say;
 mod real_store;
 
-pub use disk::{About, Disk, FileKind, Opened};
+pub use disk::{About, Access, Disk, FileKind, Opened};
 pub use disk_store::DiskStore;
 pub use known::FileNumber;
 pub use real_say::RealSay;

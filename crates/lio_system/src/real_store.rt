@@ -5,9 +5,10 @@ ghost use Rattle.lio_outside.specs.Count.{no_faults, with_fault};
 
 use crate::disk_store::DiskStore;
 use crate::real_disk::RealDisk;
-use lio_outside::{FetchFault, KeepFault, Store, Trouble};
+use lio_outside::{FetchFault, KeepFault, Readers, Store, Trouble};
 use std::alloc::Global;
 use std::marker::Model;
+use std::os::fd::AsFd;
 use std::rt::Files;
 
 /// A store over files, whose names are paths in UTF-8. It tells nothing of what they hold, counts a
@@ -15,11 +16,11 @@ use std::rt::Files;
 /// copy that it makes before it touches the file. It is seen as these faults.
 ///
 /// `Missing` is the answer for a name that isn't UTF-8 or under which there is no file; `keep`
-/// answers `Failed` for a name that isn't UTF-8. What is kept goes into a new file beside the old
-/// one, named with `.part0` at the end, or with `.part1` and so on up to `.part7` where a run that
-/// was cut off left such a file, and this then takes the name, so that a failure loses nothing.
-/// Where the name is no plain file, as a device or a link, or where no such neighbour can be made,
-/// it is written in place.
+/// answers `Failed` for a name that isn't UTF-8, and for the file to which standard output went when
+/// the store was made. What is kept goes into a new file beside the old one, named with `.part0` at
+/// the end, or with `.part1` and so on up to `.part7` where a run that was cut off left such a file,
+/// and this then takes the name, the old one's permissions and its group, so that a failure loses
+/// nothing. Where the name is no plain file, as a device or a link, it is written in place.
 #[derive(Drop)]
 pub struct RealStore<R> {
     files: DiskStore<RealDisk<R>>,
@@ -40,18 +41,22 @@ impl<R> Model for RealStore<R> {
         record { count = a.faults; last = option_map (λ name. name.items) a.failed } };
 }
 
-impl<R> RealStore<R> {
+impl<R: Files + Eprint> RealStore<R> {
     /// A store over the files of a runtime.
     pub fn new(alloc: Global, rt: R) -> Self
         ensures { result ≡ no_faults }
     {
+        let disk = RealDisk(rt);
+        let output = disk.standard_output();
         RealStore {
-            files: DiskStore::new(alloc, RealDisk(rt)),
+            files: DiskStore::new(alloc, disk, output),
             faults: 0,
             failed: None,
         }
     }
+}
 
+impl<R> RealStore<R> {
     /// How many faults were counted. It stands still at the greatest number.
     pub fn fault_count(&self) -> u64
         ensures { result ≡ self.now.count }
@@ -77,7 +82,10 @@ impl<R> RealStore<R> {
     }
 }
 
-impl<R: Files + Eprint> Store for RealStore<R> {
+impl<R: Files + Eprint> Store for RealStore<R>
+where
+    R::File: AsFd,
+{
     ghost holds = { λ _. None };
 
     ghost faults = { λ s. s };
@@ -103,7 +111,13 @@ impl<R: Files + Eprint> Store for RealStore<R> {
         answer
     }
 
-    fn keep(&mut self, alloc: Global, name: &[u8], bytes: &[u8]) -> Result<(), KeepFault>
+    fn keep(
+        &mut self,
+        alloc: Global,
+        name: &[u8],
+        bytes: &[u8],
+        readers: Readers,
+    ) -> Result<(), KeepFault>
         ensures ok { OnOk result (self.new ≡ self.old) }
         ensures failed_counted { IsErrOf result KeepFault.Failed
             → self.new ≡ with_fault self.old name.now }
@@ -114,7 +128,7 @@ impl<R: Files + Eprint> Store for RealStore<R> {
             self.files.forget();
             return Err(KeepFault::NoMemory);
         };
-        let answer = self.files.keep(alloc, name, bytes);
+        let answer = self.files.keep(alloc, name, bytes, readers);
         if let Err(KeepFault::Failed) = answer {
             self.count_fault(copy);
         }

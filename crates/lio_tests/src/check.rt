@@ -1,6 +1,6 @@
 //! Answers that are compared with those that are wanted.
 
-use lio_outside::{FetchFault, KeepFault, Say, SayFault, Store};
+use lio_outside::{FetchFault, KeepFault, Readers, Say, SayFault, Store};
 use std::alloc::Global;
 use std::fmt::Debug;
 use std::process::Abort;
@@ -32,7 +32,11 @@ pub(crate) fn check_keep<S: Store>(
     (name, bytes): (&[u8], &[u8]),
     want: Result<(), KeepFault>,
 ) {
-    check_same(rt, &store.keep(alloc, name, bytes), &want);
+    check_same(
+        rt,
+        &store.keep(alloc, name, bytes, Readers::Everyone),
+        &want,
+    );
 }
 
 /// Says to any output and compares the answer.

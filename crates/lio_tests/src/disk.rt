@@ -1,9 +1,9 @@
 //! Files under two names, and files that fail, over a disk that isn't there.
 
 use crate::check::check_same;
-use crate::fake_disk::FakeDisk;
-use lio_outside::{FetchFault, KeepFault};
-use lio_system::DiskStore;
+use crate::fake_disk::{FakeDisk, Step};
+use lio_outside::{FetchFault, KeepFault, Readers};
+use lio_system::{DiskStore, FileNumber};
 use std::alloc::{AllocError, Global};
 use std::process::Abort;
 
@@ -29,7 +29,11 @@ fn check_keep(
     (name, bytes): (&[u8], &[u8]),
     want: Result<(), KeepFault>,
 ) {
-    check_same(rt, &store.keep(alloc, name, bytes), &want);
+    check_same(
+        rt,
+        &store.keep(alloc, name, bytes, Readers::Everyone),
+        &want,
+    );
 }
 
 /// Asserts that a keep is refused and touches no file.
@@ -74,7 +78,7 @@ fn disk_with_names(alloc: Global) -> Result<FakeDisk, AllocError> {
 #[test]
 fn no_file_is_written_under_two_names(rt: HostRuntime) -> Result<(), AllocError> {
     let alloc = rt.alloc();
-    let mut store = DiskStore::new(alloc, disk_with_names(alloc)?);
+    let mut store = DiskStore::new(alloc, disk_with_names(alloc)?, None);
     check_read_twice(&rt, alloc, &mut store);
     check_other_names(&rt, alloc, &mut store);
     check_numbers_again(&rt, alloc, &mut store);
@@ -115,7 +119,7 @@ fn check_numbers_again(rt: &impl Abort, alloc: Global, store: &mut DiskStore<Fak
 #[test]
 fn pieces_are_joined_and_failures_told(rt: HostRuntime) -> Result<(), AllocError> {
     let alloc = rt.alloc();
-    let mut store = DiskStore::new(alloc, disk_with_names(alloc)?);
+    let mut store = DiskStore::new(alloc, disk_with_names(alloc)?, None);
     check_pieces_read(&rt, alloc, &mut store);
     check_pieces_written(&rt, alloc, &mut store);
     check_same(&rt, &store.disk().counts(), &(2, 3));
@@ -134,7 +138,7 @@ fn check_pieces_read(rt: &impl Abort, alloc: Global, store: &mut DiskStore<FakeD
 
 /// Short writes are joined, and a piece that writes nothing is a failure, which leaves no
 /// neighbour. Neighbours that are there already are passed over, and where all are, or none can be
-/// made, the file is written in place.
+/// made, nothing is written.
 fn check_pieces_written(rt: &impl Abort, alloc: Global, store: &mut DiskStore<FakeDisk>) {
     let failed = Err(KeepFault::Failed);
     check_keep(rt, store, alloc, (b"slow", b"five!"), Ok(()));
@@ -142,6 +146,49 @@ fn check_pieces_written(rt: &impl Abort, alloc: Global, store: &mut DiskStore<Fa
     check_keep(rt, store, alloc, (b"broken", b"four"), failed);
     check_keep(rt, store, alloc, (b"busy", b"four"), failed);
     check_keep(rt, store, alloc, (b"held", b"five!"), Ok(()));
-    check_keep(rt, store, alloc, (b"full", b"four"), Ok(()));
+    check_keep(rt, store, alloc, (b"full", b"four"), failed);
     check_keep(rt, store, alloc, (b"gone/a", b"four"), failed);
+}
+
+#[test]
+fn what_is_new_is_for_its_readers(rt: HostRuntime) -> Result<(), AllocError> {
+    let alloc = rt.alloc();
+    let mut store = DiskStore::new(alloc, disk_with_names(alloc)?, None);
+    for (name, readers) in [
+        (b"a.txt".as_slice(), Readers::Everyone),
+        (b"mine", Readers::Owner),
+        (b"ours", Readers::Everyone),
+    ] {
+        check_same(&rt, &store.keep(alloc, name, b"text", readers), &Ok(()));
+    }
+    check_same(
+        &rt,
+        &store.disk().steps(),
+        &[
+            Step::Made(Readers::Owner),
+            Step::Opened,
+            Step::Renamed,
+            Step::Made(Readers::Owner),
+            Step::Renamed,
+            Step::Made(Readers::Everyone),
+            Step::Renamed,
+        ]
+        .as_slice(),
+    );
+    Ok(())
+}
+
+#[test]
+fn nothing_is_written_where_standard_output_goes(rt: HostRuntime) -> Result<(), AllocError> {
+    let alloc = rt.alloc();
+    let output = FileNumber {
+        device: 7,
+        inode: 2,
+    };
+    let mut store = DiskStore::new(alloc, disk_with_names(alloc)?, Some(output));
+    check_fetch(&rt, &mut store, alloc, (b"s.lio", 1), Ok(b"xx"));
+    check_untouched(&rt, &mut store, alloc, b"s.lio");
+    check_untouched(&rt, &mut store, alloc, b"hard.lio");
+    check_keep(&rt, &mut store, alloc, (b"a.txt", b"other"), Ok(()));
+    Ok(())
 }

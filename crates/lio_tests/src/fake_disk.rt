@@ -1,7 +1,8 @@
 //! Files that aren't there, with names, links and hard links.
 ghost use Rattle.std.specs.Prelude.{◌≤◌, None, IfOk};
 
-use lio_system::{About, Disk, FileKind, FileNumber, Opened};
+use lio_outside::Readers;
+use lio_system::{About, Access, Disk, FileKind, FileNumber, Opened};
 use std::alloc::{AllocError, Global};
 use std::cell::Cell;
 use std::fs::Permissions;
@@ -85,12 +86,21 @@ struct Link {
     target: &'static str,
 }
 
+/// What was done to a file that is new.
+#[derive(Clone, Copy, Debug, PartialEq, Eq)]
+pub(crate) enum Step {
+    Made(Readers),
+    Opened,
+    Renamed,
+}
+
 /// Files with their names and links, and a count of the calls that touch one. A name with `./` in
 /// front is the one without. There is no folder `gone`.
 #[derive(Drop)]
 pub(crate) struct FakeDisk {
     names: Vec<Name>,
     links: Vec<Link>,
+    steps: Vec<Step>,
     next: Cell<u64>,
     touches: u32,
     renamed: u32,
@@ -114,6 +124,7 @@ impl FakeDisk {
         FakeDisk {
             names: Vec::new(alloc),
             links: Vec::new(alloc),
+            steps: Vec::new(alloc),
             next: Cell::new(100),
             touches: 0,
             renamed: 0,
@@ -147,6 +158,18 @@ impl FakeDisk {
     /// How many files were renamed, and how many removed.
     pub(crate) fn counts(&self) -> (u32, u32) {
         (self.renamed, self.removed)
+    }
+
+    /// What was done to new files, one step after another.
+    pub(crate) fn steps(&self) -> &[Step] {
+        self.steps.as_slice()
+    }
+
+    /// Keeps in mind what was done to a new file.
+    fn step(&mut self, step: Step) -> io::Result<()> {
+        self.touch();
+        self.steps.push(step)?;
+        Ok(())
     }
 
     /// Lets the next new file have a number.
@@ -213,7 +236,10 @@ fn about(number: u64) -> About {
         } else {
             FileKind::Plain
         },
-        permissions: Permissions::from_mode(0o644),
+        access: Access {
+            permissions: Permissions::from_mode(0o644),
+            group: 0,
+        },
     }
 }
 
@@ -236,7 +262,7 @@ impl Disk for FakeDisk {
         Ok(opened(self.target(path), number))
     }
 
-    fn open_to_write(&mut self, path: &str) -> io::Result<Opened<FakeFile>> {
+    fn open_to_write(&mut self, path: &str, _readers: Readers) -> io::Result<Opened<FakeFile>> {
         self.touch();
         match self.number(path) {
             Ok(number) => Ok(opened(self.target(path), number)),
@@ -244,11 +270,13 @@ impl Disk for FakeDisk {
         }
     }
 
-    fn create(&mut self, path: &str) -> io::Result<Opened<FakeFile>> {
-        self.touch();
+    fn create(&mut self, path: &str, readers: Readers) -> io::Result<Opened<FakeFile>> {
         match self.number(path) {
             Ok(_) => refused(ErrorKind::AlreadyExists),
-            Err(_) => self.made(path),
+            Err(_) => {
+                self.step(Step::Made(readers))?;
+                self.made(path)
+            }
         }
     }
 
@@ -257,17 +285,12 @@ impl Disk for FakeDisk {
         Ok(())
     }
 
-    fn set_permissions(
-        &mut self,
-        _file: &mut FakeFile,
-        _permissions: Permissions,
-    ) -> io::Result<()> {
-        self.touch();
-        Ok(())
+    fn set_access(&mut self, _file: &mut FakeFile, _access: Access) -> io::Result<()> {
+        self.step(Step::Opened)
     }
 
     fn rename(&mut self, from: &str, to: &str) -> io::Result<()> {
-        self.touch();
+        self.step(Step::Renamed)?;
         self.renamed = self.renamed.saturating_add(1);
         let number = self.number(from)?;
         self.names.retain(|name| name.path.as_str() != plain(from));

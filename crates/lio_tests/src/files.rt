@@ -4,6 +4,7 @@ use crate::check::{check_fetch, check_keep, check_same};
 use lio_outside::{FetchFault, KeepFault, Store};
 use lio_system::RealStore;
 use std::alloc::{AllocError, Global};
+use std::os::fd::AsFd;
 use std::process::{Abort, Process};
 use std::rt::Files;
 use std::{env, fs, io, process};
@@ -30,11 +31,14 @@ fn real_store_over_a_folder(rt: HostRuntime) -> io::Result<()> {
 }
 
 /// The store over a folder that is there and empty.
-fn check_folder(
-    rt: &(impl Abort + Files + Eprint),
+fn check_folder<R: Abort + Files + Eprint>(
+    rt: &R,
     alloc: Global,
     folder: &str,
-) -> Result<(), AllocError> {
+) -> Result<(), AllocError>
+where
+    R::File: AsFd,
+{
     let file = format!(in alloc; "{folder}/a.txt")?;
     let part = neighbour(alloc, file.as_str(), 0)?;
     let next_part = neighbour(alloc, file.as_str(), 1)?;
@@ -61,7 +65,10 @@ fn check_files<R: Files + Eprint + Drop>(
     mut store: RealStore<R>,
     (folder, file): (&[u8], &[u8]),
     (part, next_part): (&str, &str),
-) {
+)
+where
+    R::File: AsFd,
+{
     check_refused(rt, alloc, &mut store, folder, file);
     check_faults(rt, &store, 4);
     check_replaced(rt, alloc, &mut store, file, part.as_bytes());

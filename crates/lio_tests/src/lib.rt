@@ -15,6 +15,8 @@ mod folder;
 #[cfg(test)]
 mod full_output;
 #[cfg(test)]
+mod modes;
+#[cfg(test)]
 mod outputs;
 #[cfg(test)]
 mod queue;

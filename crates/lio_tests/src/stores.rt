@@ -5,7 +5,7 @@ ghost use Rattle.lio_outside.specs.Count.{FailedAt};
 ghost use Rattle.lio_outside.specs.Fetch.{given};
 
 use crate::check::{check_fetch, check_keep, check_same};
-use lio_outside::{FetchFault, KeepFault, MemStore, Store, SureStore};
+use lio_outside::{FetchFault, KeepFault, MemStore, Readers, Store, SureStore};
 use std::alloc::{AllocError, Global};
 use std::process::Abort;
 
@@ -34,7 +34,7 @@ fn copy_file<S: Store>(
 {
     let bytes = store.fetch(alloc, from, limit).map_err(CopyFault::Fetch)?;
     store
-        .keep(alloc, to, bytes.as_slice())
+        .keep(alloc, to, bytes.as_slice(), Readers::Owner)
         .map_err(CopyFault::Keep)
 }
 

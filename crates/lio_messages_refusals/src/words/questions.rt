@@ -14,6 +14,7 @@ fn named(place: usize) -> Piece<'static> {
 /// How many words a question has that begins with a word, if one does.
 fn count_of(first: &str) -> Option<usize> {
     match first {
+        "explain" => Some(2),
         "check" => Some(3),
         "audit" | "lines" => Some(4),
         "help" | "version" => Some(1),
@@ -24,9 +25,9 @@ fn count_of(first: &str) -> Option<usize> {
 /// Tells of a first word with which no question begins.
 fn tell_first(message: &mut Message, first: &str) {
     let template = if first.starts_with("-") {
-        "\"{}\" begins with `-`; there are no options, and the first word is `check`, `audit`, `lines`, `help` or `version`"
+        "\"{}\" begins with `-`; no option comes first, and the first word is `explain`, `check`, `audit`, `lines`, `help` or `version`"
     } else {
-        "\"{}\" begins no question; the first word is `check`, `audit`, `lines`, `help` or `version`"
+        "\"{}\" begins no question; the first word is `explain`, `check`, `audit`, `lines`, `help` or `version`"
     };
     message.fill(
         template,
@@ -47,7 +48,7 @@ fn tell_name(message: &mut Message, words: &[String], count: usize) -> bool {
         }
         if word.starts_with("-") {
             let template =
-                "\"{}\" stands for {}, and begins with `-`; there are no options, and `./` before the name of a file helps";
+                "\"{}\" stands for {}, and begins with `-`; `./` before the name of a file helps";
             message.fill(template, Piece::Words(word), named(place), Piece::Nothing);
             return true;
         }
@@ -58,6 +59,17 @@ fn tell_name(message: &mut Message, words: &[String], count: usize) -> bool {
 /// Tells of words that are too few or too many for a question.
 fn tell_count(message: &mut Message, words: &[String], first: &str, count: usize) {
     match words.get(count) {
+        Some(word) if first == "explain" => {
+            let template =
+                "\"{}\" is one word too many; `explain POLICY` takes `--json` alone behind it";
+            let last = words.get(3).unwrap_or(word);
+            message.fill(
+                template,
+                Piece::Words(last.as_str()),
+                Piece::Nothing,
+                Piece::Nothing,
+            );
+        }
         Some(word) => {
             let template = "\"{}\" is one word too many behind `{}`";
             let word = Piece::Words(word.as_str());

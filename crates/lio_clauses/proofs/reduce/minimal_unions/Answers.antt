@@ -1,46 +1,53 @@
-use Rattle.std.proofs.Common.{ℕ, Some, None, List}
-use Rattle.std.proofs.lemmas.Result.{err_from_is_err_and}
-use Rattle.lio_clauses.specs.Bits.{IsLeastUncovered, unions}
-use Rattle.lio_clauses.proofs.Answered.{err-same}
-use Rattle.lio_clauses.proofs.Reduced.{KeepsMinimal-none, kept-formula, kept-canonical, least-next, least-seen}
+use Rattle.std.proofs.Common.{◌≡◌, ℕ, List, map, None, sym, subst}
+use Rattle.std.specs.List.Sorted.{IsNonDecreasing, IsPermutation}
+use Rattle.std.proofs.lemmas.Result.{IfOk-weaker}
+use Rattle.std.proofs.lemmas.List.Sorted.{IsNonDecreasingBy-from_sort}
+use Rattle.lio_clauses.specs.Bits.{IsFormula, IsLeastUncovered, KeepsMinimal, unions}
+use Rattle.lio_clauses.specs.Principals.{principals}
+use Rattle.lio_clauses.specs.Canonical.{canonical}
+use Rattle.lio_clauses.proofs.Reduced.{kept-canonical, kept-formula}
+use Rattle.lio_clauses.proofs.Rising.{keeps-permuted, covered-permuted, sorted_permutes, whole_slice}
 use Rattle.lio_clauses.proofs.reduce.minimal_unions.Goals as goal
 
-pub rounds-init : goal.rounds-init
-rounds-init c = λ fits. KeepsMinimal-none (unions c.args.left.now c.args.right.now) c.new-kept.result.items fits c.new-kept.ensures.items
-
-found : (c : goal.After-kept-in-Some-1) → IsLeastUncovered c.rounds.kept.items (unions c.args.left.now c.args.right.now) (Some c.in-Some.clause)
-found c =
-    least-seen (unions c.args.left.now c.args.right.now) c.as_slice.result.now c.rounds.kept.items c.least_union.result (Some c.in-Some.clause) c.as_slice.ensures c.in-Some.is
-    c.least_union.ensures.least
-
-none : (c : goal.In_default) → IsLeastUncovered c.rounds.kept.items (unions c.args.left.now c.args.right.now) None
-none c =
-    least-seen (unions c.args.left.now c.args.right.now) c.as_slice.result.now c.rounds.kept.items c.least_union.result None c.as_slice.ensures c.in_default.is
-    c.least_union.ensures.least
-
-pub keep-requires : goal.keep-requires
-keep-requires c =
-    let us : List ℕ = unions c.args.left.now c.args.right.now in
-    (us, c.rounds.invariant c.least_union.ensures.fits, least-next us c.rounds.kept.items c.in-Some.clause (found c))
-
-pub rounds-preserved : goal.rounds-preserved
-rounds-preserved c =
-    let us : List ℕ = unions c.args.left.now c.args.right.now in
-    λ fits. c.in_ok-keep.ensures.minimal us (c.rounds.invariant fits)
-    (least-next us c.rounds.kept.items c.in-Some.clause
-    (least-seen us c.as_slice.result.now c.rounds.kept.items c.least_union.result (Some c.in-Some.clause) c.as_slice.ensures c.in-Some.is c.least_union.ensures.least))
+pub minimal_of_rising-requires : goal.minimal_of_rising-requires
+minimal_of_rising-requires c =
+    let same =
+    whole_slice c.in_ok-clauses.clauses.items c.as_mut_slice.result.now c.sort_unstable.new.self c.as_slice.result.now c.as_mut_slice.ensures.value
+    c.sort_unstable.ensures.len c.as_slice.ensures
+    in
+    subst IsNonDecreasing (sym same) (IsNonDecreasingBy-from_sort (λ (x : ℕ). x) c.sort_unstable.new.self c.sort_unstable.ensures.sorted)
 
 pub returns-clause-formula : goal.returns-clause-formula
-returns-clause-formula c = kept-formula (unions c.args.left.now c.args.right.now) c.rounds.kept.items (c.rounds.invariant c.least_union.ensures.fits) (none c)
+returns-clause-formula c =
+    let seen : List ℕ = c.as_slice.result.now in
+    let us : List ℕ = unions c.args.left.now c.args.right.now in
+    let permuted : IsPermutation seen us =
+    sorted_permutes us c.in_ok-clauses.clauses.items c.as_mut_slice.result.now c.sort_unstable.new.self seen c.in_ok-clauses.ensures c.as_mut_slice.ensures.value
+    c.sort_unstable.ensures.len c.sort_unstable.ensures.permutation c.as_slice.ensures
+    in
+    IfOk-weaker c.minimal_of_rising.result (λ kept. KeepsMinimal seen kept.items × IsLeastUncovered kept.items seen None) (λ kept. IsFormula kept.items)
+    (λ kept h. kept-formula us kept.items (keeps-permuted seen us kept.items permuted h.0) (covered-permuted seen us kept.items permuted h.1))
+    c.minimal_of_rising.ensures.minimal
 
 pub returns-clause-canonical : goal.returns-clause-canonical
-returns-clause-canonical c = kept-canonical (unions c.args.left.now c.args.right.now) c.rounds.kept.items (c.rounds.invariant c.least_union.ensures.fits) (none c)
-
-pub returns-in_err-keep-clause-wide : goal.returns-in_err-keep-clause-wide
-returns-in_err-keep-clause-wide c =
+returns-clause-canonical c =
+    let seen : List ℕ = c.as_slice.result.now in
     let us : List ℕ = unions c.args.left.now c.args.right.now in
-    let p = err_from_is_err_and c.from_residual.result c.from_residual.ensures.1 in
-    let least =
-    least-seen us c.as_slice.result.now c.rounds.kept.items c.least_union.result (Some c.in-Some.clause) c.as_slice.ensures c.in-Some.is c.least_union.ensures.least
+    let permuted : IsPermutation seen us =
+    sorted_permutes us c.in_ok-clauses.clauses.items c.as_mut_slice.result.now c.sort_unstable.new.self seen c.in_ok-clauses.ensures c.as_mut_slice.ensures.value
+    c.sort_unstable.ensures.len c.sort_unstable.ensures.permutation c.as_slice.ensures
     in
-    rw (p.1, p.2) (λ e. c.in_err-keep.ensures.wide (err-same _ _ e) us (c.rounds.invariant c.least_union.ensures.fits) (least-next us c.rounds.kept.items c.in-Some.clause least))
+    IfOk-weaker c.minimal_of_rising.result (λ kept. KeepsMinimal seen kept.items × IsLeastUncovered kept.items seen None)
+    (λ kept. map principals kept.items ≡ canonical (map principals us))
+    (λ kept h. kept-canonical us kept.items (keeps-permuted seen us kept.items permuted h.0) (covered-permuted seen us kept.items permuted h.1))
+    c.minimal_of_rising.ensures.minimal
+
+pub returns-clause-wide : goal.returns-clause-wide
+returns-clause-wide c =
+    let seen : List ℕ = c.as_slice.result.now in
+    let us : List ℕ = unions c.args.left.now c.args.right.now in
+    let permuted : IsPermutation seen us =
+    sorted_permutes us c.in_ok-clauses.clauses.items c.as_mut_slice.result.now c.sort_unstable.new.self seen c.in_ok-clauses.ensures c.as_mut_slice.ensures.value
+    c.sort_unstable.ensures.len c.sort_unstable.ensures.permutation c.as_slice.ensures
+    in
+    λ e. c.minimal_of_rising.ensures.wide e us permuted
