@@ -41,6 +41,10 @@ class Browser {
     if (id !== undefined) {
       this.waiting.get(id)(error === undefined ? result : Promise.reject(new Error(error.message)));
       this.waiting.delete(id);
+    } else if (method === 'Target.attachedToTarget') {
+      // a page within the page has a log of its own
+      this.within = params.sessionId;
+      for (const part of ['Runtime', 'Log']) this.ask(`${part}.enable`, {}, params.sessionId).catch(() => {});
     } else if (method === 'Runtime.exceptionThrown' || (method === 'Log.entryAdded' && params.entry.level === 'error')) {
       this.faults.push(JSON.stringify(params));
     } else if (method === 'Runtime.consoleAPICalled' && ['error', 'assert'].includes(params.type)) {
@@ -48,24 +52,24 @@ class Browser {
     }
   }
 
-  ask(method, params = {}) {
+  ask(method, params = {}, sessionId = this.session) {
     const id = this.next;
     this.next += 1;
     const answer = new Promise((resolve) => { this.waiting.set(id, resolve); });
-    this.child.stdio[3].write(`${JSON.stringify({ id, method, params, sessionId: this.session })}\0`);
+    this.child.stdio[3].write(`${JSON.stringify({ id, method, params, sessionId })}\0`);
     return answer;
   }
 
-  async value(expression) {
-    const { result, exceptionDetails } = await this.ask('Runtime.evaluate', { expression, returnByValue: true, awaitPromise: true });
+  async value(expression, sessionId = this.session) {
+    const { result, exceptionDetails } = await this.ask('Runtime.evaluate', { expression, returnByValue: true, awaitPromise: true }, sessionId);
     assert.equal(exceptionDetails, undefined, `${expression}: ${JSON.stringify(exceptionDetails)}`);
     return result.value;
   }
 
-  async until(expression, milliseconds) {
+  async until(expression, milliseconds, session = () => this.session) {
     const end = Date.now() + milliseconds;
     // between two pages there is nothing that could be asked
-    while (!(await this.value(expression).catch(() => false))) {
+    while (!(await this.value(expression, session()).catch(() => false))) {
       if (Date.now() > end) throw new Error(`not within ${milliseconds} ms: ${expression}`);
       await new Promise((resolve) => { setTimeout(resolve, 10); });
     }
@@ -77,8 +81,10 @@ class Browser {
   }
 
   async press(...keys) {
-    for (const key of keys) {
-      const about = { key, windowsVirtualKeyCode: CODES[key] ?? key.toUpperCase().charCodeAt(0), text: key.length === 1 ? key : undefined };
+    for (const pressed of keys) {
+      const key = pressed.replace('Control+', '');
+      const modifiers = key === pressed ? 0 : 2;
+      const about = { key, modifiers, windowsVirtualKeyCode: CODES[key] ?? key.toUpperCase().charCodeAt(0), text: key.length === 1 ? key : undefined };
       await this.ask('Input.dispatchKeyEvent', { ...about, type: about.text === undefined ? 'rawKeyDown' : 'keyDown' });
       await this.ask('Input.dispatchKeyEvent', { ...about, type: 'keyUp', text: undefined });
     }
@@ -212,6 +218,32 @@ const USES = {
     assert.match(await browser.text('turn'), /^turn 99,?999/);
   },
 
+  // The first example has run; another script is refused at its line, one is refused a turn, and all of it is seen in the page of the run.
+  async play(browser) {
+    const answered = '!document.getElementById("run").disabled && !document.getElementById("answer").hidden';
+    const run = async (script, how) => {
+      await browser.value(`document.querySelector("#script_text textarea").value = ${JSON.stringify(script)}; document.getElementById("answer").hidden = true`);
+      await how();
+      await browser.until(answered, MOST_MILLISECONDS);
+    };
+    const sees = (counts) => browser.until(`document.documentElement.dataset.ready === "yes" && document.getElementById("counts").textContent.startsWith(${
+      JSON.stringify(counts)})`, MOST_MILLISECONDS, () => browser.within);
+    await browser.until(answered, MOST_MILLISECONDS);
+    assert.match(await browser.text('status'), /to its end/);
+    assert.match(await browser.text('written'), /out\.txttea at four/);
+    await sees('4 turns, 0 refusals, 1 release');
+    await browser.clickOn('#script_text textarea');
+    await run('proc main c a p\nsend c 1\nsned c a\nend\n', () => browser.press('Control+Enter'));
+    assert.match(await browser.text('status'), /script was refused/);
+    assert.equal(await browser.value('document.querySelector("#script_text .numbers .refused").textContent'), '3');
+    assert.equal(await browser.value('document.getElementById("seen").hidden'), true);
+    await run('proc main c a p\nunlabel t a\nsend c t\nend\n', () => browser.clickOn('#run'));
+    assert.match(await browser.text('summary'), /flow_current/);
+    assert.equal(await browser.text('written'), 'out.txtnothing');
+    await sees('3 turns, 1 refusal, 0 releases');
+    await browser.clickOn('#summary .places button');
+  },
+
   async look() {},
 };
 
@@ -219,6 +251,7 @@ async function useAll(browser, { page, use, hidden }) {
   const { targetId } = await browser.ask('Target.createTarget', { url: 'about:blank' });
   browser.session = (await browser.ask('Target.attachToTarget', { targetId, flatten: true })).sessionId;
   for (const part of ['Page', 'Runtime', 'Log']) await browser.ask(`${part}.enable`);
+  await browser.ask('Target.setAutoAttach', { autoAttach: true, waitForDebuggerOnStart: false, flatten: true });
   await browser.ask('Page.bringToFront');
   await browser.ask('Emulation.setDeviceMetricsOverride', { width: 1400, height: 900, deviceScaleFactor: 1, mobile: false });
   const started = Date.now();

@@ -1,0 +1,6 @@
+mod ItemLemmas
+mod BundleLemmas
+mod AloneLemmas
+mod LawLemmas
+mod ReplyLemmas
+mod SureLemmas
