@@ -1,6 +1,6 @@
 /* The host in a program of yours: a call over files in memory.
  *
- * The library is liblio_c.a, which `rt lib` makes in crates/lio_c; it is linked with the kit's c/liblibc_c.a. What a call promises is the
+ * The library is liblio_c.a, which `tools/bindings` makes in bindings/out; it is linked with the kit's c/liblibc_c.a. What a call promises is the
  * contract of `lio_host` in crates/lio_c/src/lib.rt. It holds where the caller keeps what stands at the function.
  */
 #ifndef LIO_H
