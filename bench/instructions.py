@@ -6,6 +6,8 @@ import subprocess
 import sys
 import tempfile
 
+from lines import tell
+
 # As many turns as a task has in the short and the long run of a script: what a turn costs is the difference by turns.
 SHORT, LONG = 6_400, 32_000
 
@@ -157,4 +159,4 @@ def measure(host, policy, task, argument):
                 (folder / 'policy.json').write_text(policy([task(share, [argument], name=f't{n}', cells=4) for n in range(tasks)], longest=128))
                 (folder / 'script.lio').write_text(text)
                 taken.append(instructions([host, 'policy.json', 'script.lio'], folder))
-        print(f'{name}: {(taken[1] - taken[0]) / (LONG - SHORT):,.0f} instructions a turn ({what})')
+        tell(f'{name}: {(taken[1] - taken[0]) / (LONG - SHORT):,.0f} instructions a turn ({what})')

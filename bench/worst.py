@@ -5,6 +5,8 @@ import shutil
 import sys
 import tempfile
 
+from lines import tell
+
 from instructions import instructions
 
 PEOPLE = [f'p{n:02}' for n in range(64)]
@@ -119,9 +121,9 @@ def measure(host, policy, task, argument, channel):
     for name, what, before, body, turns in labels() + look_ups() + lists():
         few, many = (taken(host, policy, task, argument, before, body, turns * loops) for loops in (FEW, MANY))
         dear = (many - few) / (MANY - FEW) - (turns - 1) * plain
-        print(f'{name}: {dear:,.0f} instructions, as many as {dear / plain:,.0f} plain turns ({what})')
+        tell(f'{name}: {dear:,.0f} instructions, as many as {dear / plain:,.0f} plain turns ({what})')
     for name, words in (('waiting by rounds', []), ('waiting by one worker', ['--workers', '1'])):
         few, many = (growing(host, policy, task, argument, waiting, words) for waiting in (500, 1_000))
-        print(f'{name}: {many / few:.2f} times the instructions for twice as many tasks and values')
+        tell(f'{name}: {many / few:.2f} times the instructions for twice as many tasks and values')
     beside = [idle(host, policy, task, argument, channel, count) for count in (1, 256)]
-    print(f'idle channels: {beside[1] / beside[0]:.2f} times the instructions of a million turns beside 256 channels as beside one')
+    tell(f'idle channels: {beside[1] / beside[0]:.2f} times the instructions of a million turns beside 256 channels as beside one')

@@ -95,8 +95,8 @@ fn is_among(names: &[&Name], name: &Name) -> bool {
     false
 }
 
-/// Warns of an operand, where it is there and is a name that no line before binds; of each name once
-/// a procedure.
+/// Warns of an operand, where it is there and is a name that no line before binds; of each name
+/// once a procedure.
 fn warn_unbound<'s>(
     warnings: &mut Warnings<'_>,
     bound: &mut Vec<&'s Name>,

@@ -1,5 +1,5 @@
-//! What a policy lets flow, whatever its scripts do, as a text and as a table for programs. That the
-//! table has what `what_may_flow` gives is a clause; of the text it is tested.
+//! What a policy lets flow, whatever its scripts do, as a text and as a table for programs. That
+//! the table has what `what_may_flow` gives is a clause; of the text it is tested.
 
 mod able;
 mod files;

@@ -2,10 +2,10 @@
 use Rattle.std.specs.Prelude.{◌≡◌, ℕ, List, ◌++◌, length, drop, nat_le, if◌then◌else◌, ◌⊎◌}
 use Rattle.lio_front.specs.Status.{exit_status}
 use Rattle.lio_front.specs.declared.status.Status.{Status}
-use Rattle.lio_bundle.specs.Answers.{Answers}
-use Rattle.lio_bundle.specs.Bundle.{IsRefusal}
-use Rattle.lio_bundle.specs.declared.refusal.Refusal.{Refusal}
-use Rattle.lio_bundle.specs.declared.refusal.Refusal.TheVariants.{WordsBroken, WordNotText, FilesBroken, FileAlone, FileTwice, NoMemory}
+use Rattle.lio_c.specs.Answers.{Answers}
+use Rattle.lio_c.specs.Bundle.{IsRefusal}
+use Rattle.lio_c.specs.declared.refusal.Refusal.{Refusal}
+use Rattle.lio_c.specs.declared.refusal.Refusal.TheVariants.{WordsBroken, WordNotText, FilesBroken, FileAlone, FileTwice, NoMemory}
 use Rattle.lio_c.specs.declared.told.Told.{Told}
 
 -- what is told of an answer whose reply has so many bytes

@@ -1,14 +1,25 @@
-//! The host as a C library: a call between bytes.
+//! The host as a C library: words and files come as netstrings, what is said, a message and the
+//! files that are written go as netstrings, and the files lie in memory in between.
 #![tactic(auto)]
 
+mod alone;
+mod call;
+mod files;
+pub mod laws;
+mod message;
+mod netstrings;
+mod refusal;
+mod reply;
 mod told;
+mod words;
 
 ghost use Rattle.std.specs.Prelude.{◌≡◌};
 ghost use Rattle.lio_c.specs.Told.{Tells, answer_told, refusal_told, with_reply};
 
+use crate::call::answer;
 use crate::told::Told;
-use lio_bundle::{Refusal, answer};
 use lio_front::Status;
+pub use refusal::Refusal;
 use std::alloc::Global;
 
 /// What is told where no call is made.

@@ -1,5 +1,6 @@
 //! What a node has served.
-ghost use Rattle.std.specs.Prelude.{◌≡◌, [], ◌∷◌, ◌++◌, None, Some, IsSome, IfOk, OnOk, OnErr};
+ghost use Rattle.std.specs.Prelude.{◌≡◌, ◌<◌, [], ◌∷◌, ◌++◌, None, Some, IsSome, IsTrue, IfOk};
+ghost use Rattle.std.specs.Prelude.{OnOk, OnErr, vec_len, vec_capacity};
 ghost use Rattle.std.specs.Option.{option_copied};
 ghost use Rattle.lio_values.specs.declared.entry.Entry.{Entry as entry_type};
 ghost use Rattle.lio_cells.specs.Log.{first_of, with_ticket};
@@ -10,21 +11,51 @@ use lio_values::{Act, Entry, Reply};
 use std::alloc::Global;
 use std::marker::Model;
 
-/// An equal entry. That of a step takes no memory but for its label.
+/// Whether there is room for one more entry at the end of a list; it is made where there is none.
 #[inline(always)]
-fn copy_entry(alloc: Global, entry: &Entry) -> Result<Entry, NoMemory>
-    ensures { IfOk result (λ copy. copy ≡ entry.now) }
+fn has_room(entries: &mut Vec<Entry>) -> bool
+    ensures items { entries.new.items ≡ entries.old.items }
+    ensures room { IsTrue result → vec_len entries.new < vec_capacity entries.new }
+{
+    if entries.len() < entries.capacity() {
+        return true;
+    }
+    entries.try_reserve(1).is_ok()
+}
+
+/// Puts a copy of an entry at the end of a list, where there is room for it.
+#[inline(never)]
+fn push_copy(entries: &mut Vec<Entry>, alloc: Global, entry: &Entry) -> Result<(), NoMemory>
+    requires { vec_len entries.old < vec_capacity entries.old }
+    ensures ok { OnOk result (entries.new.items ≡ entries.old.items ++ entry.now ∷ []) }
+    ensures err { OnErr result (entries.new.items ≡ entries.old.items) }
+{
+    let copy = entry.copy(alloc)?;
+    entries.push_reserved(copy);
+    Ok(())
+}
+
+/// The same; the entry of a step takes no memory but for its label, and is made where it is to lie.
+#[inline(always)]
+fn push_equal(entries: &mut Vec<Entry>, alloc: Global, entry: &Entry) -> Result<(), NoMemory>
+    requires { vec_len entries.old < vec_capacity entries.old }
+    ensures ok { OnOk result (entries.new.items ≡ entries.old.items ++ entry.now ∷ []) }
+    ensures err { OnErr result (entries.new.items ≡ entries.old.items) }
 {
     match (&entry.act, &entry.reply) {
-        (Act::Step, Reply::Done) => Ok(Entry {
-            ticket: entry.ticket,
-            actor: entry.actor,
-            target: entry.target,
-            at: entry.at.copy(alloc)?,
-            act: Act::Step,
-            reply: Reply::Done,
-        }),
-        _ => entry.copy(alloc),
+        (Act::Step, Reply::Done) => {
+            let at = entry.at.copy(alloc)?;
+            entries.push_reserved(Entry {
+                ticket: entry.ticket,
+                actor: entry.actor,
+                target: entry.target,
+                at,
+                act: Act::Step,
+                reply: Reply::Done,
+            });
+            Ok(())
+        }
+        _ => push_copy(entries, alloc, entry),
     }
 }
 
@@ -122,34 +153,52 @@ impl Log {
         }
     }
 
+    /// Keeps a copy of the state that the node began with, which isn't kept yet.
+    #[inline(never)]
+    fn set_first(&mut self, alloc: Global, state: &State) -> Result<(), NoMemory>
+        requires { self.old.first ≡ None }
+        ensures kept { OnOk result (IsSome self.new.first) }
+        ensures same { first_of self.new.first state.now ≡ first_of self.old.first state.now }
+        ensures served { self.new.served ≡ self.old.served }
+        ensures pending { self.new.pending ≡ self.old.pending }
+    {
+        let first = state.copy(alloc)?;
+        assign(&mut self.first, Some(first));
+        Ok(())
+    }
+
     /// Keeps the state that the node began with, where it isn't kept yet.
+    #[inline(always)]
     fn keep_first(&mut self, alloc: Global, state: &State) -> Result<(), NoMemory>
         ensures kept { OnOk result (IsSome self.new.first) }
         ensures same { first_of self.new.first state.now ≡ first_of self.old.first state.now }
         ensures served { self.new.served ≡ self.old.served }
         ensures pending { self.new.pending ≡ self.old.pending }
     {
-        if self.first.is_none() {
-            let first = state.copy(alloc)?;
-            assign(&mut self.first, Some(first));
+        if self.first.is_some() {
+            return Ok(());
         }
-        Ok(())
+        self.set_first(alloc, state)
     }
 
     /// Puts a copy of an entry last, which is pending then.
+    #[inline(always)]
     fn put(&mut self, alloc: Global, entry: &Entry) -> Result<(), NoMemory>
         requires { self.old.pending ≡ None }
         ensures ok { OnOk result (self.new ≡ record self.old { pending = Some entry.now }) }
         ensures err { OnErr result (self.new ≡ self.old) }
     {
-        let copy = copy_entry(alloc, entry)?;
-        self.entries.push(copy)?;
+        if !has_room(&mut self.entries) {
+            return Err(NoMemory);
+        }
+        push_equal(&mut self.entries, alloc, entry)?;
         self.has_pending = true;
         Ok(())
     }
 
     /// Keeps a copy of an entry pending, and the state that the node began with. After a refusal
     /// none is pending.
+    #[inline(always)]
     pub fn keep(&mut self, alloc: Global, state: &State, entry: &Entry) -> Result<(), NoMemory>
         requires { self.old.pending ≡ None }
         ensures kept { OnOk result (IsSome self.new.first) }

@@ -149,8 +149,25 @@ impl Node {
         }
     }
 
+    /// Takes the memory that the state needs for the act, where nothing is kept ready for it. After
+    /// a refusal all is as before.
+    #[inline(never)]
+    fn reserve_room(&mut self, alloc: Global, act: &Act) -> Result<(), NoMemory>
+        requires { self.old.room ≡ Room.Nothing }
+        ensures ok { OnOk result
+            (self.new ≡ record self.old { room = room_for self.old.state act.now }) }
+        ensures err { OnErr result (self.new ≡ self.old) }
+    {
+        match reserve::room_for(alloc, &self.state, act)? {
+            Room::Nothing => {}
+            room => assign(&mut self.room, room),
+        }
+        Ok(())
+    }
+
     /// Takes the memory that the state needs for the act. After a refusal nothing is kept ready for
     /// the state; all else is as before.
+    #[inline(always)]
     pub fn reserve_state(&mut self, alloc: Global, act: &Act) -> Result<(), NoMemory>
         ensures ok { OnOk result
             (self.new ≡ record self.old { room = room_for self.old.state act.now }) }
@@ -160,11 +177,7 @@ impl Node {
         if reserve::needs_no_room(act) {
             return Ok(());
         }
-        match reserve::room_for(alloc, &self.state, act)? {
-            Room::Nothing => {}
-            room => assign(&mut self.room, room),
-        }
-        Ok(())
+        self.reserve_room(alloc, act)
     }
 
     /// Keeps no entry ready.

@@ -4,3 +4,4 @@ pub mod Says
 mod ViewLemmas
 pub mod HistoryLemmas
 pub mod ObservedLemmas
+mod WorkloadLemmas

@@ -1,3 +1,4 @@
+pub mod Generated
 pub mod Workload
 pub mod Order
 pub mod Verdict

@@ -1,7 +1,7 @@
 -- A generated workload as the files of a store.
 use Rattle.std.specs.Prelude.{ℕ, ◌+◌, List, [], ◌∷◌, ◌++◌, codes, decimal}
 use Rattle.lio_outside.specs.FileMap.{FileMap, no_files, with_file}
-use Rattle.lio_gen.specs.Workload.{made}
+use Rattle.lio_host_main.specs.Generated.{made}
 
 -- the names of the policy and of the script
 abbrev pub policy_name : List ℕ

@@ -8,6 +8,7 @@ pub mod laws;
 mod order;
 mod prepare;
 mod running;
+mod workload;
 mod workload_files;
 
 pub use finish::{finish_run, finish_seen};

@@ -195,8 +195,8 @@ fn load_way<S: Store>(alloc: Global, store: &mut S, mode: Mode<'_>) -> Result<Wa
     }
 }
 
-/// Prepares what a command asks for. The bytes of the policy and of the script are handed back as far
-/// as they were read, whatever the answer. The store's files stay.
+/// Prepares what a command asks for. The bytes of the policy and of the script are handed back as
+/// far as they were read, whatever the answer. The store's files stay.
 pub fn prepare_order<'a, S: Store>(
     alloc: Global,
     store: &mut S,

@@ -5,8 +5,8 @@ ghost use Rattle.std.specs.Prelude.{◌≡◌, ◌≤◌, IfOk, OnOk};
 ghost use Rattle.lio_outside.specs.FileMap.{with_file};
 ghost use Rattle.lio_host_main.specs.Workload.{input_name, made_files, with_inputs};
 
+use crate::workload::{Made, make};
 use lio_clauses::NoMemory;
-use lio_gen::{Made, make};
 use lio_outside::{Readers, Store, SureStore};
 use lio_values::{Text, print_number};
 use std::alloc::Global;

@@ -6,7 +6,7 @@ use lio_labels::Label;
 use std::alloc::Global;
 
 /// What is wrong with a label's text, which stands at a place of the line.
-pub(crate) fn label_text_mistake(alloc: Global, names: &Names, place: usize, text: &[u8]) -> Found {
+pub fn label_text_mistake(alloc: Global, names: &Names, place: usize, text: &[u8]) -> Found {
     if !text.contains(&b'%') {
         let text =
             "a label has two parts, with %% between them: who may learn, and who vouches; \"True\" is no restriction";
@@ -18,6 +18,16 @@ pub(crate) fn label_text_mistake(alloc: Global, names: &Names, place: usize, tex
     }
 }
 
+/// What is wrong with a text that is to be a label over the names of principals; none where nothing
+/// is found.
+pub fn label_mistake(
+    alloc: Global,
+    names: &Names,
+    text: &[u8],
+) -> Result<Option<Mistake>, NoMemory> {
+    label_text_mistake(alloc, names, 0, text)
+}
+
 /// What a text is to be.
 #[derive(Clone, Copy, PartialEq, Eq)]
 enum Part {
@@ -26,12 +36,7 @@ enum Part {
 }
 
 /// What is wrong with the text of a formula, which stands at a place.
-pub(crate) fn formula_text_mistake(
-    alloc: Global,
-    names: &Names,
-    place: usize,
-    text: &[u8],
-) -> Found {
+pub fn formula_text_mistake(alloc: Global, names: &Names, place: usize, text: &[u8]) -> Found {
     match Formula::read(alloc, text, names) {
         Ok(_) => Ok(None),
         Err(fault) => fault_told(alloc, names, place, text, Part::Formula, fault),
@@ -82,8 +87,32 @@ fn token_at(text: &[u8], at: usize) -> &[u8] {
     }
 }
 
+/// What is told of a word of other languages that is no principal, if it is one.
+fn foreign_word(token: &[u8]) -> Option<&'static str> {
+    match token {
+        b"true" | b"T" | b"TRUE" => Some("write \"True\""),
+        b"false" | b"F" | b"FALSE" => Some("write \"False\""),
+        b"not" => Some("there is no \"not\" in labels"),
+        b"public" | b"everyone" | b"all" | b"any" | b"nobody" => {
+            Some("\"{}\" is no principal of the policy; \"True\" is no restriction")
+        }
+        b"and" | b"or" => {
+            Some("\"{}\" is no sign of labels; \"/\\\" is and, \"\\/\" in parentheses is or")
+        }
+        _ => None,
+    }
+}
+
 /// A name of no principal.
 fn no_principal(alloc: Global, names: &Names, place: usize, token: &[u8], at: usize) -> Found {
+    if let Some(template) = foreign_word(token) {
+        return told_one(
+            alloc,
+            place.saturating_add(at),
+            template,
+            Piece::Shown(token),
+        );
+    }
     let mut message = Message::new(alloc);
     let token = Piece::Shown(token);
     message.fill(
@@ -119,11 +148,11 @@ fn is_open(text: &[u8], at: usize) -> bool {
     is_open
 }
 
-/// Whether a name or a constant stands before a place of a text.
-fn is_behind_word(text: &[u8], at: usize) -> bool {
+/// Whether a name, a constant or a closed parenthesis stands before a place of a text.
+fn is_behind_part(text: &[u8], at: usize) -> bool {
     for byte in text.get(..at).unwrap_or(b"").iter().rev() {
         if *byte != b' ' {
-            return is_of_word(*byte);
+            return is_of_word(*byte) || *byte == b')';
         }
     }
     false
@@ -132,14 +161,30 @@ fn is_behind_word(text: &[u8], at: usize) -> bool {
 /// A token that may not stand at its place.
 fn no_token(alloc: Global, place: usize, text: &[u8], part: Part, at: usize) -> Found {
     let token = token_at(text, at);
+    let is_joining = matches!(token, b"and" | b"or");
+    if (is_joining || !is_behind_part(text, at))
+        && let Some(template) = foreign_word(token)
+    {
+        return told_one(
+            alloc,
+            place.saturating_add(at),
+            template,
+            Piece::Shown(token),
+        );
+    }
     let template = match token {
+        [b'<'] | [b'>'] => "no \"<\" and no \">\" stand round a label here",
+        [b')'] if !is_open(text, at) => "no \"(\" is open before this",
         [b'/', b'\\'] if is_open(text, at) => "parentheses hold \"\\/\" alone",
-        [] | [b'%', b'%'] if is_open(text, at) && is_behind_word(text, at) => {
+        [] | [b'%', b'%'] if is_open(text, at) && is_behind_part(text, at) => {
             "\")\" is missing before this"
         }
         [b'%', b'%'] if is_open(text, at) => "a principal is missing before this",
         [b'%', b'%'] if part == Part::Formula => {
             "a privilege is one formula, without \"%%\" and a second part"
+        }
+        [b'%', b'%'] if !is_behind_part(text, at) => {
+            "a principal, \"True\" or \"False\" is missing before this"
         }
         [b'%'] if part == Part::Label => "\"%%\" stands between the two parts of a label",
         [] => "the label ends too early; a principal, \"True\" or \"False\" is missing",

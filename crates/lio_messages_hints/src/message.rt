@@ -35,6 +35,14 @@ impl Message {
         }
     }
 
+    /// The same message.
+    pub fn copy(&self, alloc: Global) -> Message {
+        let mut message = Message::new(alloc);
+        message.words(self.text.as_str());
+        message.is_refused = message.is_refused || self.is_refused;
+        message
+    }
+
     /// Writes words.
     pub fn words(&mut self, words: &str) {
         if self.text.push_str(words).is_err() {

@@ -14,21 +14,21 @@ pub struct Mistake {
 }
 
 /// The mistake in a line, if one was found.
-pub(crate) type Found = Result<Option<Mistake>, NoMemory>;
+pub type Found = Result<Option<Mistake>, NoMemory>;
 
 /// A mistake at a place.
-pub(crate) fn told(alloc: Global, place: usize, text: &str) -> Found {
+pub fn told(alloc: Global, place: usize, text: &str) -> Found {
     let text = String::from_str(alloc, text)?;
     Ok(Some(Mistake { place, text }))
 }
 
 /// A mistake at a place, told by a template and what stands in it.
-pub(crate) fn told_one(alloc: Global, place: usize, template: &str, piece: Piece<'_>) -> Found {
+pub fn told_one(alloc: Global, place: usize, template: &str, piece: Piece<'_>) -> Found {
     told_two(alloc, place, template, piece, Piece::Nothing)
 }
 
 /// A mistake at a place, told by a template and the two pieces that stand in it.
-pub(crate) fn told_two(
+pub fn told_two(
     alloc: Global,
     place: usize,
     template: &str,

@@ -6,9 +6,10 @@ use crate::line::{WrongLine, wrong_line};
 use crate::program::Program;
 use crate::stop::Stop;
 use crate::task::{WrongTask, wrong_task};
+use crate::words::label_of;
 use lio_clauses::NoMemory;
 use lio_front::{Status, Texts};
-use lio_messages_hints::{Piece, filled};
+use lio_messages_hints::{Mistake, Piece, filled, label_mistake};
 use lio_outside::{Say, Store, Trouble};
 use lio_policy::{Policy, read_policy};
 use lio_policy_draft::PolicyFault;
@@ -26,6 +27,8 @@ pub enum Detail {
     Task(WrongTask),
     /// The line of the script that breaks a rule.
     Line(WrongLine),
+    /// What is wrong with the observer's label.
+    Label(Mistake),
     /// What stood in the way of a file or of the output.
     Fault(FileFault),
     /// The line at which a history or a view stops.
@@ -99,6 +102,23 @@ fn texts_say(
     }
 }
 
+/// What is wrong with the text of a label, over the principals of a policy.
+fn label_detail(alloc: Global, policy: &Policy, label: &[u8]) -> Result<Detail, NoMemory> {
+    Ok(match label_mistake(alloc, &policy.names, label)? {
+        Some(mistake) => Detail::Label(mistake),
+        None => Detail::Nothing,
+    })
+}
+
+/// What is wrong with the text of a label, over the principals of the policy that a text is.
+fn label_says(alloc: Global, policy: &[u8], label: &[u8]) -> Result<Detail, NoMemory> {
+    match read_policy(alloc, policy) {
+        Ok(policy) => label_detail(alloc, &policy, label),
+        Err(PolicyFault::Bad { .. }) => Ok(Detail::Nothing),
+        Err(PolicyFault::NoMemory) => Err(NoMemory),
+    }
+}
+
 /// The channels that are written before the file with a name, in the policy that a text is.
 fn channels_of(alloc: Global, policy: &Option<Vec<u8>>, name: &Text) -> Option<Channels> {
     let Some(policy) = policy else {
@@ -110,10 +130,12 @@ fn channels_of(alloc: Global, policy: &Option<Vec<u8>>, name: &Text) -> Option<C
     }
 }
 
-/// What the trouble with a file, the texts that were read, and the line at which a history or a
-/// view stops say of a refusal.
+/// What the words, the trouble with a file, the texts that were read, and the line at which a
+/// history or a view stops say of a refusal.
 pub fn detail_of(
     alloc: Global,
+    program: Program,
+    words: &[String],
     status: &Status,
     why: Option<String>,
     texts: &Texts,
@@ -128,6 +150,10 @@ pub fn detail_of(
             let channels = channels_of(alloc, policy, name);
             Ok(Detail::Fault(FileFault { why, channels }))
         }
+        (Status::BadWords, Some(policy), _) => match label_of(program, words) {
+            Some(label) => label_says(alloc, policy.as_slice(), label),
+            None => Ok(Detail::Nothing),
+        },
         (Status::BadPolicy(rule, entry), Some(policy), _) => {
             let found = wrong_entry(alloc, policy.as_slice(), *rule, *entry)?;
             Ok(Detail::Entry(found))
@@ -164,6 +190,7 @@ fn trouble_of<S: Store, W: Say>(
 pub(crate) fn refusal_detail<S: Store, W: Say>(
     alloc: Global,
     program: Program,
+    words: &[String],
     store: &S,
     say: &W,
     status: &Status,
@@ -171,5 +198,5 @@ pub(crate) fn refusal_detail<S: Store, W: Say>(
     stop: Option<Stop>,
 ) -> Detail {
     let why = trouble_of(alloc, program, store, say, status);
-    detail_of(alloc, status, why, texts, stop).unwrap_or(Detail::Nothing)
+    detail_of(alloc, program, words, status, why, texts, stop).unwrap_or(Detail::Nothing)
 }

@@ -1,10 +1,10 @@
 //! Policies that break a rule.
 
-use crate::program::Program;
 use crate::rules::policy_rule;
 use lio_clauses::NoMemory;
 use lio_front::Shown;
-use lio_messages_hints::{Message, Piece, PolicyMistake, policy_mistake};
+use lio_messages_entries::{PolicyMistake, policy_mistake};
+use lio_messages_hints::{Message, Piece};
 use lio_policy_draft::{EntryAt, EntryKind, entry_at};
 use std::alloc::Global;
 
@@ -58,25 +58,9 @@ fn tell_entry(message: &mut Message, found: &Option<EntryAt>, number: u32) {
     }
 }
 
-/// Tells which rule of policies is broken.
-fn tell_rule(message: &mut Message, program: Program, rule: u32) {
-    match program {
-        Program::Host | Program::Futures | Program::Questions => {
-            message.words(policy_rule(rule));
-        }
-        Program::Observer => message.fill(
-            "it breaks rule {} of policies, which docs/FORMATS.md tells",
-            Piece::Number(u64::from(rule)),
-            Piece::Nothing,
-            Piece::Nothing,
-        ),
-    }
-}
-
 /// Tells of a policy in which an entry breaks a rule.
 pub(crate) fn tell_policy(
     message: &mut Message,
-    program: Program,
     policy: &str,
     rule: u32,
     number: u32,
@@ -101,29 +85,13 @@ pub(crate) fn tell_policy(
     message.words(": ");
     match &found.mistake {
         Some(mistake) => message.words(mistake.text.as_str()),
-        None => tell_rule(message, program, rule),
+        None => message.words(policy_rule(rule)),
     }
 }
 
 /// Tells of a policy of which nothing but the rule that it breaks is known.
-pub(crate) fn tell_policy_rule(
-    message: &mut Message,
-    program: Program,
-    policy: &str,
-    rule: u32,
-    number: u32,
-) {
+pub(crate) fn tell_policy_rule(message: &mut Message, policy: &str, rule: u32) {
     message.words(policy);
-    match program {
-        Program::Host | Program::Futures | Program::Questions => {
-            message.words(": ");
-            message.words(policy_rule(rule));
-        }
-        Program::Observer => message.fill(
-            ": entry {} breaks rule {} of policies, which docs/FORMATS.md tells",
-            Piece::Number(u64::from(number)),
-            Piece::Number(u64::from(rule)),
-            Piece::Nothing,
-        ),
-    }
+    message.words(": ");
+    message.words(policy_rule(rule));
 }

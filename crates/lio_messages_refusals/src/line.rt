@@ -1,9 +1,9 @@
 //! Scripts that break a rule.
 
-use crate::program::Program;
 use crate::rules::script_rule;
 use lio_clauses::NoMemory;
-use lio_messages_hints::{Message, Mistake, Piece, line_at, script_mistake};
+use lio_messages_hints::{Message, Mistake, Piece};
+use lio_messages_lines::{line_at, script_mistake};
 use lio_policy::Policy;
 use lio_values::Text;
 use std::alloc::Global;
@@ -28,10 +28,10 @@ pub(crate) fn wrong_line(
     Ok(WrongLine { text, mistake })
 }
 
-/// How many columns stand before a place of a line, as the line is shown.
-fn columns_before(alloc: Global, line: &[u8], place: usize) -> usize {
+/// How many columns bytes take, as they are shown.
+fn columns(alloc: Global, bytes: &[u8]) -> usize {
     let mut shown = Message::new(alloc);
-    shown.bytes(line.get(..place).unwrap_or(line));
+    shown.bytes(bytes);
     shown.len()
 }
 
@@ -42,53 +42,59 @@ fn blanks(message: &mut Message, count: usize) {
     }
 }
 
-/// Writes a line of a script, and a sign under a place of it.
+/// How many bytes of a line are shown before a place that lies far behind its beginning.
+const AROUND: usize = 60;
+
+/// The farthest place in a line that is shown from its beginning.
+const FAR: usize = 120;
+
+/// With how many blanks and tabs a line begins.
+fn indentation(line: &[u8]) -> usize {
+    for (at, byte) in line.iter().enumerate() {
+        if !matches!(*byte, b' ' | b'\t') {
+            return at;
+        }
+    }
+    line.len()
+}
+
+/// Writes a line of a script, and a sign under a place of it: the part around the place, where that
+/// is far from the beginning. A tab with which it begins is written as a blank.
 fn mark(alloc: Global, message: &mut Message, line: &[u8], number: u32, place: usize) {
     message.words("\n");
     let before = message.len();
     let number = Piece::Number(u64::from(number));
     message.fill("  {} | ", number, Piece::Nothing, Piece::Nothing);
+    let from = if place > FAR {
+        message.words("..");
+        place.saturating_sub(AROUND)
+    } else {
+        let first = indentation(line).min(place);
+        blanks(message, first);
+        first
+    };
     let head = message.len().saturating_sub(before);
-    message.bytes(line);
+    message.bytes(line.get(from..).unwrap_or(line));
     message.words("\n");
     blanks(message, head);
-    blanks(message, columns_before(alloc, line, place));
+    blanks(
+        message,
+        columns(alloc, line.get(from..place).unwrap_or(b"")),
+    );
     message.words("^");
 }
 
-/// Tells which rule of scripts is broken.
-fn tell_rule(message: &mut Message, program: Program, rule: u32) {
-    match program {
-        Program::Host | Program::Futures | Program::Questions => {
-            message.words(script_rule(rule));
-        }
-        Program::Observer => message.fill(
-            "it breaks rule {} of scripts, which docs/SCRIPTS.md tells",
-            Piece::Number(u64::from(rule)),
-            Piece::Nothing,
-            Piece::Nothing,
-        ),
-    }
-}
-
 /// Tells of a script of which nothing but the rule that it breaks is known.
-pub(crate) fn tell_script_rule(
-    message: &mut Message,
-    program: Program,
-    script: &str,
-    number: u32,
-    rule: u32,
-) {
+pub(crate) fn tell_script_rule(message: &mut Message, script: &str, number: u32, rule: u32) {
     let line = Piece::Number(u64::from(number));
     message.fill("{}:{}: ", Piece::Words(script), line, Piece::Nothing);
-    tell_rule(message, program, rule);
+    message.words(script_rule(rule));
 }
 
 /// Tells of a script in which a line breaks a rule.
 pub(crate) fn tell_script(
     alloc: Global,
     message: &mut Message,
-    program: Program,
     script: &str,
     number: u32,
     rule: u32,
@@ -96,7 +102,7 @@ pub(crate) fn tell_script(
 ) {
     let line_number = Piece::Number(u64::from(number));
     let Some(mistake) = &line.mistake else {
-        tell_script_rule(message, program, script, number, rule);
+        tell_script_rule(message, script, number, rule);
         let shown = Piece::Shown(line.text.bytes());
         message.fill("\n  {} | {}", line_number, shown, Piece::Nothing);
         return;

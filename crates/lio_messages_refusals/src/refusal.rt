@@ -7,7 +7,7 @@ use crate::line::{tell_script, tell_script_rule};
 use crate::program::Program;
 use crate::stop::{Stop, tell_line, tell_size, tell_stop};
 use crate::task::{tell_some_task, tell_task};
-use crate::words::{FileNames, file_names, tell_words};
+use crate::words::{FileNames, file_names, label_of, tell_words, tell_wrong_label};
 use lio_clauses::NoMemory;
 use lio_front::{Shown, Status, Texts};
 use lio_messages_hints::Message;
@@ -148,6 +148,9 @@ fn tell(
     let FileNames { policy, script, .. } = names;
     match (status, detail) {
         (Status::Done, _) => {}
+        (Status::BadWords, Detail::Label(found)) => {
+            tell_wrong_label(message, label_of(program, words).unwrap_or(b""), found);
+        }
         (Status::BadWords, _) => tell_words(message, program, words),
         (Status::Missing(name), _) => {
             message.words(read_as(program, role_of(name, names)));
@@ -160,16 +163,16 @@ fn tell(
             tell_unread(message, read, fault_in(detail));
         }
         (Status::BadPolicy(rule, entry), Detail::Entry(found)) => {
-            tell_policy(message, program, policy, *rule, *entry, found);
+            tell_policy(message, policy, *rule, *entry, found);
         }
-        (Status::BadPolicy(rule, entry), _) => {
-            tell_policy_rule(message, program, policy, *rule, *entry);
+        (Status::BadPolicy(rule, _), _) => {
+            tell_policy_rule(message, policy, *rule);
         }
         (Status::BadScript(line, rule), Detail::Line(found)) => {
-            tell_script(alloc, message, program, script, *line, *rule, found);
+            tell_script(alloc, message, script, *line, *rule, found);
         }
         (Status::BadScript(line, rule), _) => {
-            tell_script_rule(message, program, script, *line, *rule);
+            tell_script_rule(message, script, *line, *rule);
         }
         (Status::BadStart(_, _), Detail::Task(task)) => {
             tell_task(message, program, policy, script, task);
@@ -227,7 +230,7 @@ pub fn print_refusal<R: AllocGlobal + Eprint, S: Store, W: Say>(
         return;
     }
     let alloc = rt.alloc();
-    let detail = refusal_detail(alloc, program, store, say, status, texts, stop);
+    let detail = refusal_detail(alloc, program, words, store, say, status, texts, stop);
     let text = refusal_text(alloc, program, status, words, &detail);
     // A refusal that can't be printed still has its exit status.
     let _ = match text {

@@ -4,9 +4,7 @@
 pub(crate) fn policy_rule(rule: u32) -> &'static str {
     match rule {
         1 => "a policy is a JSON text of at most 1048576 bytes",
-        2 => {
-            "each object has exactly the keys that docs/FORMATS.md lists for it, each with a value of its kind"
-        }
+        2 => { "each object has exactly its keys, each with a value of its kind" }
         3 => "`version` is 1 or 2",
         4 => {
             "a name has 1 to 32 bytes of `a` to `z`, `0` to `9` and `_`, begins with a letter, and stands once in its list; there are at most 64 principals"
@@ -29,7 +27,7 @@ pub(crate) fn policy_rule(rule: u32) -> &'static str {
 pub(crate) fn script_rule(rule: u32) -> &'static str {
     match rule {
         1 => {
-            "a line is one of the forms that docs/SCRIPTS.md lists, and a label in it is one over the principals of the policy"
+            "a line is one of the forms of the language, and a label in it is one over the principals of the policy"
         }
         2 => "each procedure and each block ends with `end`, and no line stands where it can't",
         3 => "a procedure that is called, forked or spawned has a `proc` line",

@@ -3,20 +3,21 @@
 use crate::program::Program;
 use lio_clauses::NoMemory;
 use lio_front::Shown;
-use lio_messages_hints::{Message, Piece};
+use lio_messages_hints::{Message, Piece, is_procedure_name, similar_procedure};
 use lio_policy::Policy;
 use lio_syntax::parameter_count;
 use lio_values::Text;
 use std::alloc::Global;
 
-/// A task that can't begin: its name, its procedure, how many arguments it gives, and how many
-/// parameters the procedure has, if it is there.
+/// A task that can't begin: its name, its procedure, how many arguments it gives, how many
+/// parameters the procedure has, if it is there, and which near to it is there, if one is.
 #[derive(Drop)]
 pub struct WrongTask {
     name: Text,
     procedure: Text,
     given: usize,
     wanted: Option<usize>,
+    meant: Option<Text>,
 }
 
 /// A task of a policy that can't begin in a script, if there is one at that place.
@@ -29,7 +30,12 @@ pub(crate) fn wrong_task(
     let Some(task) = policy.tasks.as_slice().get(place as usize) else {
         return Ok(None);
     };
+    let meant = match similar_procedure(script, task.proc_name.bytes()) {
+        Some(name) => Some(Text::of(alloc, name)?),
+        None => None,
+    };
     Ok(Some(WrongTask {
+        meant,
         name: task.name.copy(alloc)?,
         procedure: task.proc_name.copy(alloc)?,
         given: task.args.as_slice().len(),
@@ -61,9 +67,22 @@ fn tell_no_procedure(message: &mut Message, program: Program, script: &str, task
     message.words(script);
     message.words(" doesn't have");
     if program != Program::Observer {
+        tell_other_procedure(message, task);
+    }
+}
+
+/// Tells which procedure may have been meant by one that isn't there, or what makes it be there.
+fn tell_other_procedure(message: &mut Message, task: &WrongTask) {
+    if let Some(meant) = &task.meant {
+        message.words("; it has `");
+        message.show(Shown(meant));
+        message.words("`");
+    } else if is_procedure_name(task.procedure.bytes()) {
         message.words("; add a line `proc ");
         message.show(Shown(&task.procedure));
         message.words("`, or name another procedure");
+    } else {
+        message.words("; no procedure can be named so");
     }
 }
 

@@ -12,7 +12,7 @@ use crate::words::host::tell_host_words;
 use crate::words::observer::tell_observer_words;
 use crate::words::questions::tell_question_words;
 use lio_front::{Command, Mode, Source, read_command};
-use lio_messages_hints::Message;
+use lio_messages_hints::{Message, Mistake, Piece};
 use std::str;
 
 /// The names of the files, as the words give them; what they are, where they give none.
@@ -106,10 +106,32 @@ pub fn script_name(words: &[String]) -> Option<&str> {
     }
 }
 
+/// The text of the observer's label, where the words of a program have one.
+pub(crate) fn label_of(program: Program, words: &[String]) -> Option<&[u8]> {
+    match (program, words) {
+        (Program::Host, _) => {
+            let watch = read_command(words)?.view?;
+            Some(watch.label)
+        }
+        (Program::Futures | Program::Observer, [_, _, _, label]) => Some(label.as_bytes()),
+        _ => None,
+    }
+}
+
+/// Tells what is wrong with the text of the observer's label.
+pub(crate) fn tell_wrong_label(message: &mut Message, label: &[u8], found: &Mistake) {
+    message.fill(
+        "\"{}\" is no label over the policy's principals: at byte {}, {}",
+        Piece::Shown(label),
+        Piece::Number(found.place as u64),
+        Piece::Words(found.text.as_str()),
+    );
+}
+
 /// Tells of a word that is to be a label, and is none.
 fn tell_label(message: &mut Message, label: &str) {
     message.words("\"");
-    message.words(label);
+    message.bytes(label.as_bytes());
     message.words(
         "\" is no label over the policy's principals: two formulas with `%%` between them, each of principals with `/\\`, `\\/` and parentheses, or `True` or `False`",
     );

@@ -1,5 +1,5 @@
 //! A machine that is stepped by hand or by rounds.
-ghost use Rattle.std.specs.Prelude.{◌≡◌};
+ghost use Rattle.std.specs.Prelude.{◌≡◌, ◌<◌, IsTrue, vec_capacity, vec_len};
 
 use crate::awake::Awake;
 use lio_clauses::NoMemory;
@@ -20,6 +20,18 @@ pub struct Machine {
     entries: Vec<Entry>,
     order: Vec<u32>,
     awake: Awake,
+}
+
+/// Whether there is room for one more value at the end of a list; it is made where there is none.
+#[inline(always)]
+fn has_room<T>(list: &mut Vec<T>) -> bool
+    ensures items { list.new.items ≡ list.old.items }
+    ensures room { IsTrue result → vec_len list.new < vec_capacity list.new }
+{
+    if list.len() < list.capacity() {
+        return true;
+    }
+    list.try_reserve(1).is_ok()
 }
 
 impl Model for Machine {
@@ -152,7 +164,10 @@ impl Machine {
         ensures fault { IfErr result (Stays (machine_of self.old).configuration k) }
         ensures err { OnErr result (machine_of self.new ≡ machine_of self.old) }
     {
-        if self.entries.try_reserve(1).is_err() || self.order.try_reserve(1).is_err() {
+        if !has_room(&mut self.entries) {
+            return Err(TurnFault::NoMemory);
+        }
+        if !has_room(&mut self.order) {
             return Err(TurnFault::NoMemory);
         }
         let ticket = self.ticket();

@@ -2,7 +2,9 @@
 
 use crate::refusal::{Answered, Refusal};
 use lio_clauses::Names;
-use lio_messages_hints::{Mistake, PolicyMistake, line_mistake, policy_mistake, script_mistake};
+use lio_messages_entries::{PolicyMistake, policy_mistake};
+use lio_messages_hints::Mistake;
+use lio_messages_lines::{line_mistake, script_mistake};
 use lio_policy::read_policy;
 use lio_policy_draft::PolicyFault;
 use lio_rows_commands::Answer;

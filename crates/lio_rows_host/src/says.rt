@@ -36,7 +36,7 @@ pub(crate) fn says(
     stop: Option<Stop>,
 ) -> Result<String, NoMemory> {
     let why = why(alloc, case, program);
-    let detail = detail_of(alloc, status, why, texts, stop)?;
+    let detail = detail_of(alloc, program, words, status, why, texts, stop)?;
     refusal_text(alloc, program, status, words, &detail)
 }
 

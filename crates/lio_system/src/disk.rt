@@ -67,8 +67,8 @@ pub trait Disk {
             (λ opened. (opened.about.number ≡ number)
             × (opened.about.kind ≢ FileKind.Device))) };
 
-    /// Opens a file, to be written from its beginning. It is made, for these readers, where it isn't
-    /// there, and is as before where it is.
+    /// Opens a file, to be written from its beginning. It is made, for these readers, where it
+    /// isn't there, and is as before where it is.
     fn open_to_write(&mut self, path: &str, readers: Readers) -> io::Result<Opened<Self::File>>;
 
     /// Makes a new file for these readers, where nothing is under the path, to be written.

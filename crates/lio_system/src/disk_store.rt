@@ -337,8 +337,8 @@ fn new_neighbour<D: Disk>(
     Err(Refusal::NamesTaken)
 }
 
-/// Puts the bytes under a path, by way of a new file beside it, with the access of the old one. Until
-/// it has that, nobody else may read what is to replace an old file.
+/// Puts the bytes under a path, by way of a new file beside it, with the access of the old one.
+/// Until it has that, nobody else may read what is to replace an old file.
 fn put_beside<D: Disk>(
     disk: &mut D,
     known: &mut KnownFiles,

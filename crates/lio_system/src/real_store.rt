@@ -16,11 +16,12 @@ use std::rt::Files;
 /// copy that it makes before it touches the file. It is seen as these faults.
 ///
 /// `Missing` is the answer for a name that isn't UTF-8 or under which there is no file; `keep`
-/// answers `Failed` for a name that isn't UTF-8, and for the file to which standard output went when
-/// the store was made. What is kept goes into a new file beside the old one, named with `.part0` at
-/// the end, or with `.part1` and so on up to `.part7` where a run that was cut off left such a file,
-/// and this then takes the name, the old one's permissions and its group, so that a failure loses
-/// nothing. Where the name is no plain file, as a device or a link, it is written in place.
+/// answers `Failed` for a name that isn't UTF-8, and for the file to which standard output went
+/// when the store was made. What is kept goes into a new file beside the old one, named with
+/// `.part0` at the end, or with `.part1` and so on up to `.part7` where a run that was cut off left
+/// such a file, and this then takes the name, the old one's permissions and its group, so that a
+/// failure loses nothing. Where the name is no plain file, as a device or a link, it is written in
+/// place.
 #[derive(Drop)]
 pub struct RealStore<R> {
     files: DiskStore<RealDisk<R>>,

@@ -111,6 +111,13 @@ of-none node found is none ready is_ready = no found (is ∙ is_ready.pending) n
     no : (pending : Option Entry) → pending ≡ Some ready → pending ≡ None → ⊥
     no pending e f = cc
 
+-- where a node is ready for a step, none for which it is ready is the end of its task
+pub of-step : (node : NodeState) (entry ready : Entry) → IsReadyFor node entry → IsReadyFor node ready → entry.act ≡ act.Step → false ≡ ends ready.act
+of-step node entry ready is_ready also steps = sym (ap ends (sym (ap (λ (e : Entry). e.act) (same node.pending is_ready.pending also.pending)) ∙ steps))
+  where
+    same : (pending : Option Entry) → pending ≡ Some entry → pending ≡ Some ready → entry ≡ ready
+    same pending e f = cc
+
 -- a node whose waiters are taken out where the act changes it may serve the turn for which it is ready
 pub may-serve : (node now : NodeState) (ticket : ℕ) (entry : Entry) (changes : Bool) → IsReadyFor node entry → IsTrue (takes_part node.state entry.act) → All (λ before. before.ticket < ticket) node.log
     → (changes ≡ false → state_after node.state entry.act ≡ node.state) → now ≡ woken changes node → MayServe now ticket

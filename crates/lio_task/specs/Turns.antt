@@ -181,6 +181,11 @@ pub record CanRecord (node : NodeState) (ticket : ℕ) : Type 0 where
   pub job : IsTrue (is_job node.state)
   pub later : All (λ before. before.ticket < ticket) node.log
 
+-- a job's node is ready for a step, whose ticket is later than those in its log
+pub record CanRecordStep (node : NodeState) (ticket : ℕ) : Type 0 where
+  pub can : CanRecord node ticket
+  pub step : can.entry.act ≡ act.Step
+
 -- a node that a turn meets is ready for it, and its ticket is later than those in the node's log
 pub record CanRecordMet (node : NodeState) (ticket : ℕ) : Type 0 where
   pub entry : Entry

@@ -5,10 +5,10 @@ use crate::go::Way;
 use crate::pair::pair_mut;
 use crate::task::Task;
 use crate::turn::blank_entry;
-use lio_cells::Node;
+use lio_cells::{Node, Waiters};
 use lio_clauses::NoMemory;
 use lio_syntax::Script;
-use lio_task_plan::{Full, Plan};
+use lio_task_plan::{Full, Plan, Short};
 use lio_task_turns::{Onward, Target, Turn};
 use lio_values::{Act, Entry, Reply};
 use std::alloc::Global;
@@ -53,6 +53,14 @@ impl From<NoMemory> for StepFault {
     }
 }
 
+/// Lets those go who waited at a node, where some were taken out: mostly none were.
+#[inline(always)]
+fn let_go(woken: Option<Waiters>) {
+    if let Some(waiters) = woken {
+        drop(waiters);
+    }
+}
+
 impl Config {
     ghost use Rattle.std.specs.Prelude.{◌≡◌, IsTrue, IfOk, IfErr, OnOk, OnErr};
     ghost use Rattle.std.specs.Option.{option_copied};
@@ -62,6 +70,7 @@ impl Config {
     ghost use Rattle.lio_calculus.specs.Step.{can, number_of};
     ghost use Rattle.lio_task_turns.specs.Turns.{target_of};
     ghost use Rattle.lio_task.specs.Configuration.{configuration_of, task_in};
+    ghost use Rattle.lio_task.specs.declared.go.Way.TheVariants as way;
     ghost use Rattle.lio_task.specs.Logs.{Appends, HasSameLogs, IsLaterThanLogs};
     ghost use Rattle.lio_task.specs.Takes.{PlansFull, PlansOwn, PlansVisit, Stays, Steps};
 
@@ -101,7 +110,39 @@ impl Config {
         };
         actor.prepare_alone(alloc, script, k, act, reply, way, entry)?;
         entry.ticket = ticket;
-        drop(actor.record(ticket));
+        let_go(actor.record(ticket));
+        Ok(())
+    }
+
+    /// The turn of a task that is a short step.
+    #[inline(always)]
+    fn short_step(
+        &mut self,
+        alloc: Global,
+        script: &Script,
+        ticket: u64,
+        k: u32,
+        short: Short,
+        entry: &mut Entry,
+    ) -> Result<(), StepFault>
+        requires sound { IsSound (configuration_of script.now self.old) }
+        requires plans { PlansOwn script.now self.old.longest (task_in self.old k) stepping done
+            (way.Short short) }
+        requires later { IsLaterThanLogs self.old ticket }
+        ensures ok { OnOk result (Steps (configuration_of script.now self.old)
+            (configuration_of script.now self.new) k ticket entry.new) }
+        ensures logs { OnOk result (Appends self.old self.new entry.new) }
+        ensures fault { IfErr result (Stays (configuration_of script.now self.old) k) }
+        ensures err { OnErr result (configuration_of script.now self.new
+            ≡ configuration_of script.now self.old) }
+        ensures kept { OnErr result (HasSameLogs self.old self.new) }
+    {
+        let Some(actor) = self.holders.get_mut(k as usize) else {
+            unreachable!()
+        };
+        actor.prepare_short(alloc, script, k, short, entry)?;
+        entry.ticket = ticket;
+        actor.record_step(ticket);
         Ok(())
     }
 
@@ -133,7 +174,7 @@ impl Config {
         };
         actor.prepare_step(alloc, script, k, way, entry)?;
         entry.ticket = ticket;
-        drop(actor.record(ticket));
+        actor.record_step(ticket);
         Ok(())
     }
 
@@ -168,8 +209,8 @@ impl Config {
         let (actor, met) = pair_mut(&mut self.holders, k as usize, n as usize);
         let child = actor.prepare_meeting(alloc, script, k, met, n, act, onward, entry)?;
         entry.ticket = ticket;
-        drop(actor.record(ticket));
-        drop(met.record_met(ticket, child));
+        let_go(actor.record(ticket));
+        let_go(met.record_met(ticket, child));
         Ok(())
     }
 
@@ -271,9 +312,7 @@ impl Config {
         };
         match task.plan(script) {
             Plan::Over => Err(StepFault::Still(k)),
-            Plan::Short(short) => {
-                self.own_step(alloc, script, ticket, k, Way::Short(short), entry)
-            }
+            Plan::Short(short) => self.short_step(alloc, script, ticket, k, short, entry),
             Plan::Ends(ending) => {
                 let act = task.last_act(alloc, script, ending)?;
                 self.own(alloc, script, ticket, k, act, Reply::Done, Way::End, entry)

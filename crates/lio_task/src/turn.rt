@@ -16,6 +16,7 @@ use lio_cells::Waiters;
 use lio_clauses::{NoMemory, assign};
 use lio_labels::Label;
 use lio_syntax::Script;
+use lio_task_plan::Short;
 use lio_task_turns::Onward;
 use lio_values::{Act, Entry, Reply};
 use std::alloc::Global;
@@ -109,8 +110,8 @@ impl Holder {
     ghost use Rattle.lio_task.specs.Configuration.{cell_of};
     ghost use Rattle.lio_task.specs.declared.go.Way.TheVariants as way;
     ghost use Rattle.lio_task.specs.Turns.{AreAsBefore, Bears, CanMeet, CanRecord, CanRecordMet};
-    ghost use Rattle.lio_task.specs.Turns.{CanTurn, Gone, HasPrepared, HasTask, IsAsBefore};
-    ghost use Rattle.lio_task.specs.Turns.{IsChild, IsFilled, IsLabelOf, PreparesAlone};
+    ghost use Rattle.lio_task.specs.Turns.{CanRecordStep, CanTurn, Gone, HasPrepared, HasTask};
+    ghost use Rattle.lio_task.specs.Turns.{IsAsBefore, IsChild, IsFilled, IsLabelOf, PreparesAlone};
     ghost use Rattle.lio_task.specs.Turns.{PreparesMeeting, Recorded, RecordedMet, woken};
 
     /// A copy of its task's label.
@@ -236,6 +237,7 @@ impl Holder {
         requires { CanTurn script.now self.old way }
         ensures ok { OnOk result
             (PreparesAlone script.now self.old self.new k stepping done way.entry entry.new) }
+        ensures step { OnOk result (entry.new.act ≡ stepping) }
         ensures err { OnErr result (IsAsBefore script.now self.old self.new) }
     {
         match self.tell_label(alloc, entry) {
@@ -247,6 +249,73 @@ impl Holder {
                 drop(way);
                 Err(error)
             }
+        }
+    }
+
+    /// Lets its task go on by a short step, whose entry this is. After a refusal of memory all is
+    /// as before.
+    #[inline(always)]
+    fn go_short(
+        &mut self,
+        alloc: Global,
+        script: &Script,
+        short: Short,
+        entry: &Entry,
+    ) -> Result<(), NoMemory>
+        requires { CanTurn script.now self.old (way.Short short) }
+        ensures ok { OnOk result (Gone script.now self.old self.new (way.Short short.entry)
+            entry.now.act entry.now.reply) }
+        ensures err { OnErr result (cell_of script.now self.new ≡ cell_of script.now self.old) }
+        ensures node { self.new.node ≡ self.old.node }
+    {
+        let Some(task) = &mut self.task else {
+            unreachable!()
+        };
+        task.go_short(alloc, script, short)
+    }
+
+    /// The same as `prepare`, of a short step.
+    #[inline(always)]
+    fn prepare_going(
+        &mut self,
+        alloc: Global,
+        script: &Script,
+        short: Short,
+        entry: &Entry,
+    ) -> Result<(), NoMemory>
+        requires { CanTurn script.now self.old (way.Short short) }
+        ensures ok { OnOk result
+            (HasPrepared script.now self.old self.new (way.Short short.entry) entry.now) }
+        ensures err { OnErr result (IsAsBefore script.now self.old self.new) }
+    {
+        match self.reserve(alloc, entry) {
+            Ok(()) => self.go_short(alloc, script, short, entry),
+            Err(error) => Err(error),
+        }
+    }
+
+    /// The same as `prepare_step`, of a short step: no way to go on is moved or let go.
+    #[inline(always)]
+    pub fn prepare_short(
+        &mut self,
+        alloc: Global,
+        script: &Script,
+        k: u32,
+        short: Short,
+        entry: &mut Entry,
+    ) -> Result<(), NoMemory>
+        requires { CanTurn script.now self.old (way.Short short) }
+        ensures ok { OnOk result (PreparesAlone script.now self.old self.new k stepping done
+            (way.Short short.entry) entry.new) }
+        ensures step { OnOk result (entry.new.act ≡ stepping) }
+        ensures err { OnErr result (IsAsBefore script.now self.old self.new) }
+    {
+        match self.tell_label(alloc, entry) {
+            Ok(()) => {
+                fill_step(entry, k);
+                self.prepare_going(alloc, script, short, entry)
+            }
+            Err(error) => Err(error),
         }
     }
 
@@ -391,6 +460,17 @@ impl Holder {
         let woken = self.wake(self.is_ending());
         self.node.serve(ticket);
         woken
+    }
+
+    /// Records the step of its task for which its node is ready, with its ticket: the node serves
+    /// it. Nobody is woken, since a step changes no node. It takes no memory.
+    #[inline(always)]
+    pub fn record_step(&mut self, ticket: u64)
+        requires { CanRecordStep self.old.node ticket }
+        ensures { (entry : Entry) → IsReadyFor self.old.node entry
+            → Recorded self.old self.new entry ticket None }
+    {
+        self.node.serve(ticket);
     }
 
     /// Records the turn for which its node is ready, and which meets it, with its ticket: the node

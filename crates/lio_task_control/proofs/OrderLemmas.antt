@@ -1,21 +1,26 @@
 -- Bindings in the order of their names.
-use Rattle.std.specs.Prelude.{bytes_eq, map, Some, if◌then◌else◌}
-use Rattle.std.specs.Ordering.{nat_cmp, is_eq, ordering_reverse}
+use Rattle.std.specs.Prelude.{bytes_eq, map, insert, Some, None, Result, Ok, Err, MatchResult, IsSortedBy, if◌then◌else◌}
+use Rattle.std.specs.Ordering.{nat_cmp, is_eq, is_lt, is_le, ordering_reverse}
+use Rattle.std.specs.List.Sorted.{IsBinarySearchResult, IsSearchInRange}
 use Rattle.std.specs.Cmp.{Equal-is}
 use Rattle.std.specs.Cmp.Lexicographic.{slice_cmp}
 use Rattle.std.specs.declared.cmp.Ordering.{Ordering}
 use Rattle.std.specs.declared.cmp.Ordering.TheVariants.{Less, Equal, Greater}
-use Rattle.std.proofs.Common.{◌≡◌, ℕ, zero, suc, ◌<◌, ◌≤◌, true, false, List, [], ◌∷◌, length, take, take_all, set, length-set, get_or, refl, ap, sym, subst, ◌∙◌, arith}
+use Rattle.std.proofs.Common.{◌≡◌, ℕ, zero, suc, ◌<◌, ◌≤◌, true, false, List, [], ◌∷◌, length, take, take_all, set, length-set, get_or, refl, ap, sym, subst, ◌∙◌, arith, add-one, inl, inr}
 use Rattle.std.proofs.Math.ListN.{get_or-map}
 use Rattle.std.proofs.Math.Seq.{map-set_same}
+use Rattle.std.proofs.lemmas.Bool.{cases_Bool, cases_lt, true≢false}
 use Rattle.std.proofs.lemmas.Cmp.{nat_list_cmp_total}
+use Rattle.std.proofs.lemmas.List.Sorted.{searchable_from_sorted}
 use Rattle.std.proofs.lemmas.Map.Text.{is_eq-slice_cmp}
 use Rattle.std.proofs.lemmas.Slice.Eq.{bytes_eq-Decides}
 use Rattle.lio_labels.specs.declared.label.Label.{Label}
+use Rattle.lio_values.specs.declared.value.Plain.TheVariants.{Unit}
 use Rattle.lio_values.specs.declared.value.Value.{Value}
+use Rattle.lio_values.specs.declared.value.Value.TheVariants.{Bare}
 use Rattle.lio_syntax.specs.declared.binding.Binding.{Binding}
 use Rattle.lio_syntax.specs.Environment.{Environment, bind_before, bind, value_of}
-use Rattle.lio_task_control.specs.Bound.{AreInOrder, ComesBefore, IsBoundAt}
+use Rattle.lio_task_control.specs.Bound.{AreInOrder, ComesBefore, IsBoundAt, IsBoundBefore}
 use Rattle.lio_syntax.specs.Hiding.{hide_environment}
 use Rattle.lio_task_control.proofs.EnvironmentLemmas.{bind-first, get_or-other, same_name}
 
@@ -176,3 +181,68 @@ pub all_hidden_in_order : (observer : Label) (bindings items taken : Environment
 all_hidden_in_order observer bindings items taken i same all whole is =
     let everything : take i items ≡ items = take_all i items whole in
     subst AreInOrder (sym (is ∙ ap (hide_environment observer) (everything ∙ same))) (hidden_in_order observer bindings all)
+
+-- where halving the bindings ends
+
+-- each name comes before the next one
+next_after : (bindings : Environment) (k : ℕ) (d : Binding) → AreInOrder bindings → suc k < length bindings
+    → slice_cmp nat_cmp (get_or bindings k d).name (get_or bindings (suc k) d).name ≡ Less
+next_after [] k d all within = absurd (omega (arith, within))
+next_after (first ∷ rest) zero d all within = before_at first.name rest 0 d all.0 (omega (arith, within))
+next_after (first ∷ rest) (suc k) d all within = next_after rest k d all.1 (omega (arith, within))
+
+sorted_names : (bindings : Environment) → AreInOrder bindings → IsSortedBy (λ (a b : Binding). is_lt (slice_cmp nat_cmp a.name b.name)) bindings
+sorted_names bindings all = λ k d low within.
+    ap is_lt (ap (λ (n : ℕ). slice_cmp nat_cmp (get_or bindings n d).name (get_or bindings k d).name) (add-one k)
+    ∙ after (get_or bindings k d).name (get_or bindings (suc k) d).name (next_after bindings k d all (omega (arith, within))))
+
+none_bound : (bindings : Environment) (name : List ℕ) → ((k : ℕ) (d : Binding) → k < length bindings → slice_cmp nat_cmp (get_or bindings k d).name name ≡ Equal → ⊥)
+    → value_of bindings name ≡ None
+unfolding value_of
+none_bound [] name none = refl
+none_bound (first ∷ rest) name none =
+    elim (cases_Bool (bytes_eq first.name name)) [
+      | inl t ↦ absurd (none 0 first (omega arith) (equal_names first.name name ((bytes_eq-Decides first.name name).0 t)))
+      | inr f ↦ ap (λ t. if t then Some first.value else value_of rest name) f ∙ none_bound rest name (λ k d within. none (suc k) d (omega (arith, within)))
+    ]
+
+bound_between : (bindings : Environment) (name : List ℕ) (value : Value) (i : ℕ) → i ≤ length bindings
+    → ((k : ℕ) (d : Binding) → k < i → slice_cmp nat_cmp (get_or bindings k d).name name ≡ Less)
+    → ((k : ℕ) (d : Binding) → i ≤ k → k < length bindings → slice_cmp nat_cmp (get_or bindings k d).name name ≡ Greater)
+    → bind bindings name value ≡ insert bindings i (record { name = name; value = value })
+unfolding bind
+bound_between [] name value zero within low high = refl
+bound_between [] name value (suc i) within low high = absurd (omega (arith, within))
+bound_between (first ∷ rest) name value zero within low high =
+    bind-first first rest name value Less (before first.name name (high 0 first (omega arith) (omega arith)))
+bound_between (first ∷ rest) name value (suc i) within low high =
+    bind-first first rest name value Greater (after first.name name (low 0 first (omega arith)))
+    ∙ ap (λ (e : Environment). first ∷ e)
+    (bound_between rest name value i (omega (arith, within)) (λ k d l. low (suc k) d (omega (arith, l))) (λ k d l m. high (suc k) d (omega (arith, l)) (omega (arith, m))))
+
+-- what a search by halving says of a name
+pub halved : (bindings items : Environment) (name : List ℕ) (r : Result ℕ ℕ) → items ≡ bindings → AreInOrder bindings → IsSearchInRange r (length items)
+    → IsBinarySearchResult (λ (b : Binding). slice_cmp nat_cmp b.name name) items r
+    → MatchResult r (IsBoundAt bindings name) (λ i. (value_of bindings name ≡ None) × IsBoundBefore bindings name i)
+halved bindings items name (Ok i) same all range found =
+    let any : Binding = record { name = name; value = Bare Unit } in
+    let within : i < length bindings = omega (arith, range, ap length same) in
+    let P : Environment → Type 0 = λ e. slice_cmp nat_cmp (get_or e i any).name name ≡ Equal in
+    let equal : slice_cmp nat_cmp (get_or bindings i any).name name ≡ Equal = subst P same (found any) in
+    is_bound_at bindings name i (get_or bindings i any) all within (get_or-other bindings i any (get_or bindings i any) within)
+    ((bytes_eq-Decides (get_or bindings i any).name name).1 (same_name (get_or bindings i any).name name equal))
+halved bindings items name (Err i) same all range found =
+    let ord : Binding → Ordering = λ b. slice_cmp nat_cmp b.name name in
+    let P : Environment → Type 0 = λ e. IsBinarySearchResult ord e (Err i) in
+    let Q : Environment → Type 0 = λ e. i ≤ length e in
+    let inside : i ≤ length bindings = subst Q same range in
+    let parts = subst P same found (searchable_from_sorted nat_list_cmp_total (λ (b : Binding). b.name) bindings name (sorted_names bindings all)) in
+    let low : (k : ℕ) (d : Binding) → k < i → ord (get_or bindings k d) ≡ Less = λ k d l. parts.0 k d (omega arith) l in
+    let high : (k : ℕ) (d : Binding) → i ≤ k → k < length bindings → ord (get_or bindings k d) ≡ Greater = λ k d l m. parts.1 k d l m in (
+      none_bound bindings name (λ k d l e.
+          elim (cases_lt k i) [
+            | inl b ↦ true≢false (ap is_lt (sym (low k d b) ∙ e))
+            | inr b ↦ true≢false (sym (ap is_le (sym (high k d b l) ∙ e)))
+          ]),
+      record { within = inside; bound = λ value. bound_between bindings name value i inside low high },
+    )

@@ -1,5 +1,6 @@
 //! What names are bound to.
-ghost use Rattle.std.specs.Prelude.{◌≡◌, [], length, IfOk, IsOk, OnOk, OnErr, MatchOption, None};
+ghost use Rattle.std.specs.Prelude.{◌≡◌, [], length, IfOk, IsOk, OnOk, OnErr, MatchOption};
+ghost use Rattle.std.specs.Prelude.{MatchResult, None};
 ghost use Rattle.std.specs.Option.{option_copied};
 ghost use Rattle.lio_values.specs.declared.value.Value.TheVariants.{Bare};
 ghost use Rattle.lio_values.specs.Small.{plain_of};
@@ -12,7 +13,6 @@ use lio_labels::Label;
 use lio_syntax::Binding;
 use lio_values::{Name, Plain, Small, Value};
 use std::alloc::Global;
-use std::cmp::Ordering;
 use std::marker::Model;
 
 /// What names are bound to, seen as the list of the bindings in the order of names.
@@ -158,22 +158,20 @@ impl Environment {
         if rank < self.bindings.len() && self.bindings[rank].name.is(name) {
             Some(rank)
         } else {
-            self.search(name)
+            self.search(name).ok()
         }
     }
 
-    /// Where a name is bound, if it is, by a look at each.
+    /// Where a name is bound or, if it isn't, where it is to be, in as many steps as halve the
+    /// bindings.
     #[inline(never)]
-    fn search(&self, name: &Name) -> Option<usize>
-        ensures { MatchOption result
-            (value_of self.now name.now ≡ None) (IsBoundAt self.now name.now) }
+    fn search(&self, name: &Name) -> Result<usize, usize>
+        ensures { MatchResult result (IsBoundAt self.now name.now)
+            (λ place. (value_of self.now name.now ≡ None)
+            × IsBoundBefore self.now name.now place) }
     {
-        for (place, binding) in self.bindings.iter().enumerate() {
-            if binding.name.is(name) {
-                return Some(place);
-            }
-        }
-        None
+        self.bindings
+            .binary_search_by(|binding| binding.name.bytes().cmp(name.bytes()))
     }
 
     /// Where a name that isn't bound is to be.
@@ -181,14 +179,10 @@ impl Environment {
         requires { value_of self.now name.now ≡ None }
         ensures { IsBoundBefore self.now name.now result }
     {
-        for (i, binding) in self.bindings.iter().enumerate() {
-            match name.bytes().cmp(binding.name.bytes()) {
-                Ordering::Less => return i,
-                Ordering::Equal => unreachable!(),
-                Ordering::Greater => {}
-            }
+        match self.search(name) {
+            Ok(_) => unreachable!(),
+            Err(place) => place,
         }
-        self.bindings.len()
     }
 
     /// Binds two names, one after the other, or neither.

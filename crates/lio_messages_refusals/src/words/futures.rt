@@ -30,12 +30,20 @@ pub(crate) fn tell_futures_words(message: &mut Message, words: &[String]) {
         if word.starts_with("-") {
             let template =
                 "\"{}\" begins with `-`; there are no options, and `./` before the name of a file helps";
-            message.fill(template, Piece::Words(word), Piece::Nothing, Piece::Nothing);
+            message.fill(
+                template,
+                Piece::Shown(word.as_bytes()),
+                Piece::Nothing,
+                Piece::Nothing,
+            );
             return;
         }
     }
     match words {
         [_, _, _, label] => tell_label(message, label.as_str()),
+        [] => message.words(
+            "there are to be two words or four; there is none, or one that isn't UTF-8",
+        ),
         _ => message.words("there are to be two words or four"),
     }
 }

@@ -2,7 +2,7 @@
 
 use crate::words::{tell_label, text_of};
 use lio_front::{Command, Watch, read_command};
-use lio_messages_hints::{Message, Piece};
+use lio_messages_hints::{Message, Piece, is_similar};
 
 /// An option.
 #[derive(Clone, Copy, PartialEq, Eq)]
@@ -94,6 +94,18 @@ fn kind_of(word: &str) -> Kind<'_> {
     Kind::Plain
 }
 
+/// The option that may have been meant by a word that is none.
+fn flag_meant(word: &str) -> Option<Flag> {
+    let name = word.split("=").next().unwrap_or(word);
+    for flag in FLAGS {
+        let is_other = name.starts_with("-") && name != flag.word();
+        if is_other && is_similar(name.as_bytes(), flag.word().as_bytes()) {
+            return Some(flag);
+        }
+    }
+    None
+}
+
 /// What is wrong with the words: what is told of it, and what stands in that.
 #[derive(Clone, Copy)]
 struct Wrong<'a> {
@@ -106,7 +118,7 @@ struct Wrong<'a> {
 fn of_word<'a>(template: &'static str, word: &'a str) -> Wrong<'a> {
     Wrong {
         template,
-        first: Piece::Words(word),
+        first: Piece::Shown(word.as_bytes()),
         second: Piece::Nothing,
     }
 }
@@ -116,7 +128,7 @@ fn of_flag<'a>(template: &'static str, flag: Flag, word: &'a str) -> Wrong<'a> {
     Wrong {
         template,
         first: Piece::Words(flag.word()),
-        second: Piece::Words(word),
+        second: Piece::Shown(word.as_bytes()),
     }
 }
 
@@ -180,6 +192,13 @@ impl<'a> Seen<'a> {
 
     /// Takes a plain word, unless it may not stand.
     fn take_name(&mut self, word: &'a str) -> Option<Wrong<'a>> {
+        if let Some(flag) = flag_meant(word) {
+            return Some(Wrong {
+                template: "\"{}\" is no option; `{}` is",
+                first: Piece::Shown(word.as_bytes()),
+                second: Piece::Words(flag.word()),
+            });
+        }
         if !may_stand(word) {
             let template =
                 "\"{}\" is no option, and no name: a name isn't empty and doesn't begin with `-`";
@@ -288,6 +307,12 @@ pub(crate) fn tell_host_words(message: &mut Message, words: &[String]) {
     ) = read_command(words)
     {
         tell_label(message, text_of(label));
+        return;
+    }
+    if words.is_empty() {
+        message.words(
+            "the names of the policy and of the script are missing, or a word isn't UTF-8",
+        );
         return;
     }
     match wrong_words(words) {

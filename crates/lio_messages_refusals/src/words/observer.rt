@@ -28,7 +28,12 @@ fn tell_word(message: &mut Message, words: &[String]) -> bool {
         if word.starts_with("-") {
             let template =
                 "\"{}\" stands for {}, and begins with `-`; there are no options, and `./` before the name of a file helps";
-            message.fill(template, Piece::Words(word), named(place), Piece::Nothing);
+            message.fill(
+                template,
+                Piece::Shown(word.as_bytes()),
+                named(place),
+                Piece::Nothing,
+            );
             return true;
         }
     }
@@ -41,10 +46,11 @@ fn tell_count(message: &mut Message, words: &[String]) {
         [_, _, _, label] => tell_label(message, label.as_str()),
         [_, _, _, _, word, ..] => message.fill(
             "\"{}\" is a fifth word; there are to be four, and a label with blanks is put in quotes",
-            Piece::Words(word.as_str()),
+            Piece::Shown(word.as_bytes()),
             Piece::Nothing,
             Piece::Nothing,
         ),
+        [] => message.words("there are to be four words; there is none, or one that isn't UTF-8"),
         _ => {
             let template = "there are to be four words, and {} is missing";
             message.fill(template, named(words.len()), Piece::Nothing, Piece::Nothing);

@@ -31,7 +31,7 @@ fn tell_first(message: &mut Message, first: &str) {
     };
     message.fill(
         template,
-        Piece::Words(first),
+        Piece::Shown(first.as_bytes()),
         Piece::Nothing,
         Piece::Nothing,
     );
@@ -49,7 +49,12 @@ fn tell_name(message: &mut Message, words: &[String], count: usize) -> bool {
         if word.starts_with("-") {
             let template =
                 "\"{}\" stands for {}, and begins with `-`; `./` before the name of a file helps";
-            message.fill(template, Piece::Words(word), named(place), Piece::Nothing);
+            message.fill(
+                template,
+                Piece::Shown(word.as_bytes()),
+                named(place),
+                Piece::Nothing,
+            );
             return true;
         }
     }
@@ -65,14 +70,14 @@ fn tell_count(message: &mut Message, words: &[String], first: &str, count: usize
             let last = words.get(3).unwrap_or(word);
             message.fill(
                 template,
-                Piece::Words(last.as_str()),
+                Piece::Shown(last.as_bytes()),
                 Piece::Nothing,
                 Piece::Nothing,
             );
         }
         Some(word) => {
             let template = "\"{}\" is one word too many behind `{}`";
-            let word = Piece::Words(word.as_str());
+            let word = Piece::Shown(word.as_bytes());
             message.fill(template, word, Piece::Words(first), Piece::Nothing);
         }
         None => {

@@ -28,16 +28,19 @@ returns-in_err-prepare_step-clause-kept c =
     on_err (HasSameLogs config (with_holder config c.args.k new)) c.from_residual.result
     (alone-kept config c.args.k c.in-Some.actor.now new (record { within = c.in-Some.ensures.item.3.0; is = c.in-Some.ensures.value }) c.in_err-prepare_step.ensures.err.log)
 
-pub record-requires : goal.record-requires
-record-requires c =
+pub record_step-requires : goal.record_step-requires
+record_step-requires c =
     let script = c.args.script.now in let config = c.args.self.now in let holder = c.in-Some.actor.now in let now = c.prepare_step.new.self in
     let plans = owns-at script config c.args.k holder Step Done c.args.way (record { within = c.in-Some.ensures.item.3.0; is = c.in-Some.ensures.value }) c.requires.plans in
     let prepared = c.in_ok-prepare_step.ensures.ok config.longest plans in
     record {
-      entry = c.prepare_step.new.entry;
-      is_ready = prepared.is_ready;
-      job = actor-job script config c.args.k holder plans.task now.node.state c.requires.sound (record { within = c.in-Some.ensures.item.3.0; is = c.in-Some.ensures.value }) plans.is prepared.state;
-      later = later-at config c.args.k c.args.ticket holder now.node.log (record { within = c.in-Some.ensures.item.3.0; is = c.in-Some.ensures.value }) c.requires.later prepared.log;
+      can = record {
+        entry = c.prepare_step.new.entry;
+        is_ready = prepared.is_ready;
+        job = actor-job script config c.args.k holder plans.task now.node.state c.requires.sound (record { within = c.in-Some.ensures.item.3.0; is = c.in-Some.ensures.value }) plans.is prepared.state;
+        later = later-at config c.args.k c.args.ticket holder now.node.log (record { within = c.in-Some.ensures.item.3.0; is = c.in-Some.ensures.value }) c.requires.later prepared.log;
+      };
+      step = c.in_ok-prepare_step.ensures.step;
     }
 
 pub returns-clause-ok : goal.returns-clause-ok
@@ -45,13 +48,13 @@ returns-clause-ok c =
     let script = c.args.script.now in let config = c.args.self.now in let holder = c.in-Some.actor.now in let entry = c.prepare_step.new.entry in
     let plans = owns-at script config c.args.k holder Step Done c.args.way (record { within = c.in-Some.ensures.item.3.0; is = c.in-Some.ensures.value }) c.requires.plans in
     let prepared = c.in_ok-prepare_step.ensures.ok config.longest plans in
-    alone-steps script config c.args.k c.args.ticket holder c.prepare_step.new.self c.record.new.self entry c.requires.sound (record { within = c.in-Some.ensures.item.3.0; is = c.in-Some.ensures.value }) prepared
-    ((c.record.ensures entry prepared.is_ready).cell script)
+    alone-steps script config c.args.k c.args.ticket holder c.prepare_step.new.self c.record_step.new.self entry c.requires.sound (record { within = c.in-Some.ensures.item.3.0; is = c.in-Some.ensures.value }) prepared
+    ((c.record_step.ensures entry prepared.is_ready).cell script)
 
 pub returns-clause-logs : goal.returns-clause-logs
 returns-clause-logs c =
     let script = c.args.script.now in let config = c.args.self.now in let holder = c.in-Some.actor.now in let entry = c.prepare_step.new.entry in
     let plans = owns-at script config c.args.k holder Step Done c.args.way (record { within = c.in-Some.ensures.item.3.0; is = c.in-Some.ensures.value }) c.requires.plans in
     let prepared = c.in_ok-prepare_step.ensures.ok config.longest plans in
-    alone-appends config c.args.k c.args.ticket holder c.record.new.self entry entry (record { within = c.in-Some.ensures.item.3.0; is = c.in-Some.ensures.value })
-    prepared.actor prepared.meets refl ((c.record.ensures entry prepared.is_ready).log ∙ ap (λ (log : List Entry). with_turn log entry c.args.ticket) prepared.log)
+    alone-appends config c.args.k c.args.ticket holder c.record_step.new.self entry entry (record { within = c.in-Some.ensures.item.3.0; is = c.in-Some.ensures.value })
+    prepared.actor prepared.meets refl ((c.record_step.ensures entry prepared.is_ready).log ∙ ap (λ (log : List Entry). with_turn log entry c.args.ticket) prepared.log)

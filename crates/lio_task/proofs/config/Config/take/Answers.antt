@@ -26,8 +26,8 @@ returns-in-Over-clause-fault c =
           (subst (IsPlanned (program_of script c.args.self.now.longest) state) c.in-Over.is (c.plan.ensures.plan c.args.self.now.longest)),
     )
 
-pub own_step-requires-clause-plans : goal.own_step-requires-clause-plans
-own_step-requires-clause-plans c =
+pub short_step-requires-clause-plans : goal.short_step-requires-clause-plans
+short_step-requires-clause-plans c =
     let script = c.args.script.now in let state = state_in script c.in-Some.task.now in
     record {
       task = c.in-Some.task.now;
@@ -59,7 +59,7 @@ full-requires-clause-plans c =
 pub returns-in-Short-clause-sound : goal.returns-in-Short-clause-sound
 returns-in-Short-clause-sound c =
     let script = c.args.script.now in
-    take-sound (configuration_of script c.args.self.now) (configuration_of script c.own_step.new.self) c.args.k c.args.ticket c.own_step.new.entry c.own_step.result c.requires.sound c.own_step.ensures.ok
+    take-sound (configuration_of script c.args.self.now) (configuration_of script c.short_step.new.self) c.args.k c.args.ticket c.short_step.new.entry c.short_step.result c.requires.sound c.short_step.ensures.ok
 
 pub returns-in_ok-act-in-Ends-clause-sound : goal.returns-in_ok-act-in-Ends-clause-sound
 returns-in_ok-act-in-Ends-clause-sound c =

@@ -1,22 +1,14 @@
-use Rattle.std.proofs.Common.{◌∙◌, sym, ap, subst, arith}
+use Rattle.std.specs.Ordering.{nat_cmp}
+use Rattle.std.specs.Cmp.Lexicographic.{slice_cmp}
+use Rattle.std.proofs.Common.{◌≡◌, ◌∙◌, rules, subst}
+use Rattle.std.proofs.lemmas.Fn.{always_returns_same}
+use Rattle.lio_syntax.specs.declared.binding.Binding.{Binding}
 use Rattle.lio_task_control.specs.Bound.{AreInOrder}
-use Rattle.lio_syntax.specs.Environment.{value_of}
-use Rattle.lio_task_control.proofs.EnvironmentLemmas.{value_of-behind, value_of-end}
-use Rattle.lio_task_control.proofs.OrderLemmas.{found_at}
+use Rattle.lio_task_control.proofs.OrderLemmas.{halved}
 use Rattle.lio_task_control.proofs.environment.Environment.search.Goals as goal
 
-pub loop-place-init : goal.loop-place-init
-loop-place-init c = sym (ap (λ e. value_of e c.args.name.now) (c.deref-binding-items.ensures.value ∙ c.self.view_is))
-
-pub returns-then-is : goal.returns-then-is
-returns-then-is c =
-    found_at _ _ c.args.name.now c.loop-place.place c.binding-item.result (c.deref-binding-items.ensures.value ∙ c.self.view_is) (subst AreInOrder c.self.view_is c.self.invariant)
-    c.loop-place-test.true c.binding-item.is (sym c.is.ensures ∙ c.if-is.true)
-
-pub loop-place-preserved : goal.loop-place-preserved
-loop-place-preserved c =
-    c.loop-place.invariant
-    ∙ value_of-behind c.deref-binding-items.result.now c.args.name.now c.loop-place.place c.binding-item.result c.loop-place-test.true c.binding-item.is (sym c.is.ensures ∙ c.if-is.false)
-
 pub returns : goal.returns
-returns c = c.loop-place.invariant ∙ value_of-end c.deref-binding-items.result.now c.args.name.now c.loop-place.place (omega arith)
+returns c =
+    let ord = λ (b : Binding). slice_cmp nat_cmp b.name c.args.name.now in
+    halved _ _ c.args.name.now c.binary_search_by.result (c.deref.ensures.value ∙ c.self.view_is) (subst AreInOrder c.self.view_is c.self.invariant) c.binary_search_by.ensures.bound
+    (c.binary_search_by.ensures.position ord (always_returns_same _ (λ a r. r ≡ ord a.0.now) _ (λ a r q k. search rules)))

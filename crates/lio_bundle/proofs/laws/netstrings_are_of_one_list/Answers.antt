@@ -1,5 +1,0 @@
-use Rattle.lio_bundle.proofs.LawLemmas.{are_of_one_list}
-use Rattle.lio_bundle.proofs.laws.netstrings_are_of_one_list.Goals as goal
-
-pub returns : goal.returns
-returns c = are_of_one_list

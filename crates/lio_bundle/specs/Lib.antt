@@ -1,6 +1,0 @@
-pub mod Netstrings
-pub mod Reading
-pub mod Bundle
-pub mod Alone
-pub mod Answers
-pub mod Laws

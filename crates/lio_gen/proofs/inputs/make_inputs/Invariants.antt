@@ -1,8 +1,0 @@
-use Rattle.std.proofs.Common.{◌≡◌, map}
-use Rattle.std.specs.List.{range_with_len}
-use Rattle.lio_gen.specs.Workload.{input_text}
-use Rattle.lio_gen.proofs.inputs.make_inputs.Given as goal
-
--- the inputs so far
-abbrev pub invariant-loop-number : goal.invariant-loop-number
-invariant-loop-number l = l.inputs ≡ map input_text (range_with_len 0 l.number)

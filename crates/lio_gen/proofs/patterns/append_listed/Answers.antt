@@ -1,6 +1,0 @@
-use Rattle.lio_gen.proofs.WorkloadLemmas.{listed_step}
-use Rattle.lio_gen.proofs.patterns.append_listed.Goals as goal
-
-pub loop-number-preserved : goal.loop-number-preserved
-loop-number-preserved c =
-    listed_step _ _ _ _ c.args.pattern.now c.loop-number.number c.loop-number.invariant c.in_ok-append_comma.ensures c.in_ok-append_filled.ensures
